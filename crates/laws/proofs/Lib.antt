@@ -1,0 +1,4 @@
+-- Laws that belong to no one layer.
+pub mod Bools
+pub mod Lists
+pub mod Promise

@@ -1,0 +1,35 @@
+-- Laws of the form of a promise. Assumes nothing.
+use mathlib.Core.Path.{_≡_, refl, sym, ap, _∙_}
+use mathlib.Core.List.{List, [], _∷_, _++_}
+use Prim.Native.Nat.{ℕ, zero, _+_, _≤_}
+use native.Mathlib.Nat.{zero-add}
+use native.Mathlib.Omega.{arith}
+use lib.ListN.{length, take, drop}
+use lib.Seq.{sets, sets-eq, take-append-seam}
+use Rattle.laws.specs.Promise.{overlaid, Given, Gives}
+
+-- a run of stores from the front on overlays the buffer
+pub overlaid-sets : (written buffer : List ℕ) → length written ≤ length buffer → sets buffer 0 written ≡ overlaid written buffer
+unfolding overlaid
+overlaid-sets written buffer h =
+    let fits : 0 + length written ≤ length buffer = omega arith in
+    sets-eq written buffer 0 fits ∙ ap (λ (k : ℕ). written ++ drop k buffer) (zero-add (length written))
+
+-- and what stands at the front is what was stored
+pub sets-front : (written buffer : List ℕ) → length written ≤ length buffer → take (length written) (sets buffer 0 written) ≡ written
+sets-front written buffer h =
+    let fits : 0 + length written ≤ length buffer = omega arith in
+    rw (sets-eq written buffer 0 fits) (take-append-seam written _)
+
+-- a promise is met by the answer that it gives, with its bytes written; where it writes none, the buffer stays as it was
+pub gives-bytes : {A : Type 0} {given : Given A} {buffer : List ℕ} (r : A) (bytes l : List ℕ) → given ≡ record { answer = r; written = bytes } → l ≡ overlaid bytes buffer → Gives A given buffer r l
+gives-bytes {buffer = buffer} r bytes l e f =
+    record { answered = sym (ap (λ g. g .answer) e); left = f ∙ sym (ap (λ g. overlaid (g .written) buffer) e) }
+
+pub gives-none : {A : Type 0} {given : Given A} {buffer : List ℕ} (r : A) → given ≡ record { answer = r; written = [] } → Gives A given buffer r buffer
+unfolding overlaid
+gives-none {buffer = buffer} r e = gives-bytes r [] buffer e refl
+
+-- two answers that meet the same promise are the same, and so are the buffers that they leave
+pub gives-same : {A : Type 0} {given : Given A} {buffer : List ℕ} {r r′ : A} {l l′ : List ℕ} → Gives A given buffer r l → Gives A given buffer r′ l′ → (r ≡ r′) × (l ≡ l′)
+gives-same g g′ = (g .answered ∙ sym (g′ .answered), g .left ∙ sym (g′ .left))

@@ -1,0 +1,3 @@
+-- Words that more than one layer's definitions use.
+pub mod Lists
+pub mod Promise

@@ -1,0 +1,18 @@
+-- Words about lists. Assumes nothing.
+use Prim.Native.Nat.{ℕ, zero, suc, _+_}
+use mathlib.Core.Bool.{Bool, true, cond, _&&_}
+use mathlib.Core.List.{List, [], _∷_}
+
+-- the test p holds of every entry
+abbrev pub every : (ℕ → Bool) → List ℕ → Bool
+every p [] = true
+every p (x ∷ xs) = p x && every p xs
+
+-- how many entries stand before the first of which the test p holds: its place, or the length where there is none
+abbrev pub before : (ℕ → Bool) → List ℕ → ℕ
+before p [] = zero
+before p (x ∷ xs) = cond (p x) zero (suc (before p xs))
+
+abbrev pub sumOf : List ℕ → ℕ
+sumOf [] = zero
+sumOf (x ∷ xs) = x + sumOf xs

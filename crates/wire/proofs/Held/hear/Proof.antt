@@ -1,0 +1,36 @@
+-- `wire::Held::hear` meets its contract. Assumes nothing.
+use mathlib.Core.Path.{sym, _∙_}
+use native.Mathlib.Omega.{arith}
+use borrow.Author.Needs.{needs}
+use borrow.Author.Tests.{not-true, not-false}
+use Rattle.laws.proofs.Promise.{gives-none}
+use Rattle.wire.proofs.Answers.{hearing-short, hearing-stray, hearing-heard}
+use Rattle.wire.proofs.Held.hear.Statement.{statement}
+use Rattle.wire.proofs.Held.hear.Tie as tie
+
+refused-requires : tie.Need-refused-requires
+refused-requires c κs = search needs
+
+returns : tie.Need-returns
+returns c = rw (c .refused .ensures) (gives-none _ (hearing-short _ _ _ (c .before .if1 .taken)))
+
+is-allowed-requires : tie.Need-is-allowed-requires
+is-allowed-requires c κs = search needs
+
+refused-requires-2 : tie.Need-refused-requires-2
+refused-requires-2 c κs = search needs
+
+returns-2 : tie.Need-returns-2
+returns-2 c = rw (c .refused2 .ensures) (gives-none _ (hearing-stray _ _ _ (c .before .before .before .if1 .left) (sym (c .before .before .is-allowed .ensures) ∙ not-true _ (c .before .if2 .taken))))
+
+heard-requires : tie.Need-heard-requires
+heard-requires c κs = (sym (c .before .before .is-allowed .ensures) ∙ not-false _ (c .before .if2 .left), search needs)
+
+same-length : tie.Need-same-length
+same-length c = search needs
+
+returns-3 : tie.Need-returns-3
+returns-3 c = rw (hearing-heard _ _ _ (c .before .before .before .before .before .before .if1 .left) (sym (c .before .before .before .before .before .is-allowed .ensures) ∙ not-false _ (c .before .before .before .before .if2 .left))) (c .before .before .heard .ensures)
+
+pub hear-spec : {M : Type 1} → statement M
+hear-spec = tie.close (tie.spec refused-requires returns is-allowed-requires refused-requires-2 returns-2 heard-requires same-length returns-3)

@@ -1,0 +1,8 @@
+-- Laws of the definitions of specs/, and what the proofs of the functions cite.
+pub mod Nibbles
+pub mod Bytes
+pub mod Frames
+pub mod Streams
+pub mod Answers
+pub mod Helds
+pub mod Hearing

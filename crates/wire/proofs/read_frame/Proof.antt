@@ -1,0 +1,55 @@
+-- `wire::read_frame` meets its contract. Assumes nothing.
+use Prim.Native.Nat.{_≤_, _-_}
+use mathlib.Core.Path.{_≡_, sym, _∙_}
+use mathlib.Core.Bool.{true}
+use native.Mathlib.Omega.{arith}
+use borrow.Author.Needs.{needs}
+use borrow.Author.Tests.{not-true, not-false}
+use lib.ListN.{length}
+use Rattle.laws.proofs.Promise.{gives-none}
+use Rattle.wire.specs.Calls.{wellEnclosed}
+use Rattle.wire.proofs.Answers.{reading-short, reading-loose, reading-between, enclosed-long}
+use Rattle.wire.proofs.read_frame.Statement.{statement}
+use Rattle.wire.proofs.read_frame.Tie as tie
+
+enclosed : (c : tie.Else2) → wellEnclosed (c .before .before .before .before .before .args .frame .now) ≡ true
+enclosed c = sym (c .before .well-enclosed .ensures) ∙ not-false _ (c .if2 .left)
+
+long : (c : tie.Else2) → 2 ≤ length (c .before .before .before .before .before .args .frame .now)
+long c = enclosed-long (c .before .before .before .before .before .args .frame .now) (enclosed c)
+
+returns : tie.Need-returns
+returns c = gives-none _ (reading-short _ _ (c .if1 .taken))
+
+well-enclosed-requires : tie.Need-well-enclosed-requires
+well-enclosed-requires c κs = search needs
+
+returns-2 : tie.Need-returns-2
+returns-2 c = gives-none _ (reading-loose _ _ (c .before .before .if1 .left) (sym (c .before .well-enclosed .ensures) ∙ not-true _ (c .if2 .taken)))
+
+sub-read-body : tie.Need-sub-read-body
+sub-read-body c = omega (arith, long c)
+
+sub-read-body-2 : tie.Need-sub-read-body-2
+sub-read-body-2 c = omega (arith, long c)
+
+part-read-body-start : tie.Need-part-read-body-start
+part-read-body-start c = omega (arith, long c)
+
+part-read-body-end : tie.Need-part-read-body-end
+part-read-body-end c = search needs
+
+read-body-requires : tie.Need-read-body-requires
+read-body-requires c κs = search needs
+
+same-length : tie.Need-same-length
+same-length c = search needs
+
+returns-3 : tie.Need-returns-3
+returns-3 c =
+    let s = c .before .before .before .before .before .before .before .before .before .before .args .frame .now in
+    let ends : length s - 1 - 1 ≡ length s - 2 = omega arith in
+    rw (reading-between s _ (c .before .before .before .before .before .before .before .if1 .left) (enclosed (c .before .before .before .before .before))) (rw ends at (c .before .before .read-body .ensures))
+
+pub read-frame-spec : {M : Type 1} → statement M
+read-frame-spec = tie.close (tie.spec returns well-enclosed-requires returns-2 sub-read-body sub-read-body-2 part-read-body-start part-read-body-end read-body-requires same-length returns-3)

@@ -1,0 +1,38 @@
+-- `wire::reader::all_digits` meets its contract. Assumes nothing.
+use Prim.Native.Nat.{_-_}
+use borrow.Author.Needs.{needs}
+use lib.ListN.{length}
+use Rattle.laws.proofs.Lists.{Seen, seen-start, seen-turn, seen-end}
+use Rattle.wire.specs.Digits.{isDigit}
+use Rattle.wire.proofs.reader.all_digits.Statement.{statement}
+use Rattle.wire.proofs.reader.all_digits.Tie as tie
+
+abbrev Inv-loop : tie.InvT-loop
+Inv-loop chars all₀ i₀ all i = Seen isDigit chars all i
+
+abbrev μ-loop : tie.MeasureT-loop
+μ-loop chars all₀ i₀ all i = length chars - i
+
+loop-holds : tie.Need-loop-holds Inv-loop μ-loop
+loop-holds c = seen-start
+
+shared-slice-read-nibble-of : tie.Need-shared-slice-read-nibble-of Inv-loop μ-loop
+shared-slice-read-nibble-of c = search needs
+
+nibble-of-requires : tie.Need-nibble-of-requires Inv-loop μ-loop
+nibble-of-requires c κs = search needs
+
+add-i : tie.Need-add-i Inv-loop μ-loop
+add-i c = search needs
+
+loop-less : tie.Need-loop-less Inv-loop μ-loop
+loop-less c = search needs
+
+loop-again : tie.Need-loop-again Inv-loop μ-loop
+loop-again c = rw (c .nibble-of .ensures) (seen-turn (c .before .before .loop-test .taken) (c .before .before .before .loop .inv))
+
+returns : tie.Need-returns Inv-loop μ-loop
+returns c = seen-end (c .loop-test .left) (c .before .loop .inv)
+
+pub all-digits-spec : {M : Type 1} → statement M
+all-digits-spec = tie.close (tie.spec Inv-loop μ-loop loop-holds shared-slice-read-nibble-of nibble-of-requires add-i loop-less loop-again returns)

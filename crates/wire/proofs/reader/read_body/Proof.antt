@@ -1,0 +1,41 @@
+-- `wire::reader::read_body` meets its contract. Assumes nothing.
+use mathlib.Core.Path.{sym, ap, _∙_}
+use native.Mathlib.Omega.{arith}
+use borrow.Author.Needs.{needs}
+use borrow.Author.Tests.{not-true, not-false}
+use Rattle.laws.proofs.Promise.{gives-none}
+use Rattle.wire.specs.Calls.{readAs}
+use Rattle.wire.proofs.Answers.{body-long, body-strange, body-count}
+use Rattle.wire.proofs.reader.read_body.Statement.{statement}
+use Rattle.wire.proofs.reader.read_body.Tie as tie
+
+returns : tie.Need-returns
+returns c = gives-none _ (ap readAs (body-long _ (c .if1 .taken)))
+
+all-digits-requires : tie.Need-all-digits-requires
+all-digits-requires c κs = search needs
+
+returns-2 : tie.Need-returns-2
+returns-2 c = gives-none _ (ap readAs (body-strange _ (c .before .before .if1 .left) (sym (c .before .all-digits .ensures) ∙ not-true _ (c .if2 .taken))))
+
+bad-count-requires : tie.Need-bad-count-requires
+bad-count-requires c κs = search needs
+
+returns-3 : tie.Need-returns-3
+returns-3 c =
+    gives-none _
+    (ap readAs
+    (body-count _ (c .before .before .before .before .if1 .left) (sym (c .before .before .before .all-digits .ensures) ∙ not-false _ (c .before .before .if2 .left)) (sym (c .before .bad-count .ensures) ∙ c .if3 .taken)))
+
+read-digits-requires : tie.Need-read-digits-requires
+read-digits-requires c κs =
+    (search needs, sym (c .before .before .before .before .all-digits .ensures) ∙ not-false _ (c .before .before .before .if2 .left), sym (c .before .before .bad-count .ensures) ∙ c .before .if3 .left, search needs)
+
+same-length : tie.Need-same-length
+same-length c = search needs
+
+returns-4 : tie.Need-returns-4
+returns-4 c = search needs
+
+pub read-body-spec : {M : Type 1} → statement M
+read-body-spec = tie.close (tie.spec returns all-digits-requires returns-2 bad-count-requires returns-3 read-digits-requires same-length returns-4)

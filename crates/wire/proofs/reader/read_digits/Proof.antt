@@ -1,0 +1,82 @@
+-- `wire::reader::read_digits` meets its contract. Assumes nothing.
+use Prim.Native.Nat.{_+_, _%_, _≤_}
+use mathlib.Core.Path.{_≡_, sym, ap, _∙_}
+use native.Mathlib.Nat.{add-mod-mod}
+use native.Mathlib.Omega.{arith}
+use borrow.Author.Needs.{needs}
+use borrow.Author.Tests.{eq-eqb, ne-eqb}
+use lib.ListN.{length, length-take}
+use Rattle.laws.specs.Lists.{sumOf}
+use Rattle.laws.specs.Promise.{overlaid}
+use Rattle.laws.proofs.Promise.{gives-none, gives-bytes}
+use Rattle.wire.specs.Reading.{commandOf, payloadOf, dataOf}
+use Rattle.wire.specs.Calls.{readAs}
+use Rattle.wire.proofs.Bytes.{odd-count, length-data, payload-part, data-part}
+use Rattle.wire.proofs.Answers.{body-sum, body-good}
+use Rattle.wire.proofs.reader.read_digits.Statement.{statement}
+use Rattle.wire.proofs.reader.read_digits.Tie as tie
+
+many : (c : tie.Start) → 3 ≤ length (c .args .chars .now)
+many c = odd-count (length (c .args .chars .now)) (c .pre .2) .0
+
+payload-of-requires : tie.Need-payload-of-requires
+payload-of-requires c κs = search needs
+
+shared-slice-read-nibble-of : tie.Need-shared-slice-read-nibble-of
+shared-slice-read-nibble-of c = omega (arith, many (c .before .before .before .before))
+
+nibble-of-requires : tie.Need-nibble-of-requires
+nibble-of-requires c κs = search needs
+
+cast-if1 : tie.Need-cast-if1
+cast-if1 c = search needs
+
+array-share-prefix-payload : tie.Need-array-share-prefix-payload
+array-share-prefix-payload c = search needs
+
+slice-aggregate-sum-of : tie.Need-slice-aggregate-sum-of
+slice-aggregate-sum-of c = rw length-take (omega (arith, c .before .before .before .payload-of .ensures .0))
+
+sum-of-requires : tie.Need-sum-of-requires
+sum-of-requires c κs = search needs
+
+add-if1 : tie.Need-add-if1
+add-if1 c = search needs
+
+-- the sum as it was taken is that of the whole payload
+sums : (c : tie.After-sum-of) → (c .before .before .nibble-of .result + c .sum-of .result) % 256 ≡ (commandOf (c .before .before .before .before .before .before .before .args .chars .now) + sumOf (payloadOf (c .before .before .before .before .before .before .before .args .chars .now))) % 256
+sums c =
+    rw (c .before .before .nibble-of .ensures, c .sum-of .ensures, payload-part _ _ (c .before .before .before .before .before .before .before .pre .2) (c .before .before .before .before .payload-of .ensures .1)) (add-mod-mod _ _ 256)
+
+returns : tie.Need-returns
+returns c =
+    let pre = c .before .before .before .before .before .before .before .before .pre in
+    gives-none _ (ap readAs (body-sum _ (pre .0) (pre .1) (pre .2) (ne-eqb _ _ (λ e. c .if1 .taken (sums (c .before) ∙ e)))))
+
+sub-payload : tie.Need-sub-payload
+sub-payload c = omega (arith, many (c .before .before .before .before .before .before .before .before))
+
+array-share-prefix-payload-2 : tie.Need-array-share-prefix-payload-2
+array-share-prefix-payload-2 c = search needs
+
+slice-aggregate-copy : tie.Need-slice-aggregate-copy
+slice-aggregate-copy c = rw length-take (omega (arith, c .before .before .before .before .before .before .payload-of .ensures .0))
+
+copy-requires : tie.Need-copy-requires
+copy-requires c κs = rw length-take (omega (arith, c .before .before .before .before .before .before .before .payload-of .ensures .0))
+
+sub-t10 : tie.Need-sub-t10
+sub-t10 c = omega (arith, many (c .before .before .before .before .before .before .before .before .before .before .before .before .before))
+
+same-length : tie.Need-same-length
+same-length c = search needs
+
+returns-2 : tie.Need-returns-2
+returns-2 c =
+    let pre = c .before .before .before .before .before .before .before .before .before .before .before .before .before .pre in
+    rw (c .before .before .before .before .before .before .before .before .nibble-of .ensures, ← length-data (c .before .before .before .before .before .before .before .before .before .before .before .before .before .args .chars .now) (pre .2))
+    (gives-bytes _ _ _ (ap readAs (body-good _ (pre .0) (pre .1) (pre .2) (eq-eqb _ _ (sym (sums (c .before .before .before .before .before .before)) ∙ c .before .before .before .before .before .if1 .left))))
+    (rw (data-part _ _ (pre .2) (c .before .before .before .before .before .before .before .before .before .before .payload-of .ensures .1)) at (c .before .before .copy .ensures)))
+
+pub read-digits-spec : {M : Type 1} → statement M
+read-digits-spec = tie.close (tie.spec payload-of-requires shared-slice-read-nibble-of nibble-of-requires cast-if1 array-share-prefix-payload slice-aggregate-sum-of sum-of-requires add-if1 returns sub-payload array-share-prefix-payload-2 slice-aggregate-copy copy-requires sub-t10 same-length returns-2)

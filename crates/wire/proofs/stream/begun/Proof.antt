@@ -1,0 +1,12 @@
+-- `wire::stream::begun` meets its contract. Assumes nothing.
+use borrow.Author.Needs.{needs}
+use Rattle.wire.specs.Calls.{heldOf, noChars}
+use Rattle.wire.proofs.stream.begun.Statement.{statement}
+use Rattle.wire.proofs.stream.begun.Tie as tie
+
+returns : tie.Need-returns
+unfolding heldOf noChars
+returns c = search needs
+
+pub begun-spec : {M : Type 1} → statement M
+begun-spec = tie.close (tie.spec returns)

@@ -1,0 +1,79 @@
+-- `wire::stream::in_frame` meets its contract. Assumes nothing.
+use Prim.Native.Nat.{_≤_, _<_, _+_, _-_}
+use mathlib.Core.Path.{_≡_, sym, ap, _∙_}
+use native.Mathlib.Omega.{arith}
+use borrow.Author.Needs.{needs}
+use lib.ListN.{length, length-take}
+use Rattle.laws.proofs.Lists.{before-first}
+use Rattle.laws.proofs.Promise.{gives-none, gives-bytes}
+use Rattle.wire.proofs.Helds.{held-fits}
+use Rattle.wire.proofs.Hearing.{endOf, call-nothing, call-colon, call-newline}
+use Rattle.wire.proofs.stream.in_frame.Statement.{statement}
+use Rattle.wire.proofs.stream.in_frame.Tie as tie
+
+short : (c : tie.After-first-of) → c .first-of .result ≤ length (c .before .before .before .args .piece .now)
+short c = rw (c .first-of .ensures) (before-first endOf (c .before .before .before .args .piece .now) .inside)
+
+some : (c : tie.Else1) → c .before .before .before .first-of .result < length (c .before .before .before .before .before .before .args .piece .now)
+some c = omega (arith, short (c .before .before .before))
+
+kept : (c : tie.After-with-more) → c .with-more .result .len ≤ length (c .with-more .result .chars)
+kept c = rw (c .with-more .ensures) (held-fits _)
+
+first-of-requires : tie.Need-first-of-requires
+first-of-requires c κs = search needs
+
+slice-aggregate-with-more : tie.Need-slice-aggregate-with-more
+slice-aggregate-with-more c = rw length-take (omega (arith, short (c .before)))
+
+with-more-requires : tie.Need-with-more-requires
+with-more-requires c κs = search needs
+
+returns : tie.Need-returns
+returns c = gives-none _ (call-nothing _ (c .before .before .before .before .before .before .pre .1) _ _ (c .before .before .before .first-of .ensures) _ (c .before .with-more .ensures) (c .if1 .taken))
+
+shared-slice-read-if2 : tie.Need-shared-slice-read-if2
+shared-slice-read-if2 c = some (c .before)
+
+begun-requires : tie.Need-begun-requires
+begun-requires c κs = search needs
+
+broken-requires : tie.Need-broken-requires
+broken-requires c κs = search needs
+
+add-t18 : tie.Need-add-t18
+add-t18 c = omega (arith, some (c .before .before .before .before))
+
+returns-2 : tie.Need-returns-2
+returns-2 c =
+    rw (c .before .begun .ensures, c .broken .ensures)
+    (gives-none _ (call-colon _ (c .before .before .before .before .before .before .before .before .before .before .pre .1) _ _ (c .before .before .before .before .before .before .before .first-of .ensures) _ (c .before .before .before .before .before .with-more .ensures) (some (c .before .before .before .before)) (c .before .before .if2 .taken)))
+
+array-share-prefix-chars : tie.Need-array-share-prefix-chars
+array-share-prefix-chars c = kept (c .before .before .before .before)
+
+slice-aggregate-read-body : tie.Need-slice-aggregate-read-body
+slice-aggregate-read-body c = rw length-take (omega (arith, kept (c .before .before .before .before .before)))
+
+read-body-requires : tie.Need-read-body-requires
+read-body-requires c κs = search needs
+
+outside-requires : tie.Need-outside-requires
+outside-requires c κs = search needs
+
+event-of-requires : tie.Need-event-of-requires
+event-of-requires c κs = search needs
+
+add-t11 : tie.Need-add-t11
+add-t11 c = omega (arith, some (c .before .before .before .before .before .before .before .before .before .before))
+
+same-length : tie.Need-same-length
+same-length c = search needs
+
+returns-3 : tie.Need-returns-3
+returns-3 c =
+    rw (c .before .outside .ensures, c .event-of .ensures, c .before .before .before .before .read-body .ensures .answered)
+    (gives-bytes _ _ _ (call-newline _ (c .before .before .before .before .before .before .before .before .before .before .before .before .before .before .before .before .pre .1) _ _ (c .before .before .before .before .before .before .before .before .before .before .before .before .before .first-of .ensures) _ (c .before .before .before .before .before .before .before .before .before .before .before .with-more .ensures) (some (c .before .before .before .before .before .before .before .before .before .before)) (c .before .before .before .before .before .before .before .before .if2 .left)) (c .before .before .before .before .read-body .ensures .left))
+
+pub in-frame-spec : {M : Type 1} → statement M
+in-frame-spec = tie.close (tie.spec first-of-requires slice-aggregate-with-more with-more-requires returns shared-slice-read-if2 begun-requires broken-requires add-t18 returns-2 array-share-prefix-chars slice-aggregate-read-body read-body-requires outside-requires event-of-requires add-t11 same-length returns-3)

@@ -1,0 +1,45 @@
+-- `wire::stream::with_more` meets its contract. Assumes nothing.
+use Prim.Native.Nat.{_≤_, _-_, min}
+use mathlib.Core.Path.{_≡_, sym, ap, _∙_}
+use native.Mathlib.Omega.{arith}
+use borrow.Author.Needs.{needs}
+use lib.ListN.{length, length-take, length-drop}
+use Rattle.wire.proofs.Helds.{allowed-few, held-more}
+use Rattle.wire.proofs.stream.with_more.Statement.{statement}
+use Rattle.wire.proofs.stream.with_more.Tie as tie
+
+chars-long : (c : tie.Start) → length (c .args .held .chars) ≡ 74
+chars-long c = search needs
+
+few : (c : tie.Start) → c .args .held .len ≤ 74
+few c = allowed-few _ (c .pre .0)
+
+sub-least : tie.Need-sub-least
+sub-least c = few (c .before .before)
+
+least-requires : tie.Need-least-requires
+least-requires c κs = search needs
+
+slice-aggregate-copy : tie.Need-slice-aggregate-copy
+slice-aggregate-copy c = rw length-take (omega (arith, c .before .least .ensures))
+
+sub-copy : tie.Need-sub-copy
+sub-copy c = few (c .before .before .before .before)
+
+part-chars-start : tie.Need-part-chars-start
+part-chars-start c = omega (arith, few (c .before .before .before .before))
+
+part-chars-end : tie.Need-part-chars-end
+part-chars-end c = omega (arith, chars-long (c .before .before .before .before))
+
+copy-requires : tie.Need-copy-requires
+copy-requires c κs = rw (length-take, length-take, length-drop) (omega (arith, c .before .before .least .ensures, chars-long (c .before .before .before .before .before)))
+
+add-t7 : tie.Need-add-t7
+add-t7 c = search needs
+
+returns : tie.Need-returns
+returns c = rw (c .before .before .before .before .least .ensures) (held-more _ (c .before .before .before .before .before .before .before .pre .0) (chars-long (c .before .before .before .before .before .before .before)) _ _ (rw (c .before .before .before .before .least .ensures) at (c .before .copy .ensures)))
+
+pub with-more-spec : {M : Type 1} → statement M
+with-more-spec = tie.close (tie.spec sub-least least-requires slice-aggregate-copy sub-copy part-chars-start part-chars-end copy-requires add-t7 returns)

@@ -1,0 +1,54 @@
+-- `wire::writer::put_frame` meets its contract. Assumes nothing.
+use mathlib.Core.Path.{_∙_}
+use native.Mathlib.Omega.{arith}
+use borrow.Author.Needs.{needs}
+use lib.ListN.{length-set}
+use Rattle.wire.proofs.Frames.{length-frame, frame-stores}
+use Rattle.wire.proofs.writer.put_frame.Statement.{statement}
+use Rattle.wire.proofs.writer.put_frame.Tie as tie
+
+mul-end : tie.Need-mul-end
+mul-end c = search needs
+
+add-end : tie.Need-add-end
+add-end c = search needs
+
+slice-write-out : tie.Need-slice-write-out
+slice-write-out c = search needs
+
+digit-of-requires : tie.Need-digit-of-requires
+digit-of-requires c κs = search needs
+
+slice-write-out-2 : tie.Need-slice-write-out-2
+slice-write-out-2 c = omega (arith, length-set (c .before .before .before .args .out .now) 0 58)
+
+put-bytes-requires : tie.Need-put-bytes-requires
+put-bytes-requires c κs = simp length-set (omega arith)
+
+check-of-requires : tie.Need-check-of-requires
+check-of-requires c κs = search needs
+
+put-byte-requires : tie.Need-put-byte-requires
+put-byte-requires c κs = omega (arith, simp length-set at (c .before .before .before .before .put-bytes .kept .0))
+
+add-out : tie.Need-add-out
+add-out c = search needs
+
+slice-write-out-3 : tie.Need-slice-write-out-3
+slice-write-out-3 c = omega (arith, c .before .before .put-byte .kept .0, simp length-set at (c .before .before .before .before .before .before .before .put-bytes .kept .0))
+
+add-result : tie.Need-add-result
+add-result c = search needs
+
+same-length : tie.Need-same-length
+same-length c = simp length-set (c .before .before .put-byte .kept .0 ∙ simp length-set at (c .before .before .before .before .before .before .before .put-bytes .kept .0))
+
+returns : tie.Need-returns
+returns c = (
+  rw length-frame (omega arith),
+  rw (c .before .before .put-byte .ensures, c .before .before .before .check-of .ensures, c .before .before .before .before .before .before .before .put-bytes .ensures, c .before .before .before .before .before .before .before .before .before .digit-of .ensures)
+      (frame-stores _ _ _ (omega arith)),
+)
+
+pub put-frame-spec : {M : Type 1} → statement M
+put-frame-spec = tie.close (tie.spec mul-end add-end slice-write-out digit-of-requires slice-write-out-2 put-bytes-requires check-of-requires put-byte-requires add-out slice-write-out-3 add-result same-length returns)

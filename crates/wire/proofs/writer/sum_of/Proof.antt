@@ -1,0 +1,43 @@
+-- `wire::writer::sum_of` meets its contract. Assumes nothing.
+use Prim.Native.Nat.{_+_, _≤_, _<_, _-_, _%_}
+use mathlib.Core.Path.{_≡_, sym, _∙_}
+use native.Mathlib.Omega.{arith}
+use borrow.Author.Needs.{needs}
+use lib.ListN.{length, drop}
+use Rattle.laws.specs.Lists.{sumOf}
+use Rattle.laws.proofs.Lists.{sum-turn, sum-end}
+use Rattle.wire.proofs.writer.sum_of.Statement.{statement}
+use Rattle.wire.proofs.writer.sum_of.Tie as tie
+
+abbrev Inv-loop : tie.InvT-loop
+Inv-loop bytes sum₀ i₀ sum i = (i ≤ length bytes) × (sum < 256) × ((sum + sumOf (drop i bytes)) % 256 ≡ sumOf bytes % 256)
+
+abbrev μ-loop : tie.MeasureT-loop
+μ-loop bytes sum₀ i₀ sum i = length bytes - i
+
+loop-holds : tie.Need-loop-holds Inv-loop μ-loop
+loop-holds c = search needs
+
+shared-slice-read-sum : tie.Need-shared-slice-read-sum Inv-loop μ-loop
+shared-slice-read-sum c = search needs
+
+cast-sum : tie.Need-cast-sum Inv-loop μ-loop
+cast-sum c = omega (arith, c .shared-slice-known .given (c .before .before .loop .i))
+
+add-sum : tie.Need-add-sum Inv-loop μ-loop
+add-sum c = omega (arith, c .shared-slice-known .given (c .before .before .loop .i))
+
+add-i : tie.Need-add-i Inv-loop μ-loop
+add-i c = search needs
+
+loop-less : tie.Need-loop-less Inv-loop μ-loop
+loop-less c = search needs
+
+loop-again : tie.Need-loop-again Inv-loop μ-loop
+loop-again c = (search needs, omega arith, sum-turn _ _ (c .before .loop-test .taken) _ ∙ c .before .before .loop .inv .2)
+
+returns : tie.Need-returns Inv-loop μ-loop
+returns c = sum-end _ _ _ (c .loop-test .left) (c .before .loop .inv .1) ∙ c .before .loop .inv .2
+
+pub sum-of-spec : {M : Type 1} → statement M
+sum-of-spec = tie.close (tie.spec Inv-loop μ-loop loop-holds shared-slice-read-sum cast-sum add-sum add-i loop-less loop-again returns)

@@ -1,0 +1,134 @@
+// Frames and the stream of document 01, for both ends of the line: a frame written, a frame read whole, and the stream read piece by
+// piece. Every call takes anything, and its promise fixes its answer and every lent byte (specs/Calls.antt).
+ghost use Rattle.laws.specs.Promise.{Gives};
+ghost use Rattle.wire.specs.Calls.{writing, reading, hearing, heldOf};
+ghost use Rattle.wire.specs.Stream.{outside};
+ghost use Rattle.wire.specs.declared.Written.{Written};
+ghost use Rattle.wire.specs.declared.Read.{Read};
+ghost use Rattle.wire.specs.declared.Heard.{Heard};
+ghost use mathlib.Core.Path.{_≡_};
+ghost use lib.ListN.{length};
+
+mod digits;
+mod reader;
+mod stream;
+mod writer;
+
+const COLON: u8 = b':';
+
+const NEWLINE: u8 = b'\n';
+
+const TOTAL: usize = 0x55;
+
+const MOST_NIBBLE: u8 = 15;
+
+const MOST_DATA: usize = 35;
+
+const MOST_CHARS: usize = 73;
+
+const MOST_HELD: usize = 74;
+
+const FRAME_ROOM: usize = 75;
+
+const TOO_LONG: u8 = 1;
+
+const NO_DIGIT: u8 = 2;
+
+const BAD_COUNT: u8 = 3;
+
+const BAD_SUM: u8 = 4;
+
+const SHORT_BUFFER: u8 = 11;
+
+const NOT_ALLOWED: u8 = 12;
+
+// What the frame writer answers: the frame's length, or document 01's number of the refusal.
+pub enum Written {
+    Frame(usize),
+    Refused(u8),
+}
+
+// What a frame says: its command and how many data bytes it has, or the number of the refusal.
+pub enum Read {
+    Frame { command: u8, len: usize },
+    Refused(u8),
+}
+
+// The unfinished frame between two calls: whether there is one, and the characters since its colon. 74 of them say "over 73".
+pub struct Held {
+    pub inside: bool,
+    pub len: usize,
+    pub chars: [u8; MOST_HELD],
+}
+
+// What happened in a call on the stream: no frame ended, or one ended as said or was refused.
+pub enum Event {
+    Nothing,
+    Frame { command: u8, len: usize },
+    Refused(u8),
+}
+
+// What a call on the stream answers: the advanced state, what happened, and how many bytes of the piece it took.
+pub struct Heard {
+    pub held: Held,
+    pub event: Event,
+    pub taken: usize,
+}
+
+// Writes the frame of a command and its data to the front of `out`. Refuses 11 under 75 bytes of room, then 12 for a nibble over 15 or
+// over 35 data bytes; then nothing is written.
+pub fn write_frame(command: u8, bytes: &[u8], out: &mut [u8]) -> Written
+    ensures { λ r. ⌜ Gives Written (writing command (now (bytes .entry)) (length (now (out .entry)))) (now (out .entry)) r (now (out .exit)) ⌝ }
+{
+    if out.len() < FRAME_ROOM {
+        return Written::Refused(SHORT_BUFFER);
+    }
+    if MOST_NIBBLE < command {
+        return Written::Refused(NOT_ALLOWED);
+    }
+    if MOST_DATA < bytes.len() {
+        return Written::Refused(NOT_ALLOWED);
+    }
+    Written::Frame(writer::put_frame(command, bytes, out))
+}
+
+// Reads one whole frame, from its colon to its newline, and puts its data at the front of `into`. Refuses 11 under 35 bytes of room,
+// then 2 for a slice not so enclosed, then 1 to 4 on the characters between.
+pub fn read_frame(frame: &[u8], into: &mut [u8]) -> Read
+    ensures { λ r. ⌜ Gives Read (reading (now (frame .entry)) (length (now (into .entry)))) (now (into .entry)) r (now (into .exit)) ⌝ }
+{
+    if into.len() < MOST_DATA {
+        return Read::Refused(SHORT_BUFFER);
+    }
+    if !reader::well_enclosed(frame) {
+        return Read::Refused(NO_DIGIT);
+    }
+    reader::read_body(&frame[1..frame.len() - 1], into)
+}
+
+impl Held {
+    // No frame is unfinished: where every reading starts.
+    pub fn outside() -> Held
+        ensures { λ r. ⌜ r ≡ heldOf outside ⌝ }
+    {
+        Held {
+            inside: false,
+            len: 0,
+            chars: [0u8; MOST_HELD],
+        }
+    }
+
+    // Reads on in the stream: stops after the first byte that ends a frame, or takes the whole piece. Refuses 11 under 35 bytes of
+    // room, then 12 for a state that no bytes could have left.
+    pub fn hear(self, piece: &[u8], into: &mut [u8]) -> Heard
+        ensures { λ r. ⌜ Gives Heard (hearing self (now (piece .entry)) (length (now (into .entry)))) (now (into .entry)) r (now (into .exit)) ⌝ }
+    {
+        if into.len() < MOST_DATA {
+            return stream::refused(self, SHORT_BUFFER);
+        }
+        if !stream::is_allowed(self) {
+            return stream::refused(self, NOT_ALLOWED);
+        }
+        stream::heard(self, piece, into)
+    }
+}

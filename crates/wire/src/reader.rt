@@ -1,0 +1,107 @@
+// The reading of an ended frame's characters.
+ghost use Prim.Native.Nat.{_+_, _*_, _≤_, _<_, _%_, _/_, _-_};
+ghost use mathlib.Core.Path.{_≡_};
+ghost use mathlib.Core.Bool.{true, false};
+ghost use lib.ListN.{length, take};
+ghost use Rattle.laws.specs.Lists.{every};
+ghost use Rattle.laws.specs.Promise.{overlaid, Gives};
+ghost use Rattle.wire.specs.Digits.{isDigit};
+ghost use Rattle.wire.specs.Reading.{bodySays, badCount, payloadOf};
+ghost use Rattle.wire.specs.Calls.{wellEnclosed, readAs};
+ghost use Rattle.wire.specs.declared.Read.{Read};
+use crate::Read;
+use crate::digits;
+use crate::writer;
+
+const MOST_PAYLOAD: usize = 36;
+
+// Begun by a colon and ended by a newline.
+pub(crate) fn well_enclosed(frame: &[u8]) -> bool
+    ensures { λ r. ⌜ r ≡ wellEnclosed (now (frame .entry)) ⌝ }
+{
+    if frame.len() < 2 {
+        return false;
+    }
+    frame[0] == crate::COLON && frame[frame.len() - 1] == crate::NEWLINE
+}
+
+// Every character is a digit. There is no early way out, so that the compiler may look at many at a time.
+fn all_digits(chars: &[u8]) -> bool
+    ensures { λ r. ⌜ r ≡ every isDigit (now (chars .entry)) ⌝ }
+{
+    let mut all = true;
+    let mut i = 0;
+    while i < chars.len() {
+        all = all & (digits::nibble_of(chars[i]) < 16);
+        i += 1;
+    }
+    all
+}
+
+// Under 3 characters, or an even count.
+fn bad_count(n: usize) -> bool
+    ensures { λ r. ⌜ r ≡ badCount n ⌝ }
+{
+    n < 3 || n % 2 == 0
+}
+
+// The bytes behind the command, the check byte last, at the front of an array that has room for them all.
+fn payload_of(chars: &[u8]) -> [u8; MOST_PAYLOAD]
+    requires { ⌜ (length (now chars) ≤ 73) × (every isDigit (now chars) ≡ true) ⌝ }
+    ensures { λ r. ⌜ (length r ≡ 36) × (take (length (payloadOf (now (chars .entry)))) r ≡ payloadOf (now (chars .entry))) ⌝ }
+{
+    let mut payload = [0u8; MOST_PAYLOAD];
+    let mut i = 0;
+    while 2 * i + 2 < chars.len() {
+        payload[i] = digits::byte_of(chars[2 * i + 1], chars[2 * i + 2]);
+        i += 1;
+    }
+    payload
+}
+
+// Copies `from` to the front of `into`.
+pub(crate) fn copy(from: &[u8], into: &mut [u8])
+    requires { ⌜ length (now from) ≤ length (now into) ⌝ }
+    ensures { λ r. ⌜ now (into .exit) ≡ overlaid (now (from .entry)) (now (into .entry)) ⌝ }
+{
+    let mut i = 0;
+    while i < from.len() {
+        into[i] = from[i];
+        i += 1;
+    }
+}
+
+// What an odd number of digits say: 4, or the data to the front of `into`.
+fn read_digits(chars: &[u8], into: &mut [u8]) -> Read
+    requires { ⌜ (length (now chars) ≤ 73) × (every isDigit (now chars) ≡ true) × (badCount (length (now chars)) ≡ false) × (35 ≤ length (now into)) ⌝ }
+    ensures { λ r. ⌜ Gives Read (readAs (bodySays (now (chars .entry)))) (now (into .entry)) r (now (into .exit)) ⌝ }
+{
+    let n = chars.len() / 2;
+    let payload = payload_of(chars);
+    let command = digits::nibble_of(chars[0]);
+    if (command as usize + writer::sum_of(&payload[..n])) % 256 != crate::TOTAL {
+        return Read::Refused(crate::BAD_SUM);
+    }
+    copy(&payload[..n - 1], into);
+    Read::Frame {
+        command,
+        len: n - 1,
+    }
+}
+
+// What the characters between colon and newline say: 1 to 4 in this order, and only then are there data.
+pub(crate) fn read_body(chars: &[u8], into: &mut [u8]) -> Read
+    requires { ⌜ 35 ≤ length (now into) ⌝ }
+    ensures { λ r. ⌜ Gives Read (readAs (bodySays (now (chars .entry)))) (now (into .entry)) r (now (into .exit)) ⌝ }
+{
+    if crate::MOST_CHARS < chars.len() {
+        return Read::Refused(crate::TOO_LONG);
+    }
+    if !all_digits(chars) {
+        return Read::Refused(crate::NO_DIGIT);
+    }
+    if bad_count(chars.len()) {
+        return Read::Refused(crate::BAD_COUNT);
+    }
+    read_digits(chars, into)
+}
