@@ -76,6 +76,11 @@ take-min n [] = take-nil (min n 0) ∙ sym (take-nil n)
 take-min zero (x ∷ xs) = rw zero-min
 take-min (suc n) (x ∷ xs) = rw (suc-min-suc, take-min n xs)
 
+pub take-again : (n : ℕ) (xs ys : List ℕ) → take n (take n xs ++ ys) ≡ take n (xs ++ ys)
+take-again zero xs ys = refl
+take-again (suc n) [] ys = refl
+take-again (suc n) (x ∷ xs) ys = rw (take-again n xs ys)
+
 pub take-replicate : (k m a : ℕ) → k ≤ m → take k (replicate m a) ≡ replicate k a
 take-replicate zero m a h = refl
 take-replicate (suc k) zero a h = absurd (not-suc-le-zero h)
@@ -123,3 +128,11 @@ before-first p (x ∷ xs) = by (p x) refl (before-first p xs)
           none = rw (e, f .none);
           some = λ h. f .some (le-of-suc-le-suc h);
         })
+
+pub every-append : (p : ℕ → Bool) (xs ys : List ℕ) → every p (xs ++ ys) ≡ (every p xs && every p ys)
+every-append p [] ys = refl
+every-append p (x ∷ xs) ys = rw (every-append p xs ys) (sym (and-assoc (p x) (every p xs) (every p ys)))
+
+pub sum-append : (xs ys : List ℕ) → sumOf (xs ++ ys) ≡ sumOf xs + sumOf ys
+sum-append [] ys = omega arith
+sum-append (x ∷ xs) ys = omega (arith, sum-append xs ys)

@@ -6,3 +6,8 @@ pub mod Streams
 pub mod Answers
 pub mod Helds
 pub mod Hearing
+pub mod RoundTrip
+pub mod Reached
+pub mod Cuts
+pub mod Same
+pub mod Theorems

@@ -124,3 +124,12 @@ colon-left xs e = left-append outside xs (colon ∷ []) ∙ rw (noise-left xs e)
 
 pub colon-frames : (xs : List ℕ) → every isNoise xs ≡ true → framesFrom outside (xs ++ colon ∷ []) ≡ []
 colon-frames xs e = frames-append outside xs (colon ∷ []) ∙ rw (noise-frames xs e, noise-left xs e)
+
+-- A whole frame: a colon, characters that stay in it, and a newline. What stands behind it is read as if it stood alone.
+
+pub whole-frames : (chars rest : List ℕ) → every stays chars ≡ true → framesFrom outside ((colon ∷ chars ++ newline ∷ []) ++ rest) ≡ bodySays chars ∷ framesFrom outside rest
+whole-frames chars rest e =
+    rw (append-assoc chars (newline ∷ []) rest, frames-append (inside []) chars (newline ∷ rest), stay-frames [] chars e, stay-left [] chars e)
+
+pub whole-left : (chars : List ℕ) → every stays chars ≡ true → leftFrom outside (colon ∷ chars ++ newline ∷ []) ≡ outside
+whole-left chars e = left-append (inside []) chars (newline ∷ []) ∙ rw (stay-left [] chars e)

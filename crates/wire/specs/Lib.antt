@@ -5,3 +5,4 @@ pub mod Frame
 pub mod Reading
 pub mod Stream
 pub mod Calls
+pub mod Laws

@@ -1,0 +1,133 @@
+-- The stream in any cutting, and the first frame end. Assumes nothing.
+use mathlib.Core.Path.{_≡_, refl, sym, ap, ap₂, _∙_}
+use mathlib.Core.Bool.{Bool, true, false, not, cond, false≢true}
+use mathlib.Core.List.{List, [], _∷_, _++_, append-assoc, append-nil}
+use Prim.Native.Nat.{ℕ, zero, suc, _+_, _≤_, _<_, min}
+use native.Mathlib.Nat.{not-suc-le-zero, le-of-suc-le-suc}
+use native.Mathlib.Omega.{arith}
+use borrow.Author.Tests.{ltb-true, ltb-false}
+use lib.ListN.{length, take, length-take}
+use lib.Seq.{take-all, take-nil, take-take}
+use lib.Dec.{ltb, eqb}
+use Rattle.laws.specs.Lists.{every}
+use Rattle.laws.specs.Promise.{Given}
+use Rattle.laws.specs.Cutting.{Step, Offer, calls}
+use Rattle.laws.proofs.Lists.{take-min}
+use Rattle.laws.proofs.Cutting as cutting
+use Rattle.wire.specs.Digits.{isDigit}
+use Rattle.wire.specs.Frame.{colon, newline}
+use Rattle.wire.specs.Reading.{Ended, good, refused, badCount, sumsUp, bodySays, brokenSays}
+use Rattle.wire.specs.Stream.{Unfinished, outside, inside, next, endedBy, ends, firstEnd, taken, framesFrom, leftFrom, leftBy}
+use Rattle.wire.specs.Calls.{heldOf, unfinished, allowed, hearing, heardOf, eventOf, eventFrom, readAs, dataOfFirst}
+use Rattle.wire.specs.Laws.{frameIn, stepOf, hears, Cut, AnyCutting, FirstAt, FirstEndIsFirst}
+use Rattle.wire.specs.declared.Held.{Held}
+use Rattle.wire.specs.declared.Heard.{Heard}
+use Rattle.wire.proofs.Streams.{left-append, frames-append, none-ends}
+use Rattle.wire.proofs.Answers.{body-long, body-strange, body-count, body-sum, body-good, broken-long, broken-short, hearing-short, hearing-heard}
+use Rattle.wire.proofs.Reached.{left-allowed, kept, unfinished-kept, kept-frames, kept-left}
+
+-- A frame that ends is seen as what it says: its refusals are 1 to 4.
+
+body-seen : (chars : List ℕ) → frameIn (eventFrom (readAs (bodySays chars) .answer)) (readAs (bodySays chars) .written) ≡ bodySays chars ∷ []
+body-seen chars = by (ltb 73 (length chars)) (every isDigit chars) (badCount (length chars)) (sumsUp chars) refl refl refl refl
+  where
+    by : (a b c d : Bool) → ltb 73 (length chars) ≡ a → every isDigit chars ≡ b → badCount (length chars) ≡ c → sumsUp chars ≡ d
+        → frameIn (eventFrom (readAs (bodySays chars) .answer)) (readAs (bodySays chars) .written) ≡ bodySays chars ∷ []
+    by true b c d p q r s = rw (body-long chars (ltb-true 73 _ p))
+    by false false c d p q r s = rw (body-strange chars (ltb-false 73 _ p) q)
+    by false true true d p q r s = rw (body-count chars (ltb-false 73 _ p) q r)
+    by false true false false p q r s = rw (body-sum chars (ltb-false 73 _ p) q r s)
+    by false true false true p q r s = rw (body-good chars (ltb-false 73 _ p) q r s)
+
+broken-seen : (count : ℕ) → frameIn (eventFrom (readAs (brokenSays count) .answer)) (readAs (brokenSays count) .written) ≡ brokenSays count ∷ []
+broken-seen count = by (ltb 73 count) refl
+  where
+    by : (t : Bool) → ltb 73 count ≡ t → frameIn (eventFrom (readAs (brokenSays count) .answer)) (readAs (brokenSays count) .written) ≡ brokenSays count ∷ []
+    by true e = rw (broken-long count (ltb-true 73 count e))
+    by false e = rw (broken-short count (ltb-false 73 count e))
+
+abbrev seen : List Ended → List Ended
+seen fs = frameIn (eventOf fs) (dataOfFirst fs)
+
+-- a byte that ends a frame ends one
+ended-seen : (u : Unfinished) (b : ℕ) → ends u b ≡ true → (seen (endedBy u b) ≡ endedBy u b) × ((f : Ended) × (endedBy u b ≡ f ∷ []))
+ended-seen outside b e = absurd (false≢true e)
+ended-seen (inside chars) b e = by (eqb b newline) (eqb b colon) refl refl
+  where
+    by : (s t : Bool) → eqb b newline ≡ s → eqb b colon ≡ t → (seen (endedBy (inside chars) b) ≡ endedBy (inside chars) b) × ((f : Ended) × (endedBy (inside chars) b ≡ f ∷ []))
+    by true t p q = rw p (body-seen chars, (bodySays chars, refl))
+    by false true p q = rw (p, q) (broken-seen (length chars), (brokenSays (length chars), refl))
+    by false false p q = absurd (false≢true (rw (p, q) at e))
+
+-- The bytes up to the first end, one after the other.
+
+taken-here : (u : Unfinished) (b : ℕ) (rest : List ℕ) → ends u b ≡ true → taken u (b ∷ rest) ≡ 1
+unfolding taken
+taken-here u b rest e = rw e (omega arith)
+
+taken-later : (u : Unfinished) (b : ℕ) (rest : List ℕ) → ends u b ≡ false → taken u (b ∷ rest) ≡ suc (taken (next u b) rest)
+unfolding taken
+taken-later u b rest e = rw e (omega arith)
+
+call-seen : (u : Unfinished) (piece : List ℕ) → seen (framesFrom u (take (taken u piece) piece)) ≡ framesFrom u (take (taken u piece) piece)
+call-seen u [] = rw take-nil
+call-seen u (b ∷ rest) = by (ends u b) refl (call-seen (next u b) rest)
+  where
+    by : (t : Bool) → ends u b ≡ t → seen (framesFrom (next u b) (take (taken (next u b) rest) rest)) ≡ framesFrom (next u b) (take (taken (next u b) rest) rest)
+        → seen (framesFrom u (take (taken u (b ∷ rest)) (b ∷ rest))) ≡ framesFrom u (take (taken u (b ∷ rest)) (b ∷ rest))
+    by true e later = rw (taken-here u b rest e, append-nil) (ended-seen u b e .0)
+    by false e later = rw (taken-later u b rest e, none-ends u b e) later
+
+pub first-end : FirstEndIsFirst
+first-end u [] = record { none-before = refl; one-there = λ h. absurd (not-suc-le-zero h) }
+first-end u (b ∷ rest) = by (ends u b) refl (first-end (next u b) rest)
+  where
+    by : (t : Bool) → ends u b ≡ t → FirstAt (next u b) rest → FirstAt u (b ∷ rest)
+    by true e later =
+        record {
+          none-before = rw e;
+          one-there = λ h. (ended-seen u b e .1 .0, rw (e, append-nil) (ended-seen u b e .1 .1));
+        }
+    by false e later =
+        record {
+          none-before = rw (e, none-ends u b e) (later .none-before);
+          one-there = λ h. rw (e, none-ends u b e) (later .one-there (le-of-suc-le-suc (rw e at h)));
+        }
+
+-- One call, from any state that bytes left: the reading stands where the earlier bytes left it.
+
+abbrev Reads : List ℕ → List ℕ → Step Held Ended → Type 0
+Reads = cutting.Reads hears (λ (e : List ℕ). heldOf (leftBy e)) (λ (e : List ℕ). framesFrom (leftBy e)) (λ (e xs : List ℕ). e ++ xs)
+
+take-taken : (n : ℕ) (l : List ℕ) → take (length (take n l)) l ≡ take n l
+take-taken n l = rw length-take (take-min n l)
+
+heard-reads : (earlier piece : List ℕ) → Reads earlier piece (stepOf (heardOf (kept (leftBy earlier)) (take (taken (kept (leftBy earlier)) piece) piece)))
+heard-reads earlier piece =
+    let u : Unfinished = kept (leftBy earlier) in
+    let bytes : List ℕ = take (taken u piece) piece in
+    let same : take (length bytes) piece ≡ bytes = take-taken (taken u piece) piece in
+    record {
+      within = rw length-take (omega arith);
+      state-is = kept-left (leftBy earlier) bytes ∙ ap heldOf (sym (left-append outside earlier bytes)) ∙ rw same;
+      events-are = call-seen u piece ∙ kept-frames (leftBy earlier) bytes ∙ rw same;
+    }
+
+one-call : (earlier : List ℕ) (room : ℕ) (piece : List ℕ) → Reads earlier piece (hears (heldOf (leftBy earlier)) room piece)
+one-call earlier room piece = by (ltb room 35) refl
+  where
+    by : (t : Bool) → ltb room 35 ≡ t → Reads earlier piece (hears (heldOf (leftBy earlier)) room piece)
+    by true e =
+        rw (hearing-short (heldOf (leftBy earlier)) piece room (ltb-true room 35 e))
+        (record { within = omega arith; state-is = rw append-nil; events-are = refl })
+    by false e =
+        rw (hearing-heard (heldOf (leftBy earlier)) piece room (ltb-false room 35 e) (left-allowed earlier), unfinished-kept (leftBy earlier))
+        (heard-reads earlier piece)
+
+pub any-cutting : AnyCutting
+any-cutting earlier bytes offers =
+    let all = cutting.any-cutting hears (λ (e : List ℕ). heldOf (leftBy e)) (λ (e : List ℕ). framesFrom (leftBy e)) (λ (e xs : List ℕ). e ++ xs)
+    (λ e. refl) append-nil
+    (λ e xs ys. frames-append (leftBy e) xs ys ∙ ap (λ (u : Unfinished). framesFrom (leftBy e) xs ++ framesFrom u ys) (sym (left-append outside e xs)))
+    (λ e xs ys. sym (append-assoc e xs ys)) one-call earlier bytes offers in
+    record { within = all .within; state-is = all .state-is; events-are = all .events-are }

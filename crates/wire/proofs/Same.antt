@@ -1,0 +1,35 @@
+-- Two answers that meet a call's own contract are the same, and so are the buffers that they leave. `Post` is what the call ensures, as
+-- its source states it. Assumes nothing.
+use mathlib.Core.Path.{_≡_, sym, _∙_}
+use mathlib.Core.List.{List}
+use Prim.Native.Nat.{ℕ}
+use denote.Ref.{RefT, now}
+use contract.Lifetimes.{Lfts}
+use Rattle.laws.proofs.Promise.{gives-same}
+use Rattle.wire.specs.declared.Written.{Written}
+use Rattle.wire.specs.declared.Read.{Read}
+use Rattle.wire.specs.declared.Held.{Held}
+use Rattle.wire.specs.declared.Heard.{Heard}
+use Rattle.wire.proofs.write_frame.Reads as write-frame
+use Rattle.wire.proofs.read_frame.Reads as read-frame
+use Rattle.wire.proofs.Held.hear.Reads as hear
+use Rattle.wire.proofs.Held.outside.Reads as outside
+
+module _ (κs : Lfts 2) (bytes buffer left left′ : RefT (List ℕ)) where
+  pub write-frame-same : (command : ℕ) (r r′ : Written)
+      → write-frame.Post κs (command, (bytes, (buffer, tt))) r (command, (bytes, (left, tt)))
+      → write-frame.Post κs (command, (bytes, (buffer, tt))) r′ (command, (bytes, (left′, tt))) → (r ≡ r′) × (now left ≡ now left′)
+  write-frame-same command r r′ met met′ = gives-same met met′
+
+  pub read-frame-same : (r r′ : Read)
+      → read-frame.Post κs (bytes, (buffer, tt)) r (bytes, (left, tt)) → read-frame.Post κs (bytes, (buffer, tt)) r′ (bytes, (left′, tt))
+      → (r ≡ r′) × (now left ≡ now left′)
+  read-frame-same r r′ met met′ = gives-same met met′
+
+  pub hear-same : (held : Held) (r r′ : Heard)
+      → hear.Post κs (held, (bytes, (buffer, tt))) r (held, (bytes, (left, tt))) → hear.Post κs (held, (bytes, (buffer, tt))) r′ (held, (bytes, (left′, tt)))
+      → (r ≡ r′) × (now left ≡ now left′)
+  hear-same held r r′ met met′ = gives-same met met′
+
+pub outside-same : (r r′ : Held) → outside.Post tt tt r tt → outside.Post tt tt r′ tt → r ≡ r′
+outside-same r r′ met met′ = met ∙ sym met′

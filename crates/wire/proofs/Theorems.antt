@@ -1,0 +1,23 @@
+-- The statements of specs/Laws.antt, proved. Assumes nothing.
+use Rattle.wire.specs.Laws.{WrittenIsRead, WrittenIsHeard, ReadIsWritten, AnyCutting, FirstEndIsFirst, AllowedIsLeft}
+use Rattle.wire.proofs.RoundTrip.{frame-says, frame-heard, slice-written}
+use Rattle.wire.proofs.Cuts
+use Rattle.wire.proofs.Reached
+
+pub written-is-read : WrittenIsRead
+written-is-read = frame-says
+
+pub written-is-heard : WrittenIsHeard
+written-is-heard = frame-heard
+
+pub read-is-written : ReadIsWritten
+read-is-written = slice-written
+
+pub any-cutting : AnyCutting
+any-cutting = Cuts.any-cutting
+
+pub first-end-is-first : FirstEndIsFirst
+first-end-is-first = Cuts.first-end
+
+pub allowed-is-left : AllowedIsLeft
+allowed-is-left = Reached.allowed-left

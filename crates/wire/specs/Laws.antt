@@ -1,0 +1,81 @@
+-- What is proved of the definitions, as statements to hold against the papers. Each is proved under its name in proofs/Theorems.antt.
+-- Assumes nothing.
+use Prim.Native.Nat.{ℕ, suc, _≤_, _<_}
+use mathlib.Core.Path.{_≡_}
+use mathlib.Core.Bool.{true, cond}
+use mathlib.Core.Logic.{_↔_}
+use mathlib.Core.List.{List, [], _∷_, _++_}
+use lib.ListN.{length, take}
+use lib.Dec.{ltb}
+use Rattle.laws.specs.Lists.{every}
+use Rattle.laws.specs.Promise.{Given}
+use Rattle.laws.specs.Cutting.{Step, Offer, calls}
+use Rattle.wire.specs.Frame.{frame}
+use Rattle.wire.specs.Reading.{Ended, good, refused}
+use Rattle.wire.specs.Stream.{Unfinished, outside, framesFrom, framesOf, leftFrom, leftBy, firstEnd}
+use Rattle.wire.specs.Calls.{writing, writtenAs, reading, readAs, mostHeld, heldOf, allowed, hearing}
+use Rattle.wire.specs.declared.Event.{Event}
+use Rattle.wire.specs.declared.Held.{Held}
+use Rattle.wire.specs.declared.Heard.{Heard}
+
+-- numbers below 256
+pub record Bytes (bytes : List ℕ) : Type 0 where
+  pub below : every (λ b. ltb b 256) bytes ≡ true
+
+-- 1. "A frame written by one end is read by the other as the same command and data": read whole, and on the stream.
+abbrev pub WrittenIsRead : Type 0
+WrittenIsRead =
+    (command : ℕ) (bytes : List ℕ) → command ≤ 15 → length bytes ≤ 35 → Bytes bytes → (room : ℕ) → 35 ≤ room
+    → reading (frame command bytes) room ≡ readAs (good command bytes)
+
+abbrev pub WrittenIsHeard : Type 0
+WrittenIsHeard =
+    (command : ℕ) (bytes : List ℕ) → command ≤ 15 → length bytes ≤ 35 → Bytes bytes → (rest : List ℕ)
+    → framesFrom outside (frame command bytes ++ rest) ≡ good command bytes ∷ framesFrom outside rest
+
+-- 2. "A frame read whole is byte for byte the one the writer makes for them."
+abbrev pub ReadIsWritten : Type 0
+ReadIsWritten =
+    (slice : List ℕ) (room : ℕ) (command : ℕ) (bytes : List ℕ) → reading slice room ≡ readAs (good command bytes)
+    → (out : ℕ) → 75 ≤ out → writing command bytes out ≡ writtenAs slice
+
+-- 3. The stream in any cutting. What a call on the stream comes to: a frame with its data, a frame's refusal (1 to 4), or no frame (under
+-- 11 and 12 too, which are the call's).
+abbrev pub frameIn : Event → List ℕ → List Ended
+frameIn Event.Nothing written = []
+frameIn (Event.Frame command len) written = good command written ∷ []
+frameIn (Event.Refused number) written = cond (ltb 4 number) [] (refused number ∷ [])
+
+abbrev pub stepOf : Given Heard → Step Held Ended
+stepOf given =
+    record {
+      state = given .answer .held;
+      events = frameIn (given .answer .event) (given .written);
+      taken = given .answer .taken;
+    }
+
+abbrev pub hears : Held → ℕ → List ℕ → Step Held Ended
+hears held room piece = stepOf (hearing held piece room)
+
+-- "for any list of pieces, with what a call did not take handed on first, the events are exactly the frames of the bytes taken, in order,
+-- and the state is what those bytes leave": from any state that bytes left, with any room in each call.
+pub record Cut (earlier bytes : List ℕ) (all : Step Held Ended) : Type 0 where
+  pub within : all .taken ≤ length bytes
+  pub state-is : all .state ≡ heldOf (leftBy (earlier ++ take (all .taken) bytes))
+  pub events-are : all .events ≡ framesFrom (leftBy earlier) (take (all .taken) bytes)
+
+abbrev pub AnyCutting : Type 0
+AnyCutting = (earlier bytes : List ℕ) (offers : List (Offer ℕ)) → Cut earlier bytes (calls hears (heldOf (leftBy earlier)) bytes offers)
+
+-- The end that a call stops at is the first: no frame ends before it, and where it is within the piece one ends there.
+pub record FirstAt (u : Unfinished) (piece : List ℕ) : Type 0 where
+  pub none-before : framesFrom u (take (firstEnd u piece) piece) ≡ []
+  pub one-there : firstEnd u piece < length piece → (f : Ended) × (framesFrom u (take (suc (firstEnd u piece)) piece) ≡ f ∷ [])
+
+abbrev pub FirstEndIsFirst : Type 0
+FirstEndIsFirst = (u : Unfinished) (piece : List ℕ) → FirstAt u piece
+
+-- 4. "[A state is allowed when] its held frame is one that bytes could have left." (Its array has 74 entries in every value of the type.)
+abbrev pub AllowedIsLeft : Type 0
+AllowedIsLeft =
+    (held : Held) → length (held .chars) ≡ mostHeld → (allowed held ≡ true) ↔ ((bytes : List ℕ) × (heldOf (leftBy bytes) ≡ held))
