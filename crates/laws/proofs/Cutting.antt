@@ -1,8 +1,8 @@
 -- Any cutting, for any call that takes pieces: what a row of calls comes to is what the bytes taken say, read as one row.
 -- Assumes nothing.
-use mathlib.Core.Path.{_≡_, refl, sym, ap, _∙_}
+use mathlib.Core.Path.{_≡_, sym, ap, _∙_}
 use mathlib.Core.List.{List, [], _∷_, _++_}
-use Prim.Native.Nat.{ℕ, zero, _+_, _≤_, _-_, min}
+use Prim.Native.Nat.{ℕ, _+_, _≤_, _-_, min}
 use native.Mathlib.Omega.{arith}
 use lib.ListN.{length, take, drop, length-take, length-drop}
 use lib.Seq.{take-take, take-add}

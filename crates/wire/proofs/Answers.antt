@@ -1,10 +1,10 @@
 -- What each call answers, case by case: the laws by which the calls are proved and by which callers speak of them. Assumes nothing.
 use mathlib.Core.Path.{_≡_, refl}
-use mathlib.Core.Bool.{Bool, true, false, not, _&&_, _||_}
+use mathlib.Core.Bool.{Bool, true, false, _&&_}
 use mathlib.Core.List.{List, []}
 use Prim.Native.Nat.{ℕ, _≤_, _<_, _-_}
 use borrow.Author.Tests.{lt-ltb, le-ltb, leb-true, ltb-true, ltb-false}
-use lib.ListN.{length, getD, take}
+use lib.ListN.{length, getD}
 use lib.Dec.{ltb, leb, eqb}
 use Rattle.laws.proofs.Bools.{and-left}
 use Rattle.laws.specs.Lists.{every}
@@ -12,7 +12,6 @@ use Rattle.wire.specs.Digits.{isDigit}
 use Rattle.wire.specs.Frame.{frame, colon, newline}
 use Rattle.wire.specs.Reading.{refused, good, bodySays, brokenSays, badCount, sumsUp, commandOf, dataOf}
 use Rattle.wire.specs.Calls.{writing, unwritten, writtenAs, reading, readAs, wholeSays, wellEnclosed, between, hearing, unheard, heardOf, allowed, unfinished}
-use Rattle.wire.specs.Stream.{taken}
 use Rattle.wire.specs.declared.Held.{Held}
 
 -- the characters of a frame, in the order of the refusals
@@ -100,6 +99,6 @@ unfolding hearing
 hearing-stray held piece room h e = simp (le-ltb room 35 h, e)
 
 pub hearing-heard : (held : Held) (piece : List ℕ) (room : ℕ) → 35 ≤ room → allowed held ≡ true
-    → hearing held piece room ≡ heardOf (unfinished held) (take (taken (unfinished held) piece) piece)
+    → hearing held piece room ≡ heardOf (unfinished held) piece
 unfolding hearing
 hearing-heard held piece room h e = simp (le-ltb room 35 h, e)

@@ -1,28 +1,25 @@
 -- The stream in any cutting, and the first frame end. Assumes nothing.
-use mathlib.Core.Path.{_≡_, refl, sym, ap, ap₂, _∙_}
-use mathlib.Core.Bool.{Bool, true, false, not, cond, false≢true}
+use mathlib.Core.Path.{_≡_, refl, sym, ap, _∙_}
+use mathlib.Core.Bool.{Bool, true, false, false≢true}
 use mathlib.Core.List.{List, [], _∷_, _++_, append-assoc, append-nil}
-use Prim.Native.Nat.{ℕ, zero, suc, _+_, _≤_, _<_, min}
+use Prim.Native.Nat.{ℕ, suc}
 use native.Mathlib.Nat.{not-suc-le-zero, le-of-suc-le-suc}
 use native.Mathlib.Omega.{arith}
 use borrow.Author.Tests.{ltb-true, ltb-false}
-use lib.ListN.{length, take, length-take}
-use lib.Seq.{take-all, take-nil, take-take}
+use lib.ListN.{length, take}
+use lib.Seq.{take-nil}
 use lib.Dec.{ltb, eqb}
 use Rattle.laws.specs.Lists.{every}
-use Rattle.laws.specs.Promise.{Given}
-use Rattle.laws.specs.Cutting.{Step, Offer, calls}
-use Rattle.laws.proofs.Lists.{take-min}
+use Rattle.laws.specs.Cutting.{Step}
 use Rattle.laws.proofs.Cutting as cutting
 use Rattle.wire.specs.Digits.{isDigit}
 use Rattle.wire.specs.Frame.{colon, newline}
-use Rattle.wire.specs.Reading.{Ended, good, refused, badCount, sumsUp, bodySays, brokenSays}
-use Rattle.wire.specs.Stream.{Unfinished, outside, inside, next, endedBy, ends, firstEnd, taken, framesFrom, leftFrom, leftBy}
-use Rattle.wire.specs.Calls.{heldOf, unfinished, allowed, hearing, heardOf, eventOf, eventFrom, readAs, dataOfFirst}
-use Rattle.wire.specs.Laws.{frameIn, stepOf, hears, Cut, AnyCutting, FirstAt, FirstEndIsFirst}
+use Rattle.wire.specs.Reading.{Ended, badCount, sumsUp, bodySays, brokenSays}
+use Rattle.wire.specs.Stream.{Unfinished, outside, inside, next, endedBy, ends, taken, framesFrom, leftBy}
+use Rattle.wire.specs.Calls.{heldOf, heardOf, eventOf, eventFrom, readAs, dataOfFirst}
+use Rattle.wire.specs.Laws.{frameIn, stepOf, hears, Cut, AnyCutting, FirstAt, FirstEndIsFirst, FromTheStart, CuttingChangesNothing}
 use Rattle.wire.specs.declared.Held.{Held}
-use Rattle.wire.specs.declared.Heard.{Heard}
-use Rattle.wire.proofs.Streams.{left-append, frames-append, none-ends}
+use Rattle.wire.proofs.Streams.{left-append, frames-append, none-ends, taken-within}
 use Rattle.wire.proofs.Answers.{body-long, body-strange, body-count, body-sum, body-good, broken-long, broken-short, hearing-short, hearing-heard}
 use Rattle.wire.proofs.Reached.{left-allowed, kept, unfinished-kept, kept-frames, kept-left}
 
@@ -99,18 +96,14 @@ first-end u (b ∷ rest) = by (ends u b) refl (first-end (next u b) rest)
 abbrev Reads : List ℕ → List ℕ → Step Held Ended → Type 0
 Reads = cutting.Reads hears (λ (e : List ℕ). heldOf (leftBy e)) (λ (e : List ℕ). framesFrom (leftBy e)) (λ (e xs : List ℕ). e ++ xs)
 
-take-taken : (n : ℕ) (l : List ℕ) → take (length (take n l)) l ≡ take n l
-take-taken n l = rw length-take (take-min n l)
-
-heard-reads : (earlier piece : List ℕ) → Reads earlier piece (stepOf (heardOf (kept (leftBy earlier)) (take (taken (kept (leftBy earlier)) piece) piece)))
+heard-reads : (earlier piece : List ℕ) → Reads earlier piece (stepOf (heardOf (kept (leftBy earlier)) piece))
 heard-reads earlier piece =
     let u : Unfinished = kept (leftBy earlier) in
     let bytes : List ℕ = take (taken u piece) piece in
-    let same : take (length bytes) piece ≡ bytes = take-taken (taken u piece) piece in
     record {
-      within = rw length-take (omega arith);
-      state-is = kept-left (leftBy earlier) bytes ∙ ap heldOf (sym (left-append outside earlier bytes)) ∙ rw same;
-      events-are = call-seen u piece ∙ kept-frames (leftBy earlier) bytes ∙ rw same;
+      within = taken-within u piece;
+      state-is = kept-left (leftBy earlier) bytes ∙ ap heldOf (sym (left-append outside earlier bytes));
+      events-are = call-seen u piece ∙ kept-frames (leftBy earlier) bytes;
     }
 
 one-call : (earlier : List ℕ) (room : ℕ) (piece : List ℕ) → Reads earlier piece (hears (heldOf (leftBy earlier)) room piece)
@@ -131,3 +124,14 @@ any-cutting earlier bytes offers =
     (λ e xs ys. frames-append (leftBy e) xs ys ∙ ap (λ (u : Unfinished). framesFrom (leftBy e) xs ++ framesFrom u ys) (sym (left-append outside e xs)))
     (λ e xs ys. sym (append-assoc e xs ys)) one-call earlier bytes offers in
     record { within = all .within; state-is = all .state-is; events-are = all .events-are }
+
+pub from-the-start : FromTheStart
+from-the-start bytes offers all e = rw e (any-cutting [] bytes offers .events-are, any-cutting [] bytes offers .state-is)
+
+pub changes-nothing : CuttingChangesNothing
+changes-nothing earlier bytes offers offers′ all all′ e e′ same =
+    let one : Cut earlier bytes all = rw e (any-cutting earlier bytes offers) in
+    let other : Cut earlier bytes all′ = rw e′ (any-cutting earlier bytes offers′) in
+    let states : all .state ≡ all′ .state = one .state-is ∙ rw same (sym (other .state-is)) in
+    let events : all .events ≡ all′ .events = one .events-are ∙ rw same (sym (other .events-are)) in
+    λ i. record { state = states i; events = events i; taken = same i }

@@ -1,8 +1,8 @@
 -- What a call on the stream hears, by where the first frame ends in the piece. Assumes nothing.
 use mathlib.Core.Path.{_≡_, refl, sym, ap, _∙_}
-use mathlib.Core.Bool.{Bool, true, false, not, _||_, or-self, or-false}
+use mathlib.Core.Bool.{Bool, true, false, _||_, or-self, or-false}
 use mathlib.Core.List.{List, [], _∷_, _++_, append-assoc}
-use Prim.Native.Nat.{ℕ, zero, suc, _+_, _≤_, _<_}
+use Prim.Native.Nat.{ℕ, suc, _+_, _≤_, _<_}
 use native.Mathlib.Omega.{arith}
 use native.Mathlib.Numerals.{add-one}
 use borrow.Author.Tests.{eqb-true, ne-eqb}
@@ -11,10 +11,10 @@ use lib.Seq.{take-length, take-append-add, length-take-le, split-at}
 use lib.Dec.{eqb}
 use Rattle.laws.specs.Lists.{every, before}
 use Rattle.laws.specs.Promise.{Given, Gives}
-use Rattle.laws.proofs.Lists.{First, before-first, drop-turn}
+use Rattle.laws.proofs.Lists.{before-first}
 use Rattle.wire.specs.Frame.{colon, newline}
 use Rattle.wire.specs.Reading.{Ended, bodySays, brokenSays}
-use Rattle.wire.specs.Stream.{Unfinished, outside, inside, next, endedBy, framesFrom, leftFrom, ends, taken}
+use Rattle.wire.specs.Stream.{Unfinished, outside, inside, next, endedBy, endsFrame, framesFrom, leftFrom, ends, taken}
 use Rattle.wire.specs.Calls.{allowed, heldOf, unfinished, heardOf, eventFrom, readAs, stays}
 use Rattle.wire.specs.declared.Event.{Event}
 use Rattle.wire.specs.declared.Held.{Held}
@@ -27,7 +27,7 @@ use Rattle.wire.proofs.Streams.{left-append, frames-append, quiet-all, 
 abbrev pub heardNothing : Unfinished → ℕ → Given Heard
 heardNothing u n = record { answer = record { held = heldOf u; event = Event.Nothing; taken = n }; written = [] }
 
-pub hear-nothing : (u : Unfinished) (piece : List ℕ) → framesFrom u piece ≡ [] → heardOf u (take (taken u piece) piece) ≡ heardNothing (leftFrom u piece) (length piece)
+pub hear-nothing : (u : Unfinished) (piece : List ℕ) → framesFrom u piece ≡ [] → heardOf u piece ≡ heardNothing (leftFrom u piece) (length piece)
 hear-nothing u piece e = rw (quiet-all u piece e, take-length piece, e)
 
 -- a frame ends after n bytes: they are taken
@@ -36,11 +36,11 @@ heardFrame u f n =
     record { answer = record { held = heldOf u; event = eventFrom (readAs f .answer); taken = n }; written = readAs f .written }
 
 pub hear-frame : (u : Unfinished) (xs : List ℕ) (b : ℕ) (ys : List ℕ) (f : Ended) → framesFrom u xs ≡ [] → ends (leftFrom u xs) b ≡ true → endedBy (leftFrom u xs) b ≡ f ∷ []
-    → heardOf u (take (taken u (xs ++ b ∷ ys)) (xs ++ b ∷ ys)) ≡ heardFrame (next (leftFrom u xs) b) f (length xs + 1)
+    → heardOf u (xs ++ b ∷ ys) ≡ heardFrame (next (leftFrom u xs) b) f (length xs + 1)
 hear-frame u xs b ys f quiet ending e =
     let bytes : take (taken u (xs ++ b ∷ ys)) (xs ++ b ∷ ys) ≡ xs ++ b ∷ [] = rw (quiet-then u xs b ys quiet ending, take-append-add xs (b ∷ ys) 1) in
     let frames : framesFrom u (xs ++ b ∷ []) ≡ f ∷ [] = frames-append u xs (b ∷ []) ∙ rw (quiet, e) in
-    rw (bytes, left-append u xs (b ∷ []), frames, length-append xs (b ∷ []))
+    rw (bytes, left-append u xs (b ∷ []), frames, quiet-then u xs b ys quiet ending)
 
 -- behind bytes that end no frame, what is heard is what is heard from where they leave
 abbrev pub behind : ℕ → Given Heard → Given Heard
@@ -48,43 +48,40 @@ behind n g =
     record { answer = record { held = g .answer .held; event = g .answer .event; taken = n + g .answer .taken }; written = g .written }
 
 pub hear-behind : (u : Unfinished) (xs ys : List ℕ) → framesFrom u xs ≡ []
-    → heardOf u (take (taken u (xs ++ ys)) (xs ++ ys)) ≡ behind (length xs) (heardOf (leftFrom u xs) (take (taken (leftFrom u xs) ys) ys))
+    → heardOf u (xs ++ ys) ≡ behind (length xs) (heardOf (leftFrom u xs) ys)
 hear-behind u xs ys quiet =
     let bytes : take (taken u (xs ++ ys)) (xs ++ ys) ≡ xs ++ take (taken (leftFrom u xs) ys) ys = rw (quiet-taken u xs ys quiet, take-append-add) in
-    rw (bytes, left-append, frames-append, quiet, length-append)
+    rw (bytes, left-append, frames-append, quiet, quiet-taken u xs ys quiet)
 
 -- Inside a frame, with the place of the first byte that ends it.
 
-abbrev pub endOf : ℕ → Bool
-endOf b = eqb b newline || eqb b colon
-
 module _ (chars piece : List ℕ) where
-  pub inside-nothing : before endOf piece ≡ length piece → heardOf (inside chars) (take (taken (inside chars) piece) piece) ≡ heardNothing (inside (chars ++ piece)) (length piece)
+  pub inside-nothing : before endsFrame piece ≡ length piece → heardOf (inside chars) piece ≡ heardNothing (inside (chars ++ piece)) (length piece)
   inside-nothing e =
-      let staying : every stays piece ≡ true = rw (e, take-length piece) at (before-first endOf piece .none) in
+      let staying : every stays piece ≡ true = rw (e, take-length piece) at (before-first endsFrame piece .none) in
       hear-nothing (inside chars) piece (stay-frames chars piece staying)
       ∙ ap (λ (u : Unfinished). heardNothing u (length piece)) (stay-left chars piece staying)
 
   -- the byte at that place, with what stands before and behind it
-  module _ (h : before endOf piece < length piece) where
-    ends-at : (b : ℕ) → getD piece (before endOf piece) 0 ≡ b → (f : Ended) → ends (inside (chars ++ take (before endOf piece) piece)) b ≡ true → endedBy (inside (chars ++ take (before endOf piece) piece)) b ≡ f ∷ []
-        → heardOf (inside chars) (take (taken (inside chars) piece) piece) ≡ heardFrame (next (inside (chars ++ take (before endOf piece) piece)) b) f (before endOf piece + 1)
+  module _ (h : before endsFrame piece < length piece) where
+    ends-at : (b : ℕ) → getD piece (before endsFrame piece) 0 ≡ b → (f : Ended) → ends (inside (chars ++ take (before endsFrame piece) piece)) b ≡ true → endedBy (inside (chars ++ take (before endsFrame piece) piece)) b ≡ f ∷ []
+        → heardOf (inside chars) piece ≡ heardFrame (next (inside (chars ++ take (before endsFrame piece) piece)) b) f (before endsFrame piece + 1)
     ends-at b is f ending e =
-        let n : ℕ = before endOf piece in
-        let staying : every stays (take n piece) ≡ true = before-first endOf piece .none in
+        let n : ℕ = before endsFrame piece in
+        let staying : every stays (take n piece) ≡ true = before-first endsFrame piece .none in
         let left : leftFrom (inside chars) (take n piece) ≡ inside (chars ++ take n piece) = stay-left chars (take n piece) staying in
         let split : piece ≡ take n piece ++ b ∷ drop (suc n) piece = rw is at (split-at piece n 0 h) in
         let short : n ≤ length piece = omega arith in
-        ap (λ (l : List ℕ). heardOf (inside chars) (take (taken (inside chars) l) l)) split
+        ap (λ (l : List ℕ). heardOf (inside chars) l) split
         ∙ hear-frame (inside chars) (take n piece) b (drop (suc n) piece) f (stay-frames chars (take n piece) staying) (rw left ending) (rw left e)
         ∙ rw (left, length-take-le n piece short)
 
-    pub inside-colon : getD piece (before endOf piece) 0 ≡ colon
-        → heardOf (inside chars) (take (taken (inside chars) piece) piece) ≡ heardFrame (inside []) (brokenSays (length (chars ++ take (before endOf piece) piece))) (before endOf piece + 1)
+    pub inside-colon : getD piece (before endsFrame piece) 0 ≡ colon
+        → heardOf (inside chars) piece ≡ heardFrame (inside []) (brokenSays (length (chars ++ take (before endsFrame piece) piece))) (before endsFrame piece + 1)
     inside-colon is = ends-at colon is _ refl refl
 
-    pub inside-newline : getD piece (before endOf piece) 0 ≡ newline
-        → heardOf (inside chars) (take (taken (inside chars) piece) piece) ≡ heardFrame outside (bodySays (chars ++ take (before endOf piece) piece)) (before endOf piece + 1)
+    pub inside-newline : getD piece (before endsFrame piece) 0 ≡ newline
+        → heardOf (inside chars) piece ≡ heardFrame outside (bodySays (chars ++ take (before endsFrame piece) piece)) (before endsFrame piece + 1)
     inside-newline is = ends-at newline is _ refl refl
 
 -- Outside a frame, with the place of the first colon.
@@ -93,14 +90,14 @@ abbrev pub colonAt : ℕ → Bool
 colonAt b = eqb b colon || eqb b colon
 
 module _ (piece : List ℕ) where
-  pub outside-nothing : before colonAt piece ≡ length piece → heardOf outside (take (taken outside piece) piece) ≡ heardNothing outside (length piece)
+  pub outside-nothing : before colonAt piece ≡ length piece → heardOf outside piece ≡ heardNothing outside (length piece)
   outside-nothing e =
       let noise : every isNoise piece ≡ true = rw (e, take-length piece) at (simp or-self at (before-first colonAt piece .none)) in
       hear-nothing outside piece (noise-frames piece noise) ∙ rw (noise-left piece noise)
 
   pub outside-frame : before colonAt piece < length piece
-      → heardOf outside (take (taken outside piece) piece)
-      ≡ behind (before colonAt piece + 1) (heardOf (inside []) (take (taken (inside []) (drop (before colonAt piece + 1) piece)) (drop (before colonAt piece + 1) piece)))
+      → heardOf outside piece
+      ≡ behind (before colonAt piece + 1) (heardOf (inside []) (drop (before colonAt piece + 1) piece))
   outside-frame h =
       let n : ℕ = before colonAt piece in
       let noise : every isNoise (take n piece) ≡ true = simp or-self at (before-first colonAt piece .none) in
@@ -108,23 +105,23 @@ module _ (piece : List ℕ) where
       let split : piece ≡ (take n piece ++ colon ∷ []) ++ drop (n + 1) piece =
       rw (is, ← add-one n) at (split-at piece n 0 h) ∙ sym (append-assoc (take n piece) (colon ∷ []) (drop (n + 1) piece)) in
       let short : n ≤ length piece = omega arith in
-      ap (λ (l : List ℕ). heardOf outside (take (taken outside l) l)) split
+      ap (λ (l : List ℕ). heardOf outside l) split
       ∙ hear-behind outside (take n piece ++ colon ∷ []) (drop (n + 1) piece) (colon-frames (take n piece) noise)
       ∙ rw (colon-left (take n piece) noise, length-append, length-take-le n piece short)
 
 -- The call inside a frame, in the words of the code: `end` is the first place of a newline or a colon, `whole` the state with the
 -- characters up to there.
 
-module _ (h : Held) (in-it : h .inside ≡ true) (piece : List ℕ) (end : ℕ) (first : end ≡ before endOf piece)
+module _ (h : Held) (in-it : h .inside ≡ true) (piece : List ℕ) (end : ℕ) (first : end ≡ before endsFrame piece)
     (whole : Held) (kept : whole ≡ heldOf (inside (take (h .len) (h .chars) ++ take end piece))) where
-  pub call-nothing : end ≡ length piece → heardOf (unfinished h) (take (taken (unfinished h) piece) piece) ≡ record { answer = record { held = whole; event = Event.Nothing; taken = end }; written = [] }
+  pub call-nothing : end ≡ length piece → heardOf (unfinished h) piece ≡ record { answer = record { held = whole; event = Event.Nothing; taken = end }; written = [] }
   call-nothing all =
       rw (unfinished-inside h in-it, kept, all, take-length piece)
       (inside-nothing (take (h .len) (h .chars)) piece (sym first ∙ all))
 
   module _ (some : end < length piece) where
     pub call-colon : getD piece end 0 ≡ colon
-        → heardOf (unfinished h) (take (taken (unfinished h) piece) piece)
+        → heardOf (unfinished h) piece
         ≡ record { answer = record { held = heldOf (inside []); event = eventFrom (readAs (brokenSays (whole .len)) .answer); taken = end + 1 }; written = [] }
     unfolding heldOf
     call-colon is =
@@ -132,11 +129,11 @@ module _ (h : Held) (in-it : h .inside ≡ true) (piece : List ℕ) (end : ℕ) 
         (inside-colon (take (h .len) (h .chars)) piece (rw first at some) (rw first at is))
 
     pub call-newline : (getD piece end 0 ≡ colon → ⊥)
-        → heardOf (unfinished h) (take (taken (unfinished h) piece) piece)
+        → heardOf (unfinished h) piece
         ≡ heardFrame outside (bodySays (take (whole .len) (whole .chars))) (end + 1)
     unfolding heldOf
     call-newline other =
-        let there : (eqb (getD piece end 0) newline || eqb (getD piece end 0) colon) ≡ true = rw (← first) at (before-first endOf piece .some (rw first at some)) in
+        let there : (eqb (getD piece end 0) newline || eqb (getD piece end 0) colon) ≡ true = rw (← first) at (before-first endsFrame piece .some (rw first at some)) in
         let is : getD piece end 0 ≡ newline = eqb-true _ newline (rw (ne-eqb (getD piece end 0) colon other, or-false) at there) in
         rw (unfinished-inside h in-it, kept, held-chars, body-capped, first)
         (inside-newline (take (h .len) (h .chars)) piece (rw first at some) (rw first at is))
@@ -144,14 +141,14 @@ module _ (h : Held) (in-it : h .inside ≡ true) (piece : List ℕ) (end : ℕ) 
 -- The call outside a frame: `skipped` is the place of the first colon.
 
 module _ (h : Held) (ok : allowed h ≡ true) (long : length (h .chars) ≡ 74) (out : h .inside ≡ false) (piece : List ℕ) (skipped : ℕ) (first : skipped ≡ before colonAt piece) where
-  pub call-skipped : skipped ≡ length piece → heardOf (unfinished h) (take (taken (unfinished h) piece) piece) ≡ record { answer = record { held = h; event = Event.Nothing; taken = skipped }; written = [] }
+  pub call-skipped : skipped ≡ length piece → heardOf (unfinished h) piece ≡ record { answer = record { held = h; event = Event.Nothing; taken = skipped }; written = [] }
   call-skipped all =
       let same : heldOf outside ≡ h = rw (unfinished-outside h out) at (held-same h ok long) in
       rw (unfinished-outside h out) (outside-nothing piece (sym first ∙ all) ∙ rw (same, all))
 
   pub call-begun : skipped < length piece
-      → heardOf (unfinished h) (take (taken (unfinished h) piece) piece)
-      ≡ behind (skipped + 1) (heardOf (inside []) (take (taken (inside []) (drop (skipped + 1) piece)) (drop (skipped + 1) piece)))
+      → heardOf (unfinished h) piece
+      ≡ behind (skipped + 1) (heardOf (inside []) (drop (skipped + 1) piece))
   call-begun some = rw (unfinished-outside h out, first) (outside-frame piece (rw first at some))
 
 pub gives-behind : (g : Given Heard) (n : ℕ) (buffer : List ℕ) (r : Heard) (l : List ℕ) → Gives Heard g buffer r l

@@ -1,10 +1,9 @@
 -- The states that bytes leave: they are allowed, and there are no others. What is not kept past the 74th character never shows.
 -- Assumes nothing.
 use mathlib.Core.Path.{_≡_, refl, sym, ap, ap₂, subst, _∙_}
-use mathlib.Core.Bool.{Bool, true, false, not, cond, _&&_, _||_, and-true}
-use mathlib.Core.Logic.{_↔_}
-use mathlib.Core.List.{List, [], _∷_, _++_, append-assoc}
-use Prim.Native.Nat.{ℕ, zero, suc, _+_, _≤_, min}
+use mathlib.Core.Bool.{Bool, true, false}
+use mathlib.Core.List.{List, [], _∷_, _++_}
+use Prim.Native.Nat.{ℕ, min}
 use native.Mathlib.Omega.{arith}
 use lib.ListN.{length, take, length-take}
 use lib.Seq.{take-take}
@@ -12,9 +11,9 @@ use lib.Dec.{eqb}
 use Rattle.laws.specs.Lists.{every}
 use Rattle.laws.proofs.Lists.{every-append, take-again}
 use Rattle.wire.specs.Frame.{colon, newline}
-use Rattle.wire.specs.Reading.{Ended, bodySays, brokenSays}
+use Rattle.wire.specs.Reading.{Ended}
 use Rattle.wire.specs.Stream.{Unfinished, outside, inside, next, endedBy, framesFrom, leftFrom, leftBy}
-use Rattle.wire.specs.Calls.{allowed, stays, noChars, heldOf, unfinished}
+use Rattle.wire.specs.Calls.{allowed, stays, heldOf, unfinished}
 use Rattle.wire.specs.Laws.{AllowedIsLeft}
 use Rattle.wire.specs.declared.Held.{Held}
 use Rattle.wire.proofs.Streams.{stay-left}

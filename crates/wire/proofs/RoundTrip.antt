@@ -1,13 +1,12 @@
 -- The frame writer and the reading of a frame undo each other. Assumes nothing.
 use mathlib.Core.Path.{_≡_, refl, sym, ap, ap₂, _∙_}
-use mathlib.Core.Bool.{Bool, true, false, not, cond, _&&_, false≢true}
-use mathlib.Core.List.{List, [], _∷_, _++_, append-assoc}
-use Prim.Native.Nat.{ℕ, zero, suc, _+_, _*_, _/_, _%_, _-_, _≤_, _<_}
-use native.Mathlib.Nat.{add-assoc}
+use mathlib.Core.Bool.{Bool, true, false, _&&_, false≢true}
+use mathlib.Core.List.{List, [], _∷_, _++_}
+use Prim.Native.Nat.{ℕ, suc, _+_, _*_, _/_, _%_, _-_, _≤_, _<_}
 use native.Mathlib.Omega.{arith}
-use borrow.Author.Tests.{lt-ltb, le-ltb, le-leb, eq-eqb, ne-eqb, ltb-true, ltb-false, eqb-true, not-true, not-false}
+use borrow.Author.Tests.{lt-ltb, le-ltb, le-leb, eq-eqb, ne-eqb, ltb-true, ltb-false, eqb-true}
 use lib.ListN.{length, take, drop, getD, length-append, drop-of-length-le}
-use lib.Seq.{take-append-seam, take-append-add, getD-append-seam, split-at}
+use lib.Seq.{take-append-seam, getD-append-seam, split-at}
 use lib.Dec.{ltb, leb, eqb}
 use Rattle.laws.specs.Lists.{every, sumOf}
 use Rattle.laws.proofs.Bools.{and-left, and-right}
@@ -15,14 +14,14 @@ use Rattle.laws.proofs.Lists.{every-at, every-append, sum-append}
 use Rattle.wire.specs.Digits.{digit, nibble, isDigit}
 use Rattle.wire.specs.Frame.{colon, newline, total, check, digitsOf, body, frame}
 use Rattle.wire.specs.Reading.{Ended, good, refused, bytesOf, commandOf, payloadOf, dataOf, badCount, sumsUp, bodySays}
-use Rattle.wire.specs.Stream.{outside, framesFrom}
-use Rattle.wire.specs.Calls.{stays, between, wellEnclosed, wholeSays, reading, readAs, writing, writtenAs}
+use Rattle.wire.specs.Stream.{outside, framesFrom, leftFrom}
+use Rattle.wire.specs.Calls.{stays, between, wellEnclosed, reading, readAs, writing, writtenAs}
 use Rattle.wire.specs.Laws.{Bytes}
 use Rattle.wire.specs.declared.Read.{Read}
 use Rattle.wire.proofs.Nibbles.{nibble-digit, digit-nibble, digit-isDigit, digit-stays, nibble-at}
-use Rattle.wire.proofs.Bytes.{length-digitsOf, length-bytesOf, length-data, odd-count}
-use Rattle.wire.proofs.Frames.{check-sums, check-only, check-byte, length-body, digitsOf-append}
-use Rattle.wire.proofs.Streams.{whole-frames}
+use Rattle.wire.proofs.Bytes.{length-bytesOf, length-data, odd-count}
+use Rattle.wire.proofs.Frames.{check-sums, check-only, check-byte, length-body}
+use Rattle.wire.proofs.Streams.{whole-frames, whole-left}
 use Rattle.wire.proofs.Answers.{body-long, body-strange, body-count, body-sum, body-good, enclosed-long, reading-short, reading-loose, reading-between, writing-made}
 
 -- What the writer makes.
@@ -114,11 +113,14 @@ frame-says command bytes nib few small room h =
     ∙ ap readAs (ap bodySays (between-enclosed (body command bytes)) ∙ body-says command bytes nib few (small .below))
 
 pub frame-heard : (command : ℕ) (bytes : List ℕ) → command ≤ 15 → length bytes ≤ 35 → Bytes bytes → (rest : List ℕ)
-    → framesFrom outside (frame command bytes ++ rest) ≡ good command bytes ∷ framesFrom outside rest
+    → (framesFrom outside (frame command bytes ++ rest) ≡ good command bytes ∷ framesFrom outside rest)
+    × (leftFrom outside (frame command bytes ++ rest) ≡ leftFrom outside rest)
 unfolding frame
 frame-heard command bytes nib few small rest =
-    whole-frames (body command bytes) rest (body-all command bytes nib few (small .below) stays digit-stays)
-    ∙ rw (body-says command bytes nib few (small .below))
+    let staying : every stays (body command bytes) ≡ true = body-all command bytes nib few (small .below) stays digit-stays in (
+      whole-frames (body command bytes) rest staying ∙ rw (body-says command bytes nib few (small .below)),
+      whole-left (body command bytes) rest staying,
+    )
 
 -- What is read whole.
 

@@ -1,17 +1,17 @@
 -- Laws of the stream's definitions: rows of bytes one behind the other, rows that end no frame, and the place where the first frame
 -- ends. Assumes nothing.
 use mathlib.Core.Path.{_≡_, refl, sym, ap, _∙_}
-use mathlib.Core.Bool.{Bool, true, false, not, cond, _&&_, _||_, false≢true}
+use mathlib.Core.Bool.{Bool, true, false, not, _||_, false≢true}
 use mathlib.Core.List.{List, [], _∷_, _++_, append-assoc, append-nil}
-use Prim.Native.Nat.{ℕ, zero, suc, _+_, _≤_, _<_, min}
+use Prim.Native.Nat.{ℕ, suc, _+_, _≤_}
 use native.Mathlib.Omega.{arith}
 use borrow.Author.Tests.{not-true}
-use lib.ListN.{length, take, drop, getD, length-append}
+use lib.ListN.{length, length-append}
 use lib.Dec.{eqb}
-use Rattle.laws.specs.Lists.{every, before}
+use Rattle.laws.specs.Lists.{every}
 use Rattle.laws.proofs.Bools.{and-left, and-right, nor-left, nor-right}
 use Rattle.wire.specs.Frame.{colon, newline}
-use Rattle.wire.specs.Reading.{Ended, bodySays, brokenSays}
+use Rattle.wire.specs.Reading.{Ended, bodySays}
 use Rattle.wire.specs.Stream.{Unfinished, outside, inside, next, endedBy, framesFrom, leftFrom, ends, firstEnd, taken}
 use Rattle.wire.specs.Calls.{stays}
 
@@ -67,6 +67,11 @@ quiet-end u (x ∷ xs) ys e =
 pub quiet-taken : (u : Unfinished) (xs ys : List ℕ) → framesFrom u xs ≡ [] → taken u (xs ++ ys) ≡ length xs + taken (leftFrom u xs) ys
 unfolding taken
 quiet-taken u xs ys e = omega (arith, quiet-end u xs ys e, length-append xs ys)
+
+-- no more is taken than there is
+pub taken-within : (u : Unfinished) (piece : List ℕ) → taken u piece ≤ length piece
+unfolding taken
+taken-within u piece = omega arith
 
 -- with nothing behind it
 pub quiet-all : (u : Unfinished) (xs : List ℕ) → framesFrom u xs ≡ [] → taken u xs ≡ length xs
@@ -131,5 +136,6 @@ pub whole-frames : (chars rest : List ℕ) → every stays chars ≡ true → fr
 whole-frames chars rest e =
     rw (append-assoc chars (newline ∷ []) rest, frames-append (inside []) chars (newline ∷ rest), stay-frames [] chars e, stay-left [] chars e)
 
-pub whole-left : (chars : List ℕ) → every stays chars ≡ true → leftFrom outside (colon ∷ chars ++ newline ∷ []) ≡ outside
-whole-left chars e = left-append (inside []) chars (newline ∷ []) ∙ rw (stay-left [] chars e)
+pub whole-left : (chars rest : List ℕ) → every stays chars ≡ true → leftFrom outside ((colon ∷ chars ++ newline ∷ []) ++ rest) ≡ leftFrom outside rest
+whole-left chars rest e =
+    rw (append-assoc chars (newline ∷ []) rest, left-append (inside []) chars (newline ∷ rest), stay-left [] chars e)

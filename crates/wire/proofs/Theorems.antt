@@ -1,5 +1,5 @@
 -- The statements of specs/Laws.antt, proved. Assumes nothing.
-use Rattle.wire.specs.Laws.{WrittenIsRead, WrittenIsHeard, ReadIsWritten, AnyCutting, FirstEndIsFirst, AllowedIsLeft}
+use Rattle.wire.specs.Laws.{WrittenIsRead, WrittenIsHeard, ReadIsWritten, AnyCutting, FromTheStart, CuttingChangesNothing, FirstEndIsFirst, AllowedIsLeft}
 use Rattle.wire.proofs.RoundTrip.{frame-says, frame-heard, slice-written}
 use Rattle.wire.proofs.Cuts
 use Rattle.wire.proofs.Reached
@@ -15,6 +15,12 @@ read-is-written = slice-written
 
 pub any-cutting : AnyCutting
 any-cutting = Cuts.any-cutting
+
+pub from-the-start : FromTheStart
+from-the-start = Cuts.from-the-start
+
+pub cutting-changes-nothing : CuttingChangesNothing
+cutting-changes-nothing = Cuts.changes-nothing
 
 pub first-end-is-first : FirstEndIsFirst
 first-end-is-first = Cuts.first-end

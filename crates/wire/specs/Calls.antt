@@ -7,9 +7,9 @@ use lib.ListN.{length, take, drop, getD, replicate}
 use lib.Dec.{ltb, leb, eqb}
 use Rattle.laws.specs.Lists.{every}
 use Rattle.laws.specs.Promise.{Given}
-use Rattle.wire.specs.Frame.{colon, newline, frame, frameRoom, mostData}
+use Rattle.wire.specs.Frame.{colon, newline, frame, mostNibble, mostData, frameRoom}
 use Rattle.wire.specs.Reading.{Ended, good, refused, bodySays}
-use Rattle.wire.specs.Stream.{Unfinished, outside, inside, framesFrom, leftFrom, taken}
+use Rattle.wire.specs.Stream.{Unfinished, outside, inside, endsFrame, framesFrom, leftFrom, taken}
 use Rattle.wire.specs.declared.Written.{Written}
 use Rattle.wire.specs.declared.Read.{Read}
 use Rattle.wire.specs.declared.Event.{Event}
@@ -35,7 +35,7 @@ writtenAs bytes = record { answer = Written.Frame (length bytes); written = byte
 unfoldable pub writing : ℕ → List ℕ → ℕ → Given Written
 writing command bytes room =
     cond (ltb room frameRoom) (unwritten shortBuffer)
-    (cond (ltb 15 command || ltb mostData (length bytes)) (unwritten notAllowed)
+    (cond (ltb mostNibble command || ltb mostData (length bytes)) (unwritten notAllowed)
     (writtenAs (frame command bytes)))
 
 -- The whole-frame reader. It refuses "11 if the data buffer is under 35 bytes; [..] then 2 if the slice has under 2 bytes, or does not
@@ -76,9 +76,9 @@ unfinished held = cond (held .inside) (inside (take (held .len) (held .chars))) 
 
 -- neither a newline nor a colon: a character that stays in its frame
 abbrev pub stays : ℕ → Bool
-stays b = not (eqb b newline || eqb b colon)
+stays b = not (endsFrame b)
 
--- the states that bytes can leave (the law `allowed-left` says so, both ways)
+-- the states that bytes can leave (the law AllowedIsLeft of Laws.antt says so, both ways)
 unfoldable pub allowed : Held → Bool
 allowed held =
     leb (held .len) mostHeld && (held .inside || eqb (held .len) zero)
@@ -105,11 +105,12 @@ abbrev pub dataOfFirst : List Ended → List ℕ
 dataOfFirst [] = []
 dataOfFirst (e ∷ rest) = readAs e .written
 
--- the bytes taken, read from what was held
+-- what a piece makes of an unfinished frame: the bytes taken are read from where it stands
 abbrev pub heardOf : Unfinished → List ℕ → Given Heard
-heardOf u bytes =
+heardOf u piece =
+    let bytes = take (taken u piece) piece in
     record {
-      answer = record { held = heldOf (leftFrom u bytes); event = eventOf (framesFrom u bytes); taken = length bytes };
+      answer = record { held = heldOf (leftFrom u bytes); event = eventOf (framesFrom u bytes); taken = taken u piece };
       written = dataOfFirst (framesFrom u bytes);
     }
 
@@ -117,4 +118,4 @@ unfoldable pub hearing : Held → List ℕ → ℕ → Given Heard
 hearing held piece room =
     cond (ltb room mostData) (unheard held shortBuffer)
     (cond (not (allowed held)) (unheard held notAllowed)
-    (heardOf (unfinished held) (take (taken (unfinished held) piece) piece)))
+    (heardOf (unfinished held) piece))

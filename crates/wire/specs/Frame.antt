@@ -15,6 +15,10 @@ newline = 10
 abbrev pub total : ℕ
 total = 0x55
 
+-- the command is one nibble
+abbrev pub mostNibble : ℕ
+mostNibble = 15
+
 -- "Data are 0 to 35 bytes, so at most 73 characters stand between colon and newline."
 abbrev pub mostData : ℕ
 mostData = 35

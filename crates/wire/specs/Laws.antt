@@ -31,7 +31,8 @@ WrittenIsRead =
 abbrev pub WrittenIsHeard : Type 0
 WrittenIsHeard =
     (command : ℕ) (bytes : List ℕ) → command ≤ 15 → length bytes ≤ 35 → Bytes bytes → (rest : List ℕ)
-    → framesFrom outside (frame command bytes ++ rest) ≡ good command bytes ∷ framesFrom outside rest
+    → (framesFrom outside (frame command bytes ++ rest) ≡ good command bytes ∷ framesFrom outside rest)
+    × (leftFrom outside (frame command bytes ++ rest) ≡ leftFrom outside rest)
 
 -- 2. "A frame read whole is byte for byte the one the writer makes for them."
 abbrev pub ReadIsWritten : Type 0
@@ -66,6 +67,19 @@ pub record Cut (earlier bytes : List ℕ) (all : Step Held Ended) : Type 0 where
 
 abbrev pub AnyCutting : Type 0
 AnyCutting = (earlier bytes : List ℕ) (offers : List (Offer ℕ)) → Cut earlier bytes (calls hears (heldOf (leftBy earlier)) bytes offers)
+
+-- So the cutting changes nothing: rows of calls that take as many of the same bytes come to the same, and from the start that is the
+-- frames of the bytes taken and what those leave.
+abbrev pub FromTheStart : Type 0
+FromTheStart =
+    (bytes : List ℕ) (offers : List (Offer ℕ)) (all : Step Held Ended) → all ≡ calls hears (heldOf outside) bytes offers
+    → (all .events ≡ framesOf (take (all .taken) bytes)) × (all .state ≡ heldOf (leftBy (take (all .taken) bytes)))
+
+abbrev pub CuttingChangesNothing : Type 0
+CuttingChangesNothing =
+    (earlier bytes : List ℕ) (offers offers′ : List (Offer ℕ)) (all all′ : Step Held Ended)
+    → all ≡ calls hears (heldOf (leftBy earlier)) bytes offers → all′ ≡ calls hears (heldOf (leftBy earlier)) bytes offers′
+    → all .taken ≡ all′ .taken → all ≡ all′
 
 -- The end that a call stops at is the first: no frame ends before it, and where it is within the piece one ends there.
 pub record FirstAt (u : Unfinished) (piece : List ℕ) : Type 0 where

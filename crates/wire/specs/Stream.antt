@@ -41,10 +41,13 @@ framesOf = framesFrom outside
 abbrev pub leftBy : List ℕ → Unfinished
 leftBy = leftFrom outside
 
--- whether a byte ends a frame
+-- whether a byte ends a frame: inside one, a newline and a colon do
+abbrev pub endsFrame : ℕ → Bool
+endsFrame b = eqb b newline || eqb b colon
+
 abbrev pub ends : Unfinished → ℕ → Bool
 ends outside b = false
-ends (inside chars) b = eqb b newline || eqb b colon
+ends (inside chars) b = endsFrame b
 
 -- the place of the first byte that ends a frame, and the length where none does
 abbrev pub firstEnd : Unfinished → List ℕ → ℕ

@@ -3,10 +3,10 @@ ghost use Prim.Native.Nat.{_+_, _≤_, _<_, _-_, min};
 ghost use mathlib.Core.Path.{_≡_};
 ghost use mathlib.Core.Bool.{true, _||_};
 ghost use mathlib.Core.List.{[], _++_};
-ghost use lib.ListN.{length, take, drop};
+ghost use lib.ListN.{length, take};
 ghost use lib.Dec.{eqb};
 ghost use Rattle.laws.specs.Lists.{before, every};
-ghost use Rattle.laws.specs.Promise.{overlaid, Gives};
+ghost use Rattle.laws.specs.Promise.{Gives};
 ghost use Rattle.wire.specs.Calls.{allowed, unfinished, heldOf, heardOf, unheard, stays, eventFrom, readAs};
 ghost use Rattle.wire.specs.Stream.{inside, taken};
 ghost use Rattle.wire.specs.Reading.{brokenSays};
@@ -165,7 +165,7 @@ fn broken(len: usize) -> Event
 // The call inside a frame.
 fn in_frame(held: Held, piece: &[u8], into: &mut [u8]) -> Heard
     requires { ⌜ (allowed held ≡ true) × (held .inside ≡ true) × (35 ≤ length (now into)) ⌝ }
-    ensures { λ r. ⌜ Gives Heard (heardOf (unfinished held) (take (taken (unfinished held) (now (piece .entry))) (now (piece .entry)))) (now (into .entry)) r (now (into .exit)) ⌝ }
+    ensures { λ r. ⌜ Gives Heard (heardOf (unfinished held) (now (piece .entry))) (now (into .entry)) r (now (into .exit)) ⌝ }
 {
     let end = first_of(piece, crate::NEWLINE, crate::COLON);
     let whole = with_more(held, &piece[..end]);
@@ -196,7 +196,7 @@ fn in_frame(held: Held, piece: &[u8], into: &mut [u8]) -> Heard
 // The call on an allowed state with room enough: outside a frame all is skipped up to the first colon.
 pub(crate) fn heard(held: Held, piece: &[u8], into: &mut [u8]) -> Heard
     requires { ⌜ (allowed held ≡ true) × (35 ≤ length (now into)) ⌝ }
-    ensures { λ r. ⌜ Gives Heard (heardOf (unfinished held) (take (taken (unfinished held) (now (piece .entry))) (now (piece .entry)))) (now (into .entry)) r (now (into .exit)) ⌝ }
+    ensures { λ r. ⌜ Gives Heard (heardOf (unfinished held) (now (piece .entry))) (now (into .entry)) r (now (into .exit)) ⌝ }
 {
     if held.inside {
         return in_frame(held, piece, into);

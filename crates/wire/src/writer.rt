@@ -1,12 +1,11 @@
 // The frame writer.
 ghost use Prim.Native.Nat.{_+_, _*_, _≤_, _<_, _%_};
 ghost use mathlib.Core.Path.{_≡_};
-ghost use mathlib.Core.List.{[], _∷_, _++_};
-ghost use lib.ListN.{length, set};
+ghost use mathlib.Core.List.{[], _∷_};
+ghost use lib.ListN.{length};
 ghost use lib.Seq.{sets};
 ghost use Rattle.laws.specs.Lists.{sumOf};
 ghost use Rattle.laws.specs.Promise.{overlaid};
-ghost use Rattle.wire.specs.Digits.{digit};
 ghost use Rattle.wire.specs.Frame.{frame, check, digitsOf};
 use crate::digits;
 

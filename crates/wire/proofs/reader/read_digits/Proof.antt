@@ -7,9 +7,8 @@ use borrow.Author.Needs.{needs}
 use borrow.Author.Tests.{eq-eqb, ne-eqb}
 use lib.ListN.{length, length-take}
 use Rattle.laws.specs.Lists.{sumOf}
-use Rattle.laws.specs.Promise.{overlaid}
 use Rattle.laws.proofs.Promise.{gives-none, gives-bytes}
-use Rattle.wire.specs.Reading.{commandOf, payloadOf, dataOf}
+use Rattle.wire.specs.Reading.{commandOf, payloadOf}
 use Rattle.wire.specs.Calls.{readAs}
 use Rattle.wire.proofs.Bytes.{odd-count, length-data, payload-part, data-part}
 use Rattle.wire.proofs.Answers.{body-sum, body-good}

@@ -1,5 +1,4 @@
 -- `wire::stream::broken` meets its contract. Assumes nothing.
-use borrow.Author.Needs.{needs}
 use Rattle.wire.proofs.Answers.{broken-long, broken-short}
 use Rattle.wire.proofs.stream.broken.Statement.{statement}
 use Rattle.wire.proofs.stream.broken.Tie as tie

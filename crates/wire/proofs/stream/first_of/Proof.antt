@@ -1,11 +1,10 @@
 -- `wire::stream::first_of` meets its contract. Assumes nothing.
 use Prim.Native.Nat.{_+_, _≤_, _-_}
 use mathlib.Core.Path.{_≡_, sym, _∙_}
-use mathlib.Core.Bool.{Bool, _||_}
+use mathlib.Core.Bool.{_||_}
 use borrow.Author.Needs.{needs}
-use native.Mathlib.Omega.{arith}
 use borrow.Author.Tests.{eq-eqb, ne-eqb}
-use lib.ListN.{length, drop, drop-of-length-le}
+use lib.ListN.{length, drop}
 use lib.Dec.{eqb}
 use Rattle.laws.specs.Lists.{before}
 use Rattle.laws.proofs.Lists.{before-turn, before-here, before-end}

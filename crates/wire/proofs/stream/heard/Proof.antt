@@ -1,16 +1,17 @@
 -- `wire::stream::heard` meets its contract. Assumes nothing.
-use Prim.Native.Nat.{_≤_, _<_, _+_, _-_}
-use mathlib.Core.Path.{_≡_, refl, sym, ap, _∙_}
+use Prim.Native.Nat.{_≤_, _<_, _+_}
+use mathlib.Core.Path.{_≡_, refl}
 use mathlib.Core.List.{[]}
 use native.Mathlib.Omega.{arith}
 use borrow.Author.Needs.{needs}
-use lib.ListN.{length, take, drop, length-take, length-drop}
+use lib.ListN.{length, drop, length-drop}
 use Rattle.laws.proofs.Lists.{before-first}
 use Rattle.laws.specs.Promise.{Gives}
 use Rattle.laws.proofs.Promise.{gives-none}
 use Rattle.wire.specs.Stream.{inside, taken}
 use Rattle.wire.specs.Calls.{heldOf, heardOf}
 use Rattle.wire.specs.declared.Heard.{Heard}
+use Rattle.wire.proofs.Streams.{taken-within}
 use Rattle.wire.proofs.Helds.{part-to-end, allowed-inside, unfinished-held}
 use Rattle.wire.proofs.Hearing.{colonAt, call-skipped, call-begun, gives-behind}
 use Rattle.wire.proofs.stream.heard.Statement.{statement}
@@ -25,11 +26,11 @@ some c =
     omega arith
 
 -- what is found in the frame that the colon begins
-found : (c : tie.After-in-frame2) → Gives Heard (heardOf (inside []) (take (taken (inside []) (drop (c .before .before .before .before .before .first-of .result + 1) (c .before .before .before .before .before .before .before .before .before .args .piece .now))) (drop (c .before .before .before .before .before .first-of .result + 1) (c .before .before .before .before .before .before .before .before .before .args .piece .now)))) (c .before .before .before .before .before .before .before .before .before .args .into .now) (c .in-frame2 .result) (c .in-frame2 .last .1 .1 .0)
+found : (c : tie.After-in-frame2) → Gives Heard (heardOf (inside []) (drop (c .before .before .before .before .before .first-of .result + 1) (c .before .before .before .before .before .before .before .before .before .args .piece .now))) (c .before .before .before .before .before .before .before .before .before .args .into .now) (c .in-frame2 .result) (c .in-frame2 .last .1 .1 .0)
 found c = rw (c .before .before .before .begun .ensures, unfinished-held [], part-to-end (c .before .before .before .before .before .before .before .before .before .args .piece .now) _ (c .before .before .before .before .before .first-of .result + 1) refl) at (c .in-frame2 .ensures)
 
 within : (c : tie.After-in-frame2) → c .in-frame2 .result .taken ≤ length (drop (c .before .before .before .before .before .first-of .result + 1) (c .before .before .before .before .before .before .before .before .before .args .piece .now))
-within c = rw (found c .answered) (rw length-take (omega arith))
+within c = rw (found c .answered) (taken-within (inside []) _)
 
 in-frame-requires : tie.Need-in-frame-requires
 in-frame-requires c κs = search needs

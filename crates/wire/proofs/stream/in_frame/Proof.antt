@@ -1,18 +1,18 @@
 -- `wire::stream::in_frame` meets its contract. Assumes nothing.
-use Prim.Native.Nat.{_≤_, _<_, _+_, _-_}
-use mathlib.Core.Path.{_≡_, sym, ap, _∙_}
+use Prim.Native.Nat.{_≤_, _<_}
 use native.Mathlib.Omega.{arith}
 use borrow.Author.Needs.{needs}
 use lib.ListN.{length, length-take}
 use Rattle.laws.proofs.Lists.{before-first}
 use Rattle.laws.proofs.Promise.{gives-none, gives-bytes}
+use Rattle.wire.specs.Stream.{endsFrame}
 use Rattle.wire.proofs.Helds.{held-fits}
-use Rattle.wire.proofs.Hearing.{endOf, call-nothing, call-colon, call-newline}
+use Rattle.wire.proofs.Hearing.{call-nothing, call-colon, call-newline}
 use Rattle.wire.proofs.stream.in_frame.Statement.{statement}
 use Rattle.wire.proofs.stream.in_frame.Tie as tie
 
 short : (c : tie.After-first-of) → c .first-of .result ≤ length (c .before .before .before .args .piece .now)
-short c = rw (c .first-of .ensures) (before-first endOf (c .before .before .before .args .piece .now) .inside)
+short c = rw (c .first-of .ensures) (before-first endsFrame (c .before .before .before .args .piece .now) .inside)
 
 some : (c : tie.Else1) → c .before .before .before .first-of .result < length (c .before .before .before .before .before .before .args .piece .now)
 some c = omega (arith, short (c .before .before .before))

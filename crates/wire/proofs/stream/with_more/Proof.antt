@@ -1,6 +1,6 @@
 -- `wire::stream::with_more` meets its contract. Assumes nothing.
-use Prim.Native.Nat.{_≤_, _-_, min}
-use mathlib.Core.Path.{_≡_, sym, ap, _∙_}
+use Prim.Native.Nat.{_≤_}
+use mathlib.Core.Path.{_≡_}
 use native.Mathlib.Omega.{arith}
 use borrow.Author.Needs.{needs}
 use lib.ListN.{length, length-take, length-drop}

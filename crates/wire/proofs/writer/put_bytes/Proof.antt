@@ -1,10 +1,9 @@
 -- `wire::writer::put_bytes` meets its contract. Assumes nothing.
 use Prim.Native.Nat.{_+_, _*_, _≤_, _-_}
-use mathlib.Core.Path.{_≡_, refl, sym, ap, _∙_}
+use mathlib.Core.Path.{_≡_, refl, sym, _∙_}
 use native.Mathlib.Nat.{add-zero}
-use native.Mathlib.Omega.{arith}
 use borrow.Author.Needs.{needs}
-use lib.ListN.{length, drop, drop-of-length-le}
+use lib.ListN.{length, drop}
 use lib.Seq.{sets}
 use Rattle.wire.specs.Frame.{digitsOf}
 use Rattle.wire.proofs.Bytes.{digits-turn, digits-end}

@@ -1,6 +1,6 @@
 -- `wire::writer::sum_of` meets its contract. Assumes nothing.
 use Prim.Native.Nat.{_+_, _≤_, _<_, _-_, _%_}
-use mathlib.Core.Path.{_≡_, sym, _∙_}
+use mathlib.Core.Path.{_≡_, _∙_}
 use native.Mathlib.Omega.{arith}
 use borrow.Author.Needs.{needs}
 use lib.ListN.{length, drop}
