@@ -176,12 +176,14 @@ fn in_frame(held: Held, piece: &[u8], into: &mut [u8]) -> Heard
             taken: end,
         };
     }
+    let taken = end + 1;
     let len = whole.len;
     if piece[end] == crate::COLON {
+        let next = begun();
         return Heard {
-            held: begun(),
+            held: next,
             event: broken(len),
-            taken: end + 1,
+            taken,
         };
     }
     let chars = whole.chars;
@@ -189,7 +191,7 @@ fn in_frame(held: Held, piece: &[u8], into: &mut [u8]) -> Heard
     Heard {
         held: Held::outside(),
         event: event_of(read),
-        taken: end + 1,
+        taken,
     }
 }
 

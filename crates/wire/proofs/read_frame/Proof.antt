@@ -16,7 +16,10 @@ enclosed : (c : tie.Else2) → wellEnclosed (c .before .before .before .before .
 enclosed c = sym (c .before .well-enclosed .ensures) ∙ not-false _ (c .if2 .left)
 
 long : (c : tie.Else2) → 2 ≤ length (c .before .before .before .before .before .args .frame .now)
-long c = enclosed-long (c .before .before .before .before .before .args .frame .now) (enclosed c)
+long c =
+    let c5 = c .before .before .before .before .before in
+    let c5 = c5 in
+    enclosed-long (c5 .args .frame .now) (enclosed c)
 
 returns : tie.Need-returns
 returns c = gives-none _ (reading-short _ _ (c .if1 .taken))
@@ -47,9 +50,17 @@ same-length c = search needs
 
 returns-3 : tie.Need-returns-3
 returns-3 c =
-    let s = c .before .before .before .before .before .before .before .before .before .before .args .frame .now in
+    let c5 = c .before .before .before .before .before in
+    let c5 = c5 in
+    let c7 = c5 .before .before in
+    let c10 = c7 .before .before .before in
+    let s = c10 .args .frame .now in
     let ends : length s - 1 - 1 ≡ length s - 2 = omega arith in
-    rw (reading-between s _ (c .before .before .before .before .before .before .before .if1 .left) (enclosed (c .before .before .before .before .before))) (rw ends at (c .before .before .read-body .ensures))
+    rw (reading-between s _ (c7 .if1 .left) (enclosed c5)) (rw ends at (c .before .before .read-body .ensures))
 
 pub read-frame-spec : {M : Type 1} → statement M
-read-frame-spec = tie.close (tie.spec returns well-enclosed-requires returns-2 sub-read-body sub-read-body-2 part-read-body-start part-read-body-end read-body-requires same-length returns-3)
+read-frame-spec =
+    tie.close
+    (tie.spec
+    returns well-enclosed-requires returns-2 sub-read-body sub-read-body-2 part-read-body-start part-read-body-end
+    read-body-requires same-length returns-3)

@@ -23,8 +23,15 @@ same-length c = search needs
 
 returns-4 : tie.Need-returns-4
 returns-4 c =
+    let c4 = c .before .before .before .before in
+    let c4 = c4 in
+    let c5 = c4 .before in
+    let c6 = c5 .before in
     rw (c .before .before .put-frame .ensures .0)
-    (gives-bytes _ _ _ (writing-made _ _ _ (c .before .before .before .before .before .before .if1 .left) (c .before .before .before .before .before .if2 .left) (c .before .before .before .before .if3 .left)) (c .before .before .put-frame .ensures .1))
+    (gives-bytes _ _ _ (writing-made _ _ _ (c6 .if1 .left) (c5 .if2 .left) (c4 .if3 .left)) (c .before .before .put-frame .ensures .1))
 
 pub write-frame-spec : {M : Type 1} → statement M
-write-frame-spec = tie.close (tie.spec returns returns-2 returns-3 put-frame-requires same-length returns-4)
+write-frame-spec =
+    tie.close
+    (tie.spec
+    returns returns-2 returns-3 put-frame-requires same-length returns-4)

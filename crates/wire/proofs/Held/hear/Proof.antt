@@ -29,7 +29,14 @@ same-length : tie.Need-same-length
 same-length c = search needs
 
 returns-3 : tie.Need-returns-3
-returns-3 c = rw (hearing-heard _ _ _ (c .before .before .before .before .before .before .if1 .left) (sym (c .before .before .before .before .before .is-allowed .ensures) ∙ not-false _ (c .before .before .before .before .if2 .left))) (c .before .before .heard .ensures)
+returns-3 c =
+    let c4 = c .before .before .before .before in
+    let c5 = c4 .before in
+    let c6 = c5 .before in
+    rw (hearing-heard _ _ _ (c6 .if1 .left) (sym (c5 .is-allowed .ensures) ∙ not-false _ (c4 .if2 .left))) (c .before .before .heard .ensures)
 
 pub hear-spec : {M : Type 1} → statement M
-hear-spec = tie.close (tie.spec refused-requires returns is-allowed-requires refused-requires-2 returns-2 heard-requires same-length returns-3)
+hear-spec =
+    tie.close
+    (tie.spec
+    refused-requires returns is-allowed-requires refused-requires-2 returns-2 heard-requires same-length returns-3)

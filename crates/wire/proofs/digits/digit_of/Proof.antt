@@ -23,4 +23,7 @@ unfolding digit
 returns-2 c = simp (le-ltb _ _ (c .if1 .left))
 
 pub digit-of-spec : {M : Type 1} → statement M
-digit-of-spec = tie.close (tie.spec add-result sub-result add-result-2 returns returns-2)
+digit-of-spec =
+    tie.close
+    (tie.spec
+    add-result sub-result add-result-2 returns returns-2)

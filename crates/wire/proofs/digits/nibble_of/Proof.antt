@@ -31,4 +31,7 @@ unfolding nibble
 returns-5 c = simp (lt-leb _ 57 (c .before .before .if2 .left), lt-leb _ 70 (c .if4 .left), and-false)
 
 pub nibble-of-spec : {M : Type 1} → statement M
-nibble-of-spec = tie.close (tie.spec returns returns-2 returns-3 add-result returns-4 returns-5)
+nibble-of-spec =
+    tie.close
+    (tie.spec
+    returns returns-2 returns-3 add-result returns-4 returns-5)

@@ -35,4 +35,7 @@ returns : tie.Need-returns Inv-loop μ-loop
 returns c = seen-end (c .loop-test .left) (c .before .loop .inv)
 
 pub all-digits-spec : {M : Type 1} → statement M
-all-digits-spec = tie.close (tie.spec Inv-loop μ-loop loop-holds shared-slice-read-nibble-of nibble-of-requires add-i loop-less loop-again returns)
+all-digits-spec =
+    tie.close
+    (tie.spec
+    Inv-loop μ-loop loop-holds shared-slice-read-nibble-of nibble-of-requires add-i loop-less loop-again returns)

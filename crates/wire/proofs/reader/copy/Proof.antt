@@ -40,4 +40,7 @@ returns : tie.Need-returns Inv-loop μ-loop
 returns c = sym (sets-end _ _ _ _ (c .loop-test .left)) ∙ c .before .loop .inv .2 ∙ overlaid-sets _ _ (c .before .before .pre)
 
 pub copy-spec : {M : Type 1} → statement M
-copy-spec = tie.close (tie.spec Inv-loop μ-loop loop-holds shared-slice-read-into slice-write-into add-i loop-less loop-again same-length returns)
+copy-spec =
+    tie.close
+    (tie.spec
+    Inv-loop μ-loop loop-holds shared-slice-read-into slice-write-into add-i loop-less loop-again same-length returns)

@@ -46,9 +46,10 @@ shared-slice-read-byte-of-2 c = search needs
 
 byte-of-requires : tie.Need-byte-of-requires Inv-loop μ-loop
 byte-of-requires c κs =
+    let c5 = c .before .before .before .before .before in
     let i = c .before .before .before .loop .i in
-    let chars = c .before .before .before .before .before .args .chars .now in
-    let digits = c .before .before .before .before .before .pre .1 in
+    let chars = c5 .args .chars .now in
+    let digits = c5 .pre .1 in
     (nibble-at chars digits (2 * i + 1) (omega arith), nibble-at chars digits (2 * i + 2) (omega arith))
 
 array-write-payload : tie.Need-array-write-payload Inv-loop μ-loop
@@ -61,10 +62,16 @@ loop-less : tie.Need-loop-less Inv-loop μ-loop
 loop-less c = search needs
 
 loop-again : tie.Need-loop-again Inv-loop μ-loop
-loop-again c = (search needs, simp length-set (c .before .before .before .before .loop .inv .1), rw (c .byte-of .ensures) (bytes-turn _ _ (c .before .before .before .loop-test .taken) _) ∙ c .before .before .before .before .loop .inv .2)
+loop-again c =
+    let c4 = c .before .before .before .before in
+    (search needs, simp length-set (c4 .loop .inv .1), rw (c .byte-of .ensures) (bytes-turn _ _ (c .before .before .before .loop-test .taken) _) ∙ c4 .loop .inv .2)
 
 returns : tie.Need-returns Inv-loop μ-loop
 returns c = (c .before .loop .inv .1, payload-front _ _ (c .loop-test .left) (c .before .before .before .pre .0) _ (c .before .loop .inv .2))
 
 pub payload-of-spec : {M : Type 1} → statement M
-payload-of-spec = tie.close (tie.spec Inv-loop μ-loop loop-holds mul-loop add-loop mul-byte-of add-byte-of shared-slice-read-byte-of mul-byte-of-2 add-byte-of-2 shared-slice-read-byte-of-2 byte-of-requires array-write-payload add-i loop-less loop-again returns)
+payload-of-spec =
+    tie.close
+    (tie.spec
+    Inv-loop μ-loop loop-holds mul-loop add-loop mul-byte-of add-byte-of shared-slice-read-byte-of mul-byte-of-2 add-byte-of-2
+    shared-slice-read-byte-of-2 byte-of-requires array-write-payload add-i loop-less loop-again returns)

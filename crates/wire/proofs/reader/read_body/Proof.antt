@@ -22,13 +22,15 @@ bad-count-requires c κs = search needs
 
 returns-3 : tie.Need-returns-3
 returns-3 c =
+    let c4 = c .before .before .before .before in
     gives-none _
     (ap readAs
-    (body-count _ (c .before .before .before .before .if1 .left) (sym (c .before .before .before .all-digits .ensures) ∙ not-false _ (c .before .before .if2 .left)) (sym (c .before .bad-count .ensures) ∙ c .if3 .taken)))
+    (body-count _ (c4 .if1 .left) (sym (c .before .before .before .all-digits .ensures) ∙ not-false _ (c .before .before .if2 .left)) (sym (c .before .bad-count .ensures) ∙ c .if3 .taken)))
 
 read-digits-requires : tie.Need-read-digits-requires
 read-digits-requires c κs =
-    (search needs, sym (c .before .before .before .before .all-digits .ensures) ∙ not-false _ (c .before .before .before .if2 .left), sym (c .before .before .bad-count .ensures) ∙ c .before .if3 .left, search needs)
+    let c4 = c .before .before .before .before in
+    (search needs, sym (c4 .all-digits .ensures) ∙ not-false _ (c .before .before .before .if2 .left), sym (c .before .before .bad-count .ensures) ∙ c .before .if3 .left, search needs)
 
 same-length : tie.Need-same-length
 same-length c = search needs
@@ -37,4 +39,7 @@ returns-4 : tie.Need-returns-4
 returns-4 c = search needs
 
 pub read-body-spec : {M : Type 1} → statement M
-read-body-spec = tie.close (tie.spec returns all-digits-requires returns-2 bad-count-requires returns-3 read-digits-requires same-length returns-4)
+read-body-spec =
+    tie.close
+    (tie.spec
+    returns all-digits-requires returns-2 bad-count-requires returns-3 read-digits-requires same-length returns-4)

@@ -22,7 +22,9 @@ payload-of-requires : tie.Need-payload-of-requires
 payload-of-requires c κs = search needs
 
 shared-slice-read-nibble-of : tie.Need-shared-slice-read-nibble-of
-shared-slice-read-nibble-of c = omega (arith, many (c .before .before .before .before))
+shared-slice-read-nibble-of c =
+    let c4 = c .before .before .before .before in
+    omega (arith, many c4)
 
 nibble-of-requires : tie.Need-nibble-of-requires
 nibble-of-requires c κs = search needs
@@ -45,37 +47,58 @@ add-if1 c = search needs
 -- the sum as it was taken is that of the whole payload
 sums : (c : tie.After-sum-of) → (c .before .before .nibble-of .result + c .sum-of .result) % 256 ≡ (commandOf (c .before .before .before .before .before .before .before .args .chars .now) + sumOf (payloadOf (c .before .before .before .before .before .before .before .args .chars .now))) % 256
 sums c =
-    rw (c .before .before .nibble-of .ensures, c .sum-of .ensures, payload-part _ _ (c .before .before .before .before .before .before .before .pre .2) (c .before .before .before .before .payload-of .ensures .1)) (add-mod-mod _ _ 256)
+    let c4 = c .before .before .before .before in
+    let c7 = c4 .before .before .before in
+    rw (c .before .before .nibble-of .ensures, c .sum-of .ensures, payload-part _ _ (c7 .pre .2) (c4 .payload-of .ensures .1)) (add-mod-mod _ _ 256)
 
 returns : tie.Need-returns
 returns c =
-    let pre = c .before .before .before .before .before .before .before .before .pre in
+    let c8 = c .before .before .before .before .before .before .before .before in
+    let pre = c8 .pre in
     gives-none _ (ap readAs (body-sum _ (pre .0) (pre .1) (pre .2) (ne-eqb _ _ (λ e. c .if1 .taken (sums (c .before) ∙ e)))))
 
 sub-payload : tie.Need-sub-payload
-sub-payload c = omega (arith, many (c .before .before .before .before .before .before .before .before))
+sub-payload c =
+    let c8 = c .before .before .before .before .before .before .before .before in
+    omega (arith, many c8)
 
 array-share-prefix-payload-2 : tie.Need-array-share-prefix-payload-2
 array-share-prefix-payload-2 c = search needs
 
 slice-aggregate-copy : tie.Need-slice-aggregate-copy
-slice-aggregate-copy c = rw length-take (omega (arith, c .before .before .before .before .before .before .payload-of .ensures .0))
+slice-aggregate-copy c =
+    let c6 = c .before .before .before .before .before .before in
+    rw length-take (omega (arith, c6 .payload-of .ensures .0))
 
 copy-requires : tie.Need-copy-requires
-copy-requires c κs = rw length-take (omega (arith, c .before .before .before .before .before .before .before .payload-of .ensures .0))
+copy-requires c κs =
+    let c7 = c .before .before .before .before .before .before .before in
+    rw length-take (omega (arith, c7 .payload-of .ensures .0))
 
 sub-t10 : tie.Need-sub-t10
-sub-t10 c = omega (arith, many (c .before .before .before .before .before .before .before .before .before .before .before .before .before))
+sub-t10 c =
+    let c13 = c .before .before .before .before .before .before .before .before .before .before .before .before .before in
+    omega (arith, many c13)
 
 same-length : tie.Need-same-length
 same-length c = search needs
 
 returns-2 : tie.Need-returns-2
 returns-2 c =
-    let pre = c .before .before .before .before .before .before .before .before .before .before .before .before .before .pre in
-    rw (c .before .before .before .before .before .before .before .before .nibble-of .ensures, ← length-data (c .before .before .before .before .before .before .before .before .before .before .before .before .before .args .chars .now) (pre .2))
-    (gives-bytes _ _ _ (ap readAs (body-good _ (pre .0) (pre .1) (pre .2) (eq-eqb _ _ (sym (sums (c .before .before .before .before .before .before)) ∙ c .before .before .before .before .before .if1 .left))))
-    (rw (data-part _ _ (pre .2) (c .before .before .before .before .before .before .before .before .before .before .payload-of .ensures .1)) at (c .before .before .copy .ensures)))
+    let c5 = c .before .before .before .before .before in
+    let c6 = c5 .before in
+    let c8 = c6 .before .before in
+    let c10 = c8 .before .before in
+    let c13 = c10 .before .before .before in
+    let pre = c13 .pre in
+    rw (c8 .nibble-of .ensures, ← length-data (c13 .args .chars .now) (pre .2))
+    (gives-bytes _ _ _ (ap readAs (body-good _ (pre .0) (pre .1) (pre .2) (eq-eqb _ _ (sym (sums c6) ∙ c5 .if1 .left))))
+    (rw (data-part _ _ (pre .2) (c10 .payload-of .ensures .1)) at (c .before .before .copy .ensures)))
 
 pub read-digits-spec : {M : Type 1} → statement M
-read-digits-spec = tie.close (tie.spec payload-of-requires shared-slice-read-nibble-of nibble-of-requires cast-if1 array-share-prefix-payload slice-aggregate-sum-of sum-of-requires add-if1 returns sub-payload array-share-prefix-payload-2 slice-aggregate-copy copy-requires sub-t10 same-length returns-2)
+read-digits-spec =
+    tie.close
+    (tie.spec
+    payload-of-requires shared-slice-read-nibble-of nibble-of-requires cast-if1 array-share-prefix-payload slice-aggregate-sum-of
+    sum-of-requires add-if1 returns sub-payload array-share-prefix-payload-2 slice-aggregate-copy copy-requires sub-t10
+    same-length returns-2)

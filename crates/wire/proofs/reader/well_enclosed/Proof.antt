@@ -23,4 +23,7 @@ returns-3 : tie.Need-returns-3
 returns-3 c = simp (le-leb _ _ (c .before .before .if1 .left), ne-eqb _ _ (c .if2 .left))
 
 pub well-enclosed-spec : {M : Type 1} → statement M
-well-enclosed-spec = tie.close (tie.spec returns shared-slice-read-if2 sub-result shared-slice-read-result returns-2 returns-3)
+well-enclosed-spec =
+    tie.close
+    (tie.spec
+    returns shared-slice-read-if2 sub-result shared-slice-read-result returns-2 returns-3)

@@ -35,4 +35,7 @@ returns : tie.Need-returns Inv-loop μ-loop
 returns c = seen-end (c .loop-test .left) (c .before .loop .inv)
 
 pub all-stay-spec : {M : Type 1} → statement M
-all-stay-spec = tie.close (tie.spec Inv-loop μ-loop loop-holds shared-slice-read-stays-in stays-in-requires add-i loop-less loop-again returns)
+all-stay-spec =
+    tie.close
+    (tie.spec
+    Inv-loop μ-loop loop-holds shared-slice-read-stays-in stays-in-requires add-i loop-less loop-again returns)

@@ -32,4 +32,7 @@ returns : tie.Need-returns Inv-loop μ-loop
 returns c = seen-end (c .loop-test .left) (c .before .loop .inv)
 
 pub all-zero-spec : {M : Type 1} → statement M
-all-zero-spec = tie.close (tie.spec Inv-loop μ-loop loop-holds shared-slice-read-all add-i loop-less loop-again returns)
+all-zero-spec =
+    tie.close
+    (tie.spec
+    Inv-loop μ-loop loop-holds shared-slice-read-all add-i loop-less loop-again returns)

@@ -18,4 +18,7 @@ returns-2 : tie.Need-returns-2
 returns-2 c = sym (ap eventFrom (c .before .read2 .given .1))
 
 pub event-of-spec : {M : Type 1} → statement M
-event-of-spec = tie.close (tie.spec enum-known-read enum-known-read-2 returns returns-2)
+event-of-spec =
+    tie.close
+    (tie.spec
+    enum-known-read enum-known-read-2 returns returns-2)

@@ -27,7 +27,9 @@ returns : tie.Need-returns Inv-loop μ-loop
 returns c = sym (before-here _ _ (c .before .before .loop-test .taken) _ (simp (eq-eqb _ _ (c .if1 .taken)))) ∙ c .before .before .before .loop .inv .1
 
 returns-2 : tie.Need-returns-2 Inv-loop μ-loop
-returns-2 c = sym (before-here _ _ (c .before .before .before .loop-test .taken) _ (simp (ne-eqb _ _ (c .before .if1 .left), eq-eqb _ _ (c .if2 .taken)))) ∙ c .before .before .before .before .loop .inv .1
+returns-2 c =
+    let c4 = c .before .before .before .before in
+    sym (before-here _ _ (c .before .before .before .loop-test .taken) _ (simp (ne-eqb _ _ (c .before .if1 .left), eq-eqb _ _ (c .if2 .taken)))) ∙ c4 .loop .inv .1
 
 add-i : tie.Need-add-i Inv-loop μ-loop
 add-i c = search needs
@@ -36,10 +38,15 @@ loop-less : tie.Need-loop-less Inv-loop μ-loop
 loop-less c = search needs
 
 loop-again : tie.Need-loop-again Inv-loop μ-loop
-loop-again c = (search needs, before-turn _ _ (c .before .before .before .loop-test .taken) _ (simp (ne-eqb _ _ (c .before .if1 .left), ne-eqb _ _ (c .if2 .left))) ∙ c .before .before .before .before .loop .inv .1)
+loop-again c =
+    let c4 = c .before .before .before .before in
+    (search needs, before-turn _ _ (c .before .before .before .loop-test .taken) _ (simp (ne-eqb _ _ (c .before .if1 .left), ne-eqb _ _ (c .if2 .left))) ∙ c4 .loop .inv .1)
 
 returns-3 : tie.Need-returns-3 Inv-loop μ-loop
 returns-3 c = sym (before-end _ _ _ (c .loop-test .left)) ∙ c .before .loop .inv .1
 
 pub first-of-spec : {M : Type 1} → statement M
-first-of-spec = tie.close (tie.spec Inv-loop μ-loop loop-holds shared-slice-read-b returns returns-2 add-i loop-less loop-again returns-3)
+first-of-spec =
+    tie.close
+    (tie.spec
+    Inv-loop μ-loop loop-holds shared-slice-read-b returns returns-2 add-i loop-less loop-again returns-3)

@@ -22,12 +22,16 @@ chars-long c = search needs
 
 some : (c : tie.Else2) → c .before .first-of .result < length (c .before .before .before .before .before .args .piece .now)
 some c =
-    let short : c .before .first-of .result ≤ length (c .before .before .before .before .before .args .piece .now) = rw (c .before .first-of .ensures) (before-first colonAt (c .before .before .before .before .before .args .piece .now) .inside) in
+    let c5 = c .before .before .before .before .before in
+    let short : c .before .first-of .result ≤ length (c5 .args .piece .now) = rw (c .before .first-of .ensures) (before-first colonAt (c5 .args .piece .now) .inside) in
     omega arith
 
 -- what is found in the frame that the colon begins
 found : (c : tie.After-in-frame2) → Gives Heard (heardOf (inside []) (drop (c .before .before .before .before .before .first-of .result + 1) (c .before .before .before .before .before .before .before .before .before .args .piece .now))) (c .before .before .before .before .before .before .before .before .before .args .into .now) (c .in-frame2 .result) (c .in-frame2 .last .1 .1 .0)
-found c = rw (c .before .before .before .begun .ensures, unfinished-held [], part-to-end (c .before .before .before .before .before .before .before .before .before .args .piece .now) _ (c .before .before .before .before .before .first-of .result + 1) refl) at (c .in-frame2 .ensures)
+found c =
+    let c5 = c .before .before .before .before .before in
+    let c9 = c5 .before .before .before .before in
+    rw (c .before .before .before .begun .ensures, unfinished-held [], part-to-end (c9 .args .piece .now) _ (c5 .first-of .result + 1) refl) at (c .in-frame2 .ensures)
 
 within : (c : tie.After-in-frame2) → c .in-frame2 .result .taken ≤ length (drop (c .before .before .before .before .before .first-of .result + 1) (c .before .before .before .before .before .before .before .before .before .args .piece .now))
 within c = rw (found c .answered) (taken-within (inside []) _)
@@ -45,7 +49,9 @@ first-of-requires : tie.Need-first-of-requires
 first-of-requires c κs = search needs
 
 returns-2 : tie.Need-returns-2
-returns-2 c = gives-none _ (call-skipped _ (c .before .before .before .before .before .pre .0) (chars-long (c .before .before .before .before .before)) (c .before .before .if1 .left) _ _ (c .before .first-of .ensures) (c .if2 .taken))
+returns-2 c =
+    let c5 = c .before .before .before .before .before in
+    gives-none _ (call-skipped _ (c5 .pre .0) (chars-long c5) (c .before .before .if1 .left) _ _ (c .before .first-of .ensures) (c .if2 .taken))
 
 begun-requires : tie.Need-begun-requires
 begun-requires c κs = search needs
@@ -66,16 +72,31 @@ in-frame-requires-2 : tie.Need-in-frame-requires-2
 in-frame-requires-2 c κs = rw (c .before .before .begun .ensures) (allowed-inside [] refl, unfold heldOf in refl, search needs)
 
 add-t11 : tie.Need-add-t11
-add-t11 c = omega (arith, some (c .before .before .before .before .before .before .before))
+add-t11 c =
+    let c7 = c .before .before .before .before .before .before .before in
+    omega (arith, some c7)
 
 add-t15 : tie.Need-add-t15
-add-t15 c = omega (arith, some (c .before .before .before .before .before .before .before .before), rw length-drop at (within (c .before .before .before .before)))
+add-t15 c =
+    let c4 = c .before .before .before .before in
+    let c8 = c4 .before .before .before .before in
+    omega (arith, some c8, rw length-drop at (within c4))
 
 same-length-2 : tie.Need-same-length-2
 same-length-2 c = search needs
 
 returns-3 : tie.Need-returns-3
-returns-3 c = rw (call-begun _ (c .before .before .before .before .before .before .before .before .before .before .before .before .before .pre .0) (chars-long (c .before .before .before .before .before .before .before .before .before .before .before .before .before)) (c .before .before .before .before .before .before .before .before .before .before .if1 .left) _ _ (c .before .before .before .before .before .before .before .before .before .first-of .ensures) (some (c .before .before .before .before .before .before .before .before))) (gives-behind _ _ _ _ _ (found (c .before .before .before .before)))
+returns-3 c =
+    let c4 = c .before .before .before .before in
+    let c8 = c4 .before .before .before .before in
+    let c9 = c8 .before in
+    let c10 = c9 .before in
+    let c13 = c10 .before .before .before in
+    rw (call-begun _ (c13 .pre .0) (chars-long c13) (c10 .if1 .left) _ _ (c9 .first-of .ensures) (some c8)) (gives-behind _ _ _ _ _ (found c4))
 
 pub heard-spec : {M : Type 1} → statement M
-heard-spec = tie.close (tie.spec in-frame-requires same-length returns first-of-requires returns-2 begun-requires add-in-frame sub-in-frame part-in-frame-start part-in-frame-end in-frame-requires-2 add-t11 add-t15 same-length-2 returns-3)
+heard-spec =
+    tie.close
+    (tie.spec
+    in-frame-requires same-length returns first-of-requires returns-2 begun-requires add-in-frame sub-in-frame part-in-frame-start
+    part-in-frame-end in-frame-requires-2 add-t11 add-t15 same-length-2 returns-3)

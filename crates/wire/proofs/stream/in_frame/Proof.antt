@@ -30,7 +30,12 @@ with-more-requires : tie.Need-with-more-requires
 with-more-requires c κs = search needs
 
 returns : tie.Need-returns
-returns c = gives-none _ (call-nothing _ (c .before .before .before .before .before .before .pre .1) _ _ (c .before .before .before .first-of .ensures) _ (c .before .with-more .ensures) (c .if1 .taken))
+returns c =
+    let c6 = c .before .before .before .before .before .before in
+    gives-none _ (call-nothing _ (c6 .pre .1) _ _ (c .before .before .before .first-of .ensures) _ (c .before .with-more .ensures) (c .if1 .taken))
+
+add-taken : tie.Need-add-taken
+add-taken c = omega (arith, some c)
 
 shared-slice-read-if2 : tie.Need-shared-slice-read-if2
 shared-slice-read-if2 c = some (c .before)
@@ -41,19 +46,24 @@ begun-requires c κs = search needs
 broken-requires : tie.Need-broken-requires
 broken-requires c κs = search needs
 
-add-t18 : tie.Need-add-t18
-add-t18 c = omega (arith, some (c .before .before .before .before))
-
 returns-2 : tie.Need-returns-2
 returns-2 c =
+    let c4 = c .before .before .before .before in
+    let inside = c4 in
     rw (c .before .begun .ensures, c .broken .ensures)
-    (gives-none _ (call-colon _ (c .before .before .before .before .before .before .before .before .before .before .pre .1) _ _ (c .before .before .before .before .before .before .before .first-of .ensures) _ (c .before .before .before .before .before .with-more .ensures) (some (c .before .before .before .before)) (c .before .before .if2 .taken)))
+    (gives-none _
+    (call-colon _ (inside .before .before .before .before .before .before .pre .1) _ _ (inside .before .before .before .first-of .ensures) _
+    (inside .before .with-more .ensures) (some inside) (c .before .before .if2 .taken)))
 
 array-share-prefix-chars : tie.Need-array-share-prefix-chars
-array-share-prefix-chars c = kept (c .before .before .before .before)
+array-share-prefix-chars c =
+    let c4 = c .before .before .before .before in
+    kept c4
 
 slice-aggregate-read-body : tie.Need-slice-aggregate-read-body
-slice-aggregate-read-body c = rw length-take (omega (arith, kept (c .before .before .before .before .before)))
+slice-aggregate-read-body c =
+    let c5 = c .before .before .before .before .before in
+    rw length-take (omega (arith, kept c5))
 
 read-body-requires : tie.Need-read-body-requires
 read-body-requires c κs = search needs
@@ -64,16 +74,26 @@ outside-requires c κs = search needs
 event-of-requires : tie.Need-event-of-requires
 event-of-requires c κs = search needs
 
-add-t11 : tie.Need-add-t11
-add-t11 c = omega (arith, some (c .before .before .before .before .before .before .before .before .before .before))
-
 same-length : tie.Need-same-length
 same-length c = search needs
 
 returns-3 : tie.Need-returns-3
 returns-3 c =
-    rw (c .before .outside .ensures, c .event-of .ensures, c .before .before .before .before .read-body .ensures .answered)
-    (gives-bytes _ _ _ (call-newline _ (c .before .before .before .before .before .before .before .before .before .before .before .before .before .before .before .before .pre .1) _ _ (c .before .before .before .before .before .before .before .before .before .before .before .before .before .first-of .ensures) _ (c .before .before .before .before .before .before .before .before .before .before .before .with-more .ensures) (some (c .before .before .before .before .before .before .before .before .before .before)) (c .before .before .before .before .before .before .before .before .if2 .left)) (c .before .before .before .before .read-body .ensures .left))
+    let c4 = c .before .before .before .before in
+    let c8 = c4 .before .before .before .before in
+    let c10 = c8 .before .before in
+    let inside = c10 in
+    let read = c4 .read-body in
+    rw (c .before .outside .ensures, c .event-of .ensures, read .ensures .answered)
+    (gives-bytes _ _ _
+    (call-newline _ (inside .before .before .before .before .before .before .pre .1) _ _ (inside .before .before .before .first-of .ensures) _
+    (inside .before .with-more .ensures) (some inside) (c8 .if2 .left))
+    (read .ensures .left))
 
 pub in-frame-spec : {M : Type 1} → statement M
-in-frame-spec = tie.close (tie.spec first-of-requires slice-aggregate-with-more with-more-requires returns shared-slice-read-if2 begun-requires broken-requires add-t18 returns-2 array-share-prefix-chars slice-aggregate-read-body read-body-requires outside-requires event-of-requires add-t11 same-length returns-3)
+in-frame-spec =
+    tie.close
+    (tie.spec
+    first-of-requires slice-aggregate-with-more with-more-requires returns add-taken shared-slice-read-if2 begun-requires
+    broken-requires returns-2 array-share-prefix-chars slice-aggregate-read-body read-body-requires outside-requires
+    event-of-requires same-length returns-3)

@@ -10,4 +10,7 @@ returns-2 : tie.Need-returns-2
 returns-2 c = rw (c .if1 .left)
 
 pub inside-or-empty-spec : {M : Type 1} → statement M
-inside-or-empty-spec = tie.close (tie.spec returns returns-2)
+inside-or-empty-spec =
+    tie.close
+    (tie.spec
+    returns returns-2)

@@ -27,10 +27,14 @@ returns-2 : tie.Need-returns-2
 returns-2 c = sym (allowed-stray _ (c .before .before .if1 .left) (sym (c .before .inside-or-empty .ensures) ∙ not-true _ (c .if2 .taken)))
 
 array-share-prefix-chars : tie.Need-array-share-prefix-chars
-array-share-prefix-chars c = omega (arith, chars-long (c .before .before .before .before))
+array-share-prefix-chars c =
+    let c4 = c .before .before .before .before in
+    omega (arith, chars-long c4)
 
 slice-aggregate-all-stay : tie.Need-slice-aggregate-all-stay
-slice-aggregate-all-stay c = rw length-take (omega (arith, chars-long (c .before .before .before .before .before)))
+slice-aggregate-all-stay c =
+    let c5 = c .before .before .before .before .before in
+    rw length-take (omega (arith, chars-long c5))
 
 all-stay-requires : tie.Need-all-stay-requires
 all-stay-requires c κs = search needs
@@ -39,19 +43,31 @@ part-all-zero-start : tie.Need-part-all-zero-start
 part-all-zero-start c = search needs
 
 part-all-zero-end : tie.Need-part-all-zero-end
-part-all-zero-end c = omega (arith, chars-long (c .before .before .before .before .before .before .before .before))
+part-all-zero-end c =
+    let c8 = c .before .before .before .before .before .before .before .before in
+    omega (arith, chars-long c8)
 
 all-zero-requires : tie.Need-all-zero-requires
 all-zero-requires c κs = search needs
 
 returns-3 : tie.Need-returns-3
 returns-3 c =
+    let c4 = c .before .before .before .before in
+    let c6 = c4 .before .before in
+    let c8 = c6 .before .before in
+    let c10 = c8 .before .before in
     c .all-zero .ensures
-    ∙ ap (every (eqb 0)) (part-to-end (c .before .before .before .before .before .before .before .before .before .before .args .held .chars) 74 (c .before .before .before .before .before .before .before .before .before .before .args .held .len) (chars-long (c .before .before .before .before .before .before .before .before .before .before)))
-    ∙ sym (allowed-rest _ (c .before .before .before .before .before .before .before .before .if1 .left) (somewhere (c .before .before .before .before .before .before)) (sym (c .before .before .before .before .all-stay .ensures) ∙ c .before .before .before .if3 .taken))
+    ∙ ap (every (eqb 0)) (part-to-end (c10 .args .held .chars) 74 (c10 .args .held .len) (chars-long c10))
+    ∙ sym (allowed-rest _ (c8 .if1 .left) (somewhere c6) (sym (c4 .all-stay .ensures) ∙ c .before .before .before .if3 .taken))
 
 returns-4 : tie.Need-returns-4
-returns-4 c = c .if3 .left ∙ sym (allowed-strange _ (c .before .before .before .before .before .if1 .left) (somewhere (c .before .before .before)) (sym (c .before .all-stay .ensures) ∙ c .if3 .left))
+returns-4 c =
+    let c5 = c .before .before .before .before .before in
+    c .if3 .left ∙ sym (allowed-strange _ (c5 .if1 .left) (somewhere (c .before .before .before)) (sym (c .before .all-stay .ensures) ∙ c .if3 .left))
 
 pub is-allowed-spec : {M : Type 1} → statement M
-is-allowed-spec = tie.close (tie.spec returns inside-or-empty-requires returns-2 array-share-prefix-chars slice-aggregate-all-stay all-stay-requires part-all-zero-start part-all-zero-end all-zero-requires returns-3 returns-4)
+is-allowed-spec =
+    tie.close
+    (tie.spec
+    returns inside-or-empty-requires returns-2 array-share-prefix-chars slice-aggregate-all-stay all-stay-requires
+    part-all-zero-start part-all-zero-end all-zero-requires returns-3 returns-4)

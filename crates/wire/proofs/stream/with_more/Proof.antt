@@ -24,22 +24,36 @@ slice-aggregate-copy : tie.Need-slice-aggregate-copy
 slice-aggregate-copy c = rw length-take (omega (arith, c .before .least .ensures))
 
 sub-copy : tie.Need-sub-copy
-sub-copy c = few (c .before .before .before .before)
+sub-copy c =
+    let c4 = c .before .before .before .before in
+    few c4
 
 part-chars-start : tie.Need-part-chars-start
-part-chars-start c = omega (arith, few (c .before .before .before .before))
+part-chars-start c =
+    let c4 = c .before .before .before .before in
+    omega (arith, few c4)
 
 part-chars-end : tie.Need-part-chars-end
-part-chars-end c = omega (arith, chars-long (c .before .before .before .before))
+part-chars-end c =
+    let c4 = c .before .before .before .before in
+    omega (arith, chars-long c4)
 
 copy-requires : tie.Need-copy-requires
-copy-requires c κs = rw (length-take, length-take, length-drop) (omega (arith, c .before .before .least .ensures, chars-long (c .before .before .before .before .before)))
+copy-requires c κs =
+    let c5 = c .before .before .before .before .before in
+    rw (length-take, length-take, length-drop) (omega (arith, c .before .before .least .ensures, chars-long c5))
 
 add-t7 : tie.Need-add-t7
 add-t7 c = search needs
 
 returns : tie.Need-returns
-returns c = rw (c .before .before .before .before .least .ensures) (held-more _ (c .before .before .before .before .before .before .before .pre .0) (chars-long (c .before .before .before .before .before .before .before)) _ _ (rw (c .before .before .before .before .least .ensures) at (c .before .copy .ensures)))
+returns c =
+    let c4 = c .before .before .before .before in
+    let c7 = c4 .before .before .before in
+    rw (c4 .least .ensures) (held-more _ (c7 .pre .0) (chars-long c7) _ _ (rw (c4 .least .ensures) at (c .before .copy .ensures)))
 
 pub with-more-spec : {M : Type 1} → statement M
-with-more-spec = tie.close (tie.spec sub-least least-requires slice-aggregate-copy sub-copy part-chars-start part-chars-end copy-requires add-t7 returns)
+with-more-spec =
+    tie.close
+    (tie.spec
+    sub-least least-requires slice-aggregate-copy sub-copy part-chars-start part-chars-end copy-requires add-t7 returns)

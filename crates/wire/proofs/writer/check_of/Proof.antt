@@ -25,4 +25,7 @@ unfolding check
 returns c = rw (c .sum-of .ensures, add-mod-mod)
 
 pub check-of-spec : {M : Type 1} → statement M
-check-of-spec = tie.close (tie.spec sum-of-requires add-sum sub-result add-result cast-result returns)
+check-of-spec =
+    tie.close
+    (tie.spec
+    sum-of-requires add-sum sub-result add-result cast-result returns)

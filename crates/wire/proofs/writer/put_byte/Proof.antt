@@ -23,4 +23,7 @@ returns : tie.Need-returns
 returns c = rw (c .pair-of .ensures .0, c .pair-of .ensures .1, add-one)
 
 pub put-byte-spec : {M : Type 1} → statement M
-put-byte-spec = tie.close (tie.spec pair-of-requires slice-write-out add-out slice-write-out-2 same-length returns)
+put-byte-spec =
+    tie.close
+    (tie.spec
+    pair-of-requires slice-write-out add-out slice-write-out-2 same-length returns)

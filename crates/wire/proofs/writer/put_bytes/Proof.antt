@@ -38,7 +38,10 @@ loop-less : tie.Need-loop-less Inv-loop μ-loop
 loop-less c = search needs
 
 loop-again : tie.Need-loop-again Inv-loop μ-loop
-loop-again c = (search needs, c .before .before .put-byte .kept .0 ∙ c .before .before .before .before .before .before .loop .inv .1, rw (c .before .before .put-byte .ensures) (digits-turn _ _ (c .before .before .before .before .before .loop-test .taken) _ _) ∙ c .before .before .before .before .before .before .loop .inv .2)
+loop-again c =
+    let c5 = c .before .before .before .before .before in
+    let c6 = c5 .before in
+    (search needs, c .before .before .put-byte .kept .0 ∙ c6 .loop .inv .1, rw (c .before .before .put-byte .ensures) (digits-turn _ _ (c5 .loop-test .taken) _ _) ∙ c6 .loop .inv .2)
 
 same-length : tie.Need-same-length Inv-loop μ-loop
 same-length c = c .before .loop .inv .1
@@ -47,4 +50,8 @@ returns : tie.Need-returns Inv-loop μ-loop
 returns c = sym (digits-end _ _ (c .loop-test .left) _ _) ∙ c .before .loop .inv .2
 
 pub put-bytes-spec : {M : Type 1} → statement M
-put-bytes-spec = tie.close (tie.spec Inv-loop μ-loop loop-holds mul-put-byte add-put-byte shared-slice-read-put-byte put-byte-requires add-i loop-less loop-again same-length returns)
+put-bytes-spec =
+    tie.close
+    (tie.spec
+    Inv-loop μ-loop loop-holds mul-put-byte add-put-byte shared-slice-read-put-byte put-byte-requires add-i loop-less loop-again
+    same-length returns)

@@ -29,26 +29,38 @@ check-of-requires : tie.Need-check-of-requires
 check-of-requires c κs = search needs
 
 put-byte-requires : tie.Need-put-byte-requires
-put-byte-requires c κs = omega (arith, simp length-set at (c .before .before .before .before .put-bytes .kept .0))
+put-byte-requires c κs =
+    let c4 = c .before .before .before .before in
+    omega (arith, simp length-set at (c4 .put-bytes .kept .0))
 
 add-out : tie.Need-add-out
 add-out c = search needs
 
 slice-write-out-3 : tie.Need-slice-write-out-3
-slice-write-out-3 c = omega (arith, c .before .before .put-byte .kept .0, simp length-set at (c .before .before .before .before .before .before .before .put-bytes .kept .0))
+slice-write-out-3 c =
+    let c7 = c .before .before .before .before .before .before .before in
+    omega (arith, c .before .before .put-byte .kept .0, simp length-set at (c7 .put-bytes .kept .0))
 
 add-result : tie.Need-add-result
 add-result c = search needs
 
 same-length : tie.Need-same-length
-same-length c = simp length-set (c .before .before .put-byte .kept .0 ∙ simp length-set at (c .before .before .before .before .before .before .before .put-bytes .kept .0))
+same-length c =
+    let c7 = c .before .before .before .before .before .before .before in
+    simp length-set (c .before .before .put-byte .kept .0 ∙ simp length-set at (c7 .put-bytes .kept .0))
 
 returns : tie.Need-returns
-returns c = (
-  rw length-frame (omega arith),
-  rw (c .before .before .put-byte .ensures, c .before .before .before .check-of .ensures, c .before .before .before .before .before .before .before .put-bytes .ensures, c .before .before .before .before .before .before .before .before .before .digit-of .ensures)
-      (frame-stores _ _ _ (omega arith)),
-)
+returns c =
+    let c7 = c .before .before .before .before .before .before .before in
+    let c9 = c7 .before .before in (
+      rw length-frame (omega arith),
+      rw (c .before .before .put-byte .ensures, c .before .before .before .check-of .ensures, c7 .put-bytes .ensures, c9 .digit-of .ensures)
+          (frame-stores _ _ _ (omega arith)),
+    )
 
 pub put-frame-spec : {M : Type 1} → statement M
-put-frame-spec = tie.close (tie.spec mul-end add-end slice-write-out digit-of-requires slice-write-out-2 put-bytes-requires check-of-requires put-byte-requires add-out slice-write-out-3 add-result same-length returns)
+put-frame-spec =
+    tie.close
+    (tie.spec
+    mul-end add-end slice-write-out digit-of-requires slice-write-out-2 put-bytes-requires check-of-requires put-byte-requires
+    add-out slice-write-out-3 add-result same-length returns)

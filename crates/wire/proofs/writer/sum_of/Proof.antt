@@ -40,4 +40,7 @@ returns : tie.Need-returns Inv-loop μ-loop
 returns c = sum-end _ _ _ (c .loop-test .left) (c .before .loop .inv .1) ∙ c .before .loop .inv .2
 
 pub sum-of-spec : {M : Type 1} → statement M
-sum-of-spec = tie.close (tie.spec Inv-loop μ-loop loop-holds shared-slice-read-sum cast-sum add-sum add-i loop-less loop-again returns)
+sum-of-spec =
+    tie.close
+    (tie.spec
+    Inv-loop μ-loop loop-holds shared-slice-read-sum cast-sum add-sum add-i loop-less loop-again returns)
