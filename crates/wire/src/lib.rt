@@ -10,37 +10,10 @@ ghost use mathlib.Core.Path.{_≡_};
 ghost use lib.ListN.{length};
 
 mod digits;
+mod numbers;
 mod reader;
 mod stream;
 mod writer;
-
-const COLON: u8 = b':';
-
-const NEWLINE: u8 = b'\n';
-
-const TOTAL: usize = 0x55;
-
-const MOST_NIBBLE: u8 = 15;
-
-const MOST_DATA: usize = 35;
-
-const MOST_CHARS: usize = 73;
-
-const MOST_HELD: usize = 74;
-
-const FRAME_ROOM: usize = 75;
-
-const TOO_LONG: u8 = 1;
-
-const NO_DIGIT: u8 = 2;
-
-const BAD_COUNT: u8 = 3;
-
-const BAD_SUM: u8 = 4;
-
-const SHORT_BUFFER: u8 = 11;
-
-const NOT_ALLOWED: u8 = 12;
 
 // What the frame writer answers: the frame's length, or document 01's number of the refusal.
 pub enum Written {
@@ -58,7 +31,7 @@ pub enum Read {
 pub struct Held {
     pub inside: bool,
     pub len: usize,
-    pub chars: [u8; MOST_HELD],
+    pub chars: [u8; numbers::MOST_HELD],
 }
 
 // What happened in a call on the stream: no frame ended, or one ended as said or was refused.
@@ -80,14 +53,14 @@ pub struct Heard {
 pub fn write_frame(command: u8, bytes: &[u8], out: &mut [u8]) -> Written
     ensures { λ r. ⌜ Gives Written (writing command (now (bytes .entry)) (length (now (out .entry)))) (now (out .entry)) r (now (out .exit)) ⌝ }
 {
-    if out.len() < FRAME_ROOM {
-        return Written::Refused(SHORT_BUFFER);
+    if out.len() < numbers::FRAME_ROOM {
+        return Written::Refused(numbers::SHORT_BUFFER);
     }
-    if MOST_NIBBLE < command {
-        return Written::Refused(NOT_ALLOWED);
+    if numbers::MOST_NIBBLE < command {
+        return Written::Refused(numbers::NOT_ALLOWED);
     }
-    if MOST_DATA < bytes.len() {
-        return Written::Refused(NOT_ALLOWED);
+    if numbers::MOST_DATA < bytes.len() {
+        return Written::Refused(numbers::NOT_ALLOWED);
     }
     Written::Frame(writer::put_frame(command, bytes, out))
 }
@@ -97,11 +70,11 @@ pub fn write_frame(command: u8, bytes: &[u8], out: &mut [u8]) -> Written
 pub fn read_frame(frame: &[u8], into: &mut [u8]) -> Read
     ensures { λ r. ⌜ Gives Read (reading (now (frame .entry)) (length (now (into .entry)))) (now (into .entry)) r (now (into .exit)) ⌝ }
 {
-    if into.len() < MOST_DATA {
-        return Read::Refused(SHORT_BUFFER);
+    if into.len() < numbers::MOST_DATA {
+        return Read::Refused(numbers::SHORT_BUFFER);
     }
     if !reader::well_enclosed(frame) {
-        return Read::Refused(NO_DIGIT);
+        return Read::Refused(numbers::NO_DIGIT);
     }
     reader::read_body(&frame[1..frame.len() - 1], into)
 }
@@ -114,7 +87,7 @@ impl Held {
         Held {
             inside: false,
             len: 0,
-            chars: [0u8; MOST_HELD],
+            chars: [0u8; numbers::MOST_HELD],
         }
     }
 
@@ -123,11 +96,11 @@ impl Held {
     pub fn hear(self, piece: &[u8], into: &mut [u8]) -> Heard
         ensures { λ r. ⌜ Gives Heard (hearing self (now (piece .entry)) (length (now (into .entry)))) (now (into .entry)) r (now (into .exit)) ⌝ }
     {
-        if into.len() < MOST_DATA {
-            return stream::refused(self, SHORT_BUFFER);
+        if into.len() < numbers::MOST_DATA {
+            return stream::refused(self, numbers::SHORT_BUFFER);
         }
         if !stream::is_allowed(self) {
-            return stream::refused(self, NOT_ALLOWED);
+            return stream::refused(self, numbers::NOT_ALLOWED);
         }
         stream::heard(self, piece, into)
     }

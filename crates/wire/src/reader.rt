@@ -11,6 +11,7 @@ ghost use Rattle.wire.specs.Calls.{wellEnclosed, readAs};
 ghost use Rattle.wire.specs.declared.Read.{Read};
 use crate::Read;
 use crate::digits;
+use crate::numbers;
 use crate::writer;
 
 const MOST_PAYLOAD: usize = 36;
@@ -22,7 +23,7 @@ pub(crate) fn well_enclosed(frame: &[u8]) -> bool
     if frame.len() < 2 {
         return false;
     }
-    frame[0] == crate::COLON && frame[frame.len() - 1] == crate::NEWLINE
+    frame[0] == numbers::COLON && frame[frame.len() - 1] == numbers::NEWLINE
 }
 
 // Every character is a digit. There is no early way out, so that the compiler may look at many at a time.
@@ -79,8 +80,8 @@ fn read_digits(chars: &[u8], into: &mut [u8]) -> Read
     let n = chars.len() / 2;
     let payload = payload_of(chars);
     let command = digits::nibble_of(chars[0]);
-    if (command as usize + writer::sum_of(&payload[..n])) % 256 != crate::TOTAL {
-        return Read::Refused(crate::BAD_SUM);
+    if (command as usize + writer::sum_of(&payload[..n])) % 256 != numbers::TOTAL {
+        return Read::Refused(numbers::BAD_SUM);
     }
     copy(&payload[..n - 1], into);
     Read::Frame {
@@ -94,14 +95,14 @@ pub(crate) fn read_body(chars: &[u8], into: &mut [u8]) -> Read
     requires { ⌜ 35 ≤ length (now into) ⌝ }
     ensures { λ r. ⌜ Gives Read (readAs (bodySays (now (chars .entry)))) (now (into .entry)) r (now (into .exit)) ⌝ }
 {
-    if crate::MOST_CHARS < chars.len() {
-        return Read::Refused(crate::TOO_LONG);
+    if numbers::MOST_CHARS < chars.len() {
+        return Read::Refused(numbers::TOO_LONG);
     }
     if !all_digits(chars) {
-        return Read::Refused(crate::NO_DIGIT);
+        return Read::Refused(numbers::NO_DIGIT);
     }
     if bad_count(chars.len()) {
-        return Read::Refused(crate::BAD_COUNT);
+        return Read::Refused(numbers::BAD_COUNT);
     }
     read_digits(chars, into)
 }

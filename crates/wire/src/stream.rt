@@ -15,6 +15,7 @@ use crate::Event;
 use crate::Heard;
 use crate::Held;
 use crate::Read;
+use crate::numbers;
 use crate::reader;
 
 // A refused call: the state comes back as it was, nothing is taken.
@@ -76,10 +77,10 @@ fn all_zero(bytes: &[u8]) -> bool
 fn stays_in(b: u8) -> bool
     ensures { λ r. ⌜ r ≡ stays b ⌝ }
 {
-    if b == crate::NEWLINE {
+    if b == numbers::NEWLINE {
         return false;
     }
-    b != crate::COLON
+    b != numbers::COLON
 }
 
 // Characters are held inside a frame alone.
@@ -99,7 +100,7 @@ pub(crate) fn is_allowed(held: Held) -> bool
     let len = held.len;
     let inside = held.inside;
     let chars = held.chars;
-    if crate::MOST_HELD < len {
+    if numbers::MOST_HELD < len {
         return false;
     }
     if !inside_or_empty(inside, len) {
@@ -122,7 +123,7 @@ fn begun() -> Held
     Held {
         inside: true,
         len: 0,
-        chars: [0u8; crate::MOST_HELD],
+        chars: [0u8; numbers::MOST_HELD],
     }
 }
 
@@ -133,7 +134,7 @@ fn with_more(held: Held, more: &[u8]) -> Held
 {
     let len = held.len;
     let mut chars = held.chars;
-    let n = least(more.len(), crate::MOST_HELD - len);
+    let n = least(more.len(), numbers::MOST_HELD - len);
     reader::copy(&more[..n], &mut chars[len..]);
     Held {
         inside: true,
@@ -156,10 +157,10 @@ fn event_of(read: Read) -> Event
 fn broken(len: usize) -> Event
     ensures { λ r. ⌜ r ≡ eventFrom (readAs (brokenSays len) .answer) ⌝ }
 {
-    if crate::MOST_CHARS < len {
-        return Event::Refused(crate::TOO_LONG);
+    if numbers::MOST_CHARS < len {
+        return Event::Refused(numbers::TOO_LONG);
     }
-    Event::Refused(crate::NO_DIGIT)
+    Event::Refused(numbers::NO_DIGIT)
 }
 
 // The call inside a frame.
@@ -167,7 +168,7 @@ fn in_frame(held: Held, piece: &[u8], into: &mut [u8]) -> Heard
     requires { ⌜ (allowed held ≡ true) × (held .inside ≡ true) × (35 ≤ length (now into)) ⌝ }
     ensures { λ r. ⌜ Gives Heard (heardOf (unfinished held) (now (piece .entry))) (now (into .entry)) r (now (into .exit)) ⌝ }
 {
-    let end = first_of(piece, crate::NEWLINE, crate::COLON);
+    let end = first_of(piece, numbers::NEWLINE, numbers::COLON);
     let whole = with_more(held, &piece[..end]);
     if end == piece.len() {
         return Heard {
@@ -178,7 +179,7 @@ fn in_frame(held: Held, piece: &[u8], into: &mut [u8]) -> Heard
     }
     let taken = end + 1;
     let len = whole.len;
-    if piece[end] == crate::COLON {
+    if piece[end] == numbers::COLON {
         let next = begun();
         return Heard {
             held: next,
@@ -203,7 +204,7 @@ pub(crate) fn heard(held: Held, piece: &[u8], into: &mut [u8]) -> Heard
     if held.inside {
         return in_frame(held, piece, into);
     }
-    let skipped = first_of(piece, crate::COLON, crate::COLON);
+    let skipped = first_of(piece, numbers::COLON, numbers::COLON);
     if skipped == piece.len() {
         return Heard {
             held,

@@ -3,7 +3,6 @@ use Prim.Native.Nat.{_≤_, _-_}
 use mathlib.Core.Path.{_≡_, sym, _∙_}
 use mathlib.Core.Bool.{true}
 use native.Mathlib.Omega.{arith}
-use borrow.Author.Needs.{needs}
 use borrow.Author.Tests.{not-true, not-false}
 use lib.ListN.{length}
 use Rattle.laws.proofs.Promise.{gives-none}
@@ -25,7 +24,7 @@ returns : tie.Need-returns
 returns c = gives-none _ (reading-short _ _ (c .if1 .taken))
 
 well-enclosed-requires : tie.Need-well-enclosed-requires
-well-enclosed-requires c κs = search needs
+well-enclosed-requires c κs = omega arith
 
 returns-2 : tie.Need-returns-2
 returns-2 c = gives-none _ (reading-loose _ _ (c .before .before .if1 .left) (sym (c .before .well-enclosed .ensures) ∙ not-true _ (c .if2 .taken)))
@@ -40,13 +39,13 @@ part-read-body-start : tie.Need-part-read-body-start
 part-read-body-start c = omega (arith, long c)
 
 part-read-body-end : tie.Need-part-read-body-end
-part-read-body-end c = search needs
+part-read-body-end c = omega arith
 
 read-body-requires : tie.Need-read-body-requires
-read-body-requires c κs = search needs
+read-body-requires c κs = omega arith
 
 same-length : tie.Need-same-length
-same-length c = search needs
+same-length c = omega arith
 
 returns-3 : tie.Need-returns-3
 returns-3 c =

@@ -1,6 +1,5 @@
 -- `wire::write_frame` meets its contract. Assumes nothing.
 use native.Mathlib.Omega.{arith}
-use borrow.Author.Needs.{needs}
 use Rattle.laws.proofs.Promise.{gives-none, gives-bytes}
 use Rattle.wire.proofs.Answers.{writing-short, writing-nibble, writing-long, writing-made}
 use Rattle.wire.proofs.write_frame.Statement.{statement}
@@ -19,7 +18,7 @@ put-frame-requires : tie.Need-put-frame-requires
 put-frame-requires c κs = (omega arith, omega arith, omega arith)
 
 same-length : tie.Need-same-length
-same-length c = search needs
+same-length c = omega arith
 
 returns-4 : tie.Need-returns-4
 returns-4 c =

@@ -8,16 +8,16 @@ use Rattle.wire.proofs.Held.hear.Statement.{statement}
 use Rattle.wire.proofs.Held.hear.Tie as tie
 
 refused-requires : tie.Need-refused-requires
-refused-requires c κs = search needs
+refused-requires c κs = tt
 
 returns : tie.Need-returns
 returns c = rw (c .refused .ensures) (gives-none _ (hearing-short _ _ _ (c .before .if1 .taken)))
 
 is-allowed-requires : tie.Need-is-allowed-requires
-is-allowed-requires c κs = search needs
+is-allowed-requires c κs = tt
 
 refused-requires-2 : tie.Need-refused-requires-2
-refused-requires-2 c κs = search needs
+refused-requires-2 c κs = tt
 
 returns-2 : tie.Need-returns-2
 returns-2 c = rw (c .refused2 .ensures) (gives-none _ (hearing-stray _ _ _ (c .before .before .before .if1 .left) (sym (c .before .before .is-allowed .ensures) ∙ not-true _ (c .before .if2 .taken))))

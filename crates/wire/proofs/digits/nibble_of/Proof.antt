@@ -1,7 +1,6 @@
 -- `wire::digits::nibble_of` meets its contract. Assumes nothing.
 use mathlib.Core.Bool.{and-false}
 use native.Mathlib.Omega.{arith}
-use borrow.Author.Needs.{needs}
 use borrow.Author.Tests.{lt-leb, le-leb}
 use Rattle.wire.specs.Digits.{nibble}
 use Rattle.wire.proofs.digits.nibble_of.Statement.{statement}
@@ -20,7 +19,7 @@ unfolding nibble
 returns-3 c = simp (lt-leb _ 57 (c .before .if2 .left), lt-leb 65 _ (c .if3 .taken), and-false)
 
 add-result : tie.Need-add-result
-add-result c = search needs
+add-result c = omega arith
 
 returns-4 : tie.Need-returns-4
 unfolding nibble

@@ -20,7 +20,7 @@ shared-slice-read-nibble-of : tie.Need-shared-slice-read-nibble-of Inv-loop μ-l
 shared-slice-read-nibble-of c = search needs
 
 nibble-of-requires : tie.Need-nibble-of-requires Inv-loop μ-loop
-nibble-of-requires c κs = search needs
+nibble-of-requires c κs = tt
 
 add-i : tie.Need-add-i Inv-loop μ-loop
 add-i c = search needs

@@ -21,28 +21,28 @@ loop-holds : tie.Need-loop-holds Inv-loop μ-loop
 loop-holds c = search needs
 
 mul-loop : tie.Need-mul-loop Inv-loop μ-loop
-mul-loop c = search needs
+mul-loop c = omega arith
 
 add-loop : tie.Need-add-loop Inv-loop μ-loop
-add-loop c = search needs
+add-loop c = omega arith
 
 mul-byte-of : tie.Need-mul-byte-of Inv-loop μ-loop
-mul-byte-of c = search needs
+mul-byte-of c = omega arith
 
 add-byte-of : tie.Need-add-byte-of Inv-loop μ-loop
-add-byte-of c = search needs
+add-byte-of c = omega arith
 
 shared-slice-read-byte-of : tie.Need-shared-slice-read-byte-of Inv-loop μ-loop
-shared-slice-read-byte-of c = search needs
+shared-slice-read-byte-of c = omega arith
 
 mul-byte-of-2 : tie.Need-mul-byte-of-2 Inv-loop μ-loop
-mul-byte-of-2 c = search needs
+mul-byte-of-2 c = omega arith
 
 add-byte-of-2 : tie.Need-add-byte-of-2 Inv-loop μ-loop
-add-byte-of-2 c = search needs
+add-byte-of-2 c = omega arith
 
 shared-slice-read-byte-of-2 : tie.Need-shared-slice-read-byte-of-2 Inv-loop μ-loop
-shared-slice-read-byte-of-2 c = search needs
+shared-slice-read-byte-of-2 c = omega arith
 
 byte-of-requires : tie.Need-byte-of-requires Inv-loop μ-loop
 byte-of-requires c κs =
@@ -53,13 +53,13 @@ byte-of-requires c κs =
     (nibble-at chars digits (2 * i + 1) (omega arith), nibble-at chars digits (2 * i + 2) (omega arith))
 
 array-write-payload : tie.Need-array-write-payload Inv-loop μ-loop
-array-write-payload c = search needs
+array-write-payload c = omega arith
 
 add-i : tie.Need-add-i Inv-loop μ-loop
-add-i c = search needs
+add-i c = omega arith
 
 loop-less : tie.Need-loop-less Inv-loop μ-loop
-loop-less c = search needs
+loop-less c = omega arith
 
 loop-again : tie.Need-loop-again Inv-loop μ-loop
 loop-again c =

@@ -12,13 +12,13 @@ returns : tie.Need-returns
 returns c = gives-none _ (ap readAs (body-long _ (c .if1 .taken)))
 
 all-digits-requires : tie.Need-all-digits-requires
-all-digits-requires c κs = search needs
+all-digits-requires c κs = tt
 
 returns-2 : tie.Need-returns-2
 returns-2 c = gives-none _ (ap readAs (body-strange _ (c .before .before .if1 .left) (sym (c .before .all-digits .ensures) ∙ not-true _ (c .if2 .taken))))
 
 bad-count-requires : tie.Need-bad-count-requires
-bad-count-requires c κs = search needs
+bad-count-requires c κs = tt
 
 returns-3 : tie.Need-returns-3
 returns-3 c =

@@ -27,22 +27,22 @@ shared-slice-read-nibble-of c =
     omega (arith, many c4)
 
 nibble-of-requires : tie.Need-nibble-of-requires
-nibble-of-requires c κs = search needs
+nibble-of-requires c κs = omega arith
 
 cast-if1 : tie.Need-cast-if1
-cast-if1 c = search needs
+cast-if1 c = omega arith
 
 array-share-prefix-payload : tie.Need-array-share-prefix-payload
-array-share-prefix-payload c = search needs
+array-share-prefix-payload c = omega arith
 
 slice-aggregate-sum-of : tie.Need-slice-aggregate-sum-of
 slice-aggregate-sum-of c = rw length-take (omega (arith, c .before .before .before .payload-of .ensures .0))
 
 sum-of-requires : tie.Need-sum-of-requires
-sum-of-requires c κs = search needs
+sum-of-requires c κs = omega arith
 
 add-if1 : tie.Need-add-if1
-add-if1 c = search needs
+add-if1 c = omega arith
 
 -- the sum as it was taken is that of the whole payload
 sums : (c : tie.After-sum-of) → (c .before .before .nibble-of .result + c .sum-of .result) % 256 ≡ (commandOf (c .before .before .before .before .before .before .before .args .chars .now) + sumOf (payloadOf (c .before .before .before .before .before .before .before .args .chars .now))) % 256
@@ -63,7 +63,7 @@ sub-payload c =
     omega (arith, many c8)
 
 array-share-prefix-payload-2 : tie.Need-array-share-prefix-payload-2
-array-share-prefix-payload-2 c = search needs
+array-share-prefix-payload-2 c = omega arith
 
 slice-aggregate-copy : tie.Need-slice-aggregate-copy
 slice-aggregate-copy c =
@@ -81,7 +81,7 @@ sub-t10 c =
     omega (arith, many c13)
 
 same-length : tie.Need-same-length
-same-length c = search needs
+same-length c = omega arith
 
 returns-2 : tie.Need-returns-2
 returns-2 c =

@@ -20,7 +20,7 @@ shared-slice-read-stays-in : tie.Need-shared-slice-read-stays-in Inv-loop μ-loo
 shared-slice-read-stays-in c = search needs
 
 stays-in-requires : tie.Need-stays-in-requires Inv-loop μ-loop
-stays-in-requires c κs = search needs
+stays-in-requires c κs = tt
 
 add-i : tie.Need-add-i Inv-loop μ-loop
 add-i c = search needs

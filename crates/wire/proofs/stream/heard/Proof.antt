@@ -40,13 +40,13 @@ in-frame-requires : tie.Need-in-frame-requires
 in-frame-requires c κs = search needs
 
 same-length : tie.Need-same-length
-same-length c = search needs
+same-length c = omega arith
 
 returns : tie.Need-returns
 returns c = search needs
 
 first-of-requires : tie.Need-first-of-requires
-first-of-requires c κs = search needs
+first-of-requires c κs = omega arith
 
 returns-2 : tie.Need-returns-2
 returns-2 c =
@@ -54,7 +54,7 @@ returns-2 c =
     gives-none _ (call-skipped _ (c5 .pre .0) (chars-long c5) (c .before .before .if1 .left) _ _ (c .before .first-of .ensures) (c .if2 .taken))
 
 begun-requires : tie.Need-begun-requires
-begun-requires c κs = search needs
+begun-requires c κs = omega arith
 
 add-in-frame : tie.Need-add-in-frame
 add-in-frame c = omega (arith, some (c .before))
@@ -66,7 +66,7 @@ part-in-frame-start : tie.Need-part-in-frame-start
 part-in-frame-start c = omega (arith, some (c .before))
 
 part-in-frame-end : tie.Need-part-in-frame-end
-part-in-frame-end c = search needs
+part-in-frame-end c = omega arith
 
 in-frame-requires-2 : tie.Need-in-frame-requires-2
 in-frame-requires-2 c κs = rw (c .before .before .begun .ensures) (allowed-inside [] refl, unfold heldOf in refl, search needs)
@@ -83,7 +83,7 @@ add-t15 c =
     omega (arith, some c8, rw length-drop at (within c4))
 
 same-length-2 : tie.Need-same-length-2
-same-length-2 c = search needs
+same-length-2 c = omega arith
 
 returns-3 : tie.Need-returns-3
 returns-3 c =

@@ -21,7 +21,7 @@ kept : (c : tie.After-with-more) → c .with-more .result .len ≤ length (c .wi
 kept c = rw (c .with-more .ensures) (held-fits _)
 
 first-of-requires : tie.Need-first-of-requires
-first-of-requires c κs = search needs
+first-of-requires c κs = omega arith
 
 slice-aggregate-with-more : tie.Need-slice-aggregate-with-more
 slice-aggregate-with-more c = rw length-take (omega (arith, short (c .before)))
@@ -41,10 +41,10 @@ shared-slice-read-if2 : tie.Need-shared-slice-read-if2
 shared-slice-read-if2 c = some (c .before)
 
 begun-requires : tie.Need-begun-requires
-begun-requires c κs = search needs
+begun-requires c κs = omega arith
 
 broken-requires : tie.Need-broken-requires
-broken-requires c κs = search needs
+broken-requires c κs = omega arith
 
 returns-2 : tie.Need-returns-2
 returns-2 c =
@@ -66,16 +66,16 @@ slice-aggregate-read-body c =
     rw length-take (omega (arith, kept c5))
 
 read-body-requires : tie.Need-read-body-requires
-read-body-requires c κs = search needs
+read-body-requires c κs = omega arith
 
 outside-requires : tie.Need-outside-requires
-outside-requires c κs = search needs
+outside-requires c κs = omega arith
 
 event-of-requires : tie.Need-event-of-requires
-event-of-requires c κs = search needs
+event-of-requires c κs = omega arith
 
 same-length : tie.Need-same-length
-same-length c = search needs
+same-length c = omega arith
 
 returns-3 : tie.Need-returns-3
 returns-3 c =

@@ -21,7 +21,7 @@ returns : tie.Need-returns
 returns c = sym (allowed-many _ (c .if1 .taken))
 
 inside-or-empty-requires : tie.Need-inside-or-empty-requires
-inside-or-empty-requires c κs = search needs
+inside-or-empty-requires c κs = omega arith
 
 returns-2 : tie.Need-returns-2
 returns-2 c = sym (allowed-stray _ (c .before .before .if1 .left) (sym (c .before .inside-or-empty .ensures) ∙ not-true _ (c .if2 .taken)))
@@ -37,10 +37,10 @@ slice-aggregate-all-stay c =
     rw length-take (omega (arith, chars-long c5))
 
 all-stay-requires : tie.Need-all-stay-requires
-all-stay-requires c κs = search needs
+all-stay-requires c κs = omega arith
 
 part-all-zero-start : tie.Need-part-all-zero-start
-part-all-zero-start c = search needs
+part-all-zero-start c = omega arith
 
 part-all-zero-end : tie.Need-part-all-zero-end
 part-all-zero-end c =
@@ -48,7 +48,7 @@ part-all-zero-end c =
     omega (arith, chars-long c8)
 
 all-zero-requires : tie.Need-all-zero-requires
-all-zero-requires c κs = search needs
+all-zero-requires c κs = omega arith
 
 returns-3 : tie.Need-returns-3
 returns-3 c =

@@ -18,7 +18,7 @@ sub-least : tie.Need-sub-least
 sub-least c = few (c .before .before)
 
 least-requires : tie.Need-least-requires
-least-requires c κs = search needs
+least-requires c κs = omega arith
 
 slice-aggregate-copy : tie.Need-slice-aggregate-copy
 slice-aggregate-copy c = rw length-take (omega (arith, c .before .least .ensures))
@@ -44,7 +44,7 @@ copy-requires c κs =
     rw (length-take, length-take, length-drop) (omega (arith, c .before .before .least .ensures, chars-long c5))
 
 add-t7 : tie.Need-add-t7
-add-t7 c = search needs
+add-t7 c = omega arith
 
 returns : tie.Need-returns
 returns c =

@@ -5,7 +5,7 @@ use Rattle.wire.proofs.writer.put_byte.Statement.{statement}
 use Rattle.wire.proofs.writer.put_byte.Tie as tie
 
 pair-of-requires : tie.Need-pair-of-requires
-pair-of-requires c κs = search needs
+pair-of-requires c κs = tt
 
 slice-write-out : tie.Need-slice-write-out
 slice-write-out c = search needs

@@ -1,23 +1,22 @@
 -- `wire::writer::put_frame` meets its contract. Assumes nothing.
 use mathlib.Core.Path.{_∙_}
 use native.Mathlib.Omega.{arith}
-use borrow.Author.Needs.{needs}
 use lib.ListN.{length-set}
 use Rattle.wire.proofs.Frames.{length-frame, frame-stores}
 use Rattle.wire.proofs.writer.put_frame.Statement.{statement}
 use Rattle.wire.proofs.writer.put_frame.Tie as tie
 
 mul-end : tie.Need-mul-end
-mul-end c = search needs
+mul-end c = omega arith
 
 add-end : tie.Need-add-end
-add-end c = search needs
+add-end c = omega arith
 
 slice-write-out : tie.Need-slice-write-out
-slice-write-out c = search needs
+slice-write-out c = omega arith
 
 digit-of-requires : tie.Need-digit-of-requires
-digit-of-requires c κs = search needs
+digit-of-requires c κs = omega arith
 
 slice-write-out-2 : tie.Need-slice-write-out-2
 slice-write-out-2 c = omega (arith, length-set (c .before .before .before .args .out .now) 0 58)
@@ -26,7 +25,7 @@ put-bytes-requires : tie.Need-put-bytes-requires
 put-bytes-requires c κs = simp length-set (omega arith)
 
 check-of-requires : tie.Need-check-of-requires
-check-of-requires c κs = search needs
+check-of-requires c κs = omega arith
 
 put-byte-requires : tie.Need-put-byte-requires
 put-byte-requires c κs =
@@ -34,7 +33,7 @@ put-byte-requires c κs =
     omega (arith, simp length-set at (c4 .put-bytes .kept .0))
 
 add-out : tie.Need-add-out
-add-out c = search needs
+add-out c = omega arith
 
 slice-write-out-3 : tie.Need-slice-write-out-3
 slice-write-out-3 c =
@@ -42,7 +41,7 @@ slice-write-out-3 c =
     omega (arith, c .before .before .put-byte .kept .0, simp length-set at (c7 .put-bytes .kept .0))
 
 add-result : tie.Need-add-result
-add-result c = search needs
+add-result c = omega arith
 
 same-length : tie.Need-same-length
 same-length c =
