@@ -1,7 +1,8 @@
 -- Laws of the words of specs/Lists, above all what one turn of a loop over a list shows. Assumes nothing.
 use mathlib.Core.Path.{_≡_, refl, sym, ap, ap₂, _∙_}
 use mathlib.Core.Bool.{Bool, true, false, not, cond, _&&_, and-assoc, and-true}
-use native.Mathlib.Nat.{le-of-suc-le-suc, not-suc-le-zero, add-zero, add-suc, suc-add, zero-min, min-zero, suc-min-suc}
+use mathlib.Core.Logic.{⊎-elim}
+use native.Mathlib.Nat.{eq-or-lt-of-le, le-of-suc-le-suc, not-suc-le-zero, add-zero, add-suc, suc-add, zero-min, min-zero, suc-min-suc}
 use mathlib.Core.List.{List, [], _∷_, _++_}
 use Prim.Native.Nat.{ℕ, zero, suc, _+_, _%_, _≤_, _<_, min}
 use native.Mathlib.Numerals.{add-one}
@@ -11,7 +12,7 @@ use lib.Dec.{eqb}
 use borrow.Author.Tests.{eqb-true}
 use lib.Seq.{drop-cons, sets, take-nil}
 use Rattle.laws.proofs.Bools.{and-left, and-right}
-use Rattle.laws.specs.Lists.{every, before, sumOf}
+use Rattle.laws.specs.Lists.{every, before, sumOf, upTo}
 
 module _ (l : List ℕ) (i : ℕ) (h : i < length l) where
   -- what is left of a list at a place: the entry there, and what is left behind it
@@ -136,3 +137,12 @@ every-append p (x ∷ xs) ys = rw (every-append p xs ys) (sym (and-assoc (p x) (
 pub sum-append : (xs ys : List ℕ) → sumOf (xs ++ ys) ≡ sumOf xs + sumOf ys
 sum-append [] ys = omega arith
 sum-append (x ∷ xs) ys = omega (arith, sum-append xs ys)
+
+-- A rule of a table is one computed test over its places, and holds at each of them.
+pub upTo-at : (n : ℕ) (p : ℕ → Bool) → upTo n p ≡ true → (k : ℕ) → k < n → p k ≡ true
+upTo-at zero p e k h = absurd (not-suc-le-zero h)
+upTo-at (suc n) p e k h = ⊎-elim (λ is. rw is (and-right (upTo n p) (p n) e)) (λ less. upTo-at n p (and-left (upTo n p) (p n) e) k less) (eq-or-lt-of-le (le-of-suc-le-suc h))
+
+pub upTo-all : (n : ℕ) (p : ℕ → Bool) → ((k : ℕ) → k < n → p k ≡ true) → upTo n p ≡ true
+upTo-all zero p h = refl
+upTo-all (suc n) p h = rw (upTo-all n p (λ k less. h k (omega arith)), h n (omega arith))

@@ -16,3 +16,8 @@ before p (x ∷ xs) = cond (p x) zero (suc (before p xs))
 abbrev pub sumOf : List ℕ → ℕ
 sumOf [] = zero
 sumOf (x ∷ xs) = x + sumOf xs
+
+-- the test p holds of every number below n
+abbrev pub upTo : ℕ → (ℕ → Bool) → Bool
+upTo zero p = true
+upTo (suc n) p = upTo n p && p n

@@ -1,0 +1,142 @@
+-- Laws of an allowed table: what it holds, and what a Set makes of it. Assumes nothing.
+use mathlib.Core.Path.{_≡_, refl, sym, ap, _∙_}
+use mathlib.Core.Logic.{_≢_}
+use mathlib.Core.Bool.{Bool, true, false}
+use Prim.Native.Nat.{ℕ, _≤_, _<_}
+use native.Mathlib.Omega.{arith}
+use borrow.Author.Tests.{lt-ltb, le-ltb, ltb-true, ltb-false, eqb-true, eqb-false}
+use lib.ListN.{length}
+use lib.Seq.{getD-set-same, getD-set-other}
+use lib.Dec.{ltb, eqb}
+use Rattle.laws.proofs.Bools.{and-left, and-right, both, or-second}
+use Rattle.laws.proofs.Lists.{upTo-at, upTo-all}
+use Rattle.settings.specs.Columns.{count, partnerAt, roleAt}
+use Rattle.settings.specs.Rules.{inRange, agrees, allowedFor, allowed, numberAt, partnerNumber, changed, nearestOf}
+use Rattle.settings.specs.Calls.{partnerFits, setting}
+use Rattle.settings.specs.Laws.{SetKeepsAllowed, SetChangesOne, PairsHaveAnOrder}
+use Rattle.settings.specs.declared.columns.Role.{Role}
+use Rattle.settings.specs.declared.Table.{Table}
+use Rattle.settings.specs.declared.Answer.{Answer}
+use Rattle.settings.proofs.Rows.{partner-below, partner-back}
+use Rattle.settings.proofs.Pairs.{agrees-turned, role-turned, agrees-exchange, alone-role}
+
+-- "in its own range and agrees with the partner", apart and together
+pub allowed-range : (k n p : ℕ) → allowedFor k n p ≡ true → inRange k n ≡ true
+unfolding allowedFor
+allowed-range k n p e = and-left _ (agrees (roleAt k) n p) e
+
+pub allowed-agrees : (k n p : ℕ) → allowedFor k n p ≡ true → agrees (roleAt k) n p ≡ true
+unfolding allowedFor
+allowed-agrees k n p e = and-right (inRange k n) _ e
+
+pub allowed-both : (k n p : ℕ) → inRange k n ≡ true → agrees (roleAt k) n p ≡ true → allowedFor k n p ≡ true
+unfolding allowedFor
+allowed-both k n p a b = both _ _ a b
+
+-- what an allowed table holds
+module _ (t : Table) (ok : allowed t ≡ true) (k : ℕ) (h : k < 26) where
+  pub allowed-at : allowedFor k (numberAt t k) (partnerNumber t k) ≡ true
+  unfolding allowed
+  allowed-at = upTo-at count (λ i. allowedFor i (numberAt t i) (partnerNumber t i)) ok k h
+
+  pub range-at : inRange k (numberAt t k) ≡ true
+  range-at = allowed-range k (numberAt t k) (partnerNumber t k) allowed-at
+
+  pub agrees-at : agrees (roleAt k) (numberAt t k) (partnerNumber t k) ≡ true
+  agrees-at = allowed-agrees k (numberAt t k) (partnerNumber t k) allowed-at
+
+pub partner-fits : (t : Table) → allowed t ≡ true → (k : ℕ) → k < 26 → partnerFits k (partnerNumber t k) ≡ true
+unfolding partnerFits
+partner-fits t ok k h = or-second (eqb (partnerAt k) k) _ (range-at t ok (partnerAt k) (partner-below k h))
+
+-- a Set, case by case
+pub setting-stray : (t : Table) (k n : ℕ) → allowed t ≡ false → setting t k n ≡ record { answer = Answer.Refused 12 0; table = t }
+unfolding setting
+setting-stray t k n e = rw e
+
+module _ (t : Table) (k n : ℕ) (ok : allowed t ≡ true) where
+  pub setting-past : 26 ≤ k → setting t k n ≡ record { answer = Answer.Refused 12 0; table = t }
+  unfolding setting
+  setting-past h = rw (ok, le-ltb k 26 h)
+
+  pub setting-refused : k < 26 → allowedFor k n (partnerNumber t k) ≡ false
+      → setting t k n ≡ record { answer = Answer.Refused 10 (nearestOf k n (partnerNumber t k)); table = t }
+  unfolding setting
+  setting-refused h e = rw (ok, lt-ltb k 26 h, e)
+
+  pub setting-accepted : k < 26 → allowedFor k n (partnerNumber t k) ≡ true → setting t k n ≡ record { answer = Answer.Accepted; table = changed t k n }
+  unfolding setting
+  setting-accepted h e = rw (ok, lt-ltb k 26 h, e)
+
+-- without a partner any number serves as the partner's
+alone-any : (k n p q : ℕ) → k < 26 → partnerAt k ≡ k → allowedFor k n p ≡ true → allowedFor k n q ≡ true
+unfolding allowedFor agrees
+alone-any k n p q h e ok = rw (alone-role k h e) (rw (alone-role k h e) at ok)
+
+-- what agrees seen from one of a pair agrees seen from the other
+partner-agrees : (k n x : ℕ) → k < 26 → agrees (roleAt k) n x ≡ true → agrees (roleAt (partnerAt k)) x n ≡ true
+partner-agrees k n x h e = ap (λ (r : Role). agrees r x n) (role-turned k h) ∙ agrees-turned (roleAt k) n x ∙ e
+
+-- a number that is allowed leaves the table allowed
+module _ (t : Table) (k n : ℕ) (ok : allowed t ≡ true) (h : k < 26) (long : length (t .numbers) ≡ 26) (fits : allowedFor k n (partnerNumber t k) ≡ true) where
+  here : numberAt (changed t k n) k ≡ n
+  here = getD-set-same (t .numbers) k n 0 (omega arith)
+
+  other : (j : ℕ) → j ≢ k → numberAt (changed t k n) j ≡ numberAt t j
+  other j e = getD-set-other (t .numbers) k j n 0 e
+
+  -- at the setting itself: its partner holds what it held, unless it is its own
+  at-own : allowedFor k n (numberAt (changed t k n) (partnerAt k)) ≡ true
+  at-own = by (eqb (partnerAt k) k) refl
+    where
+      by : (s : Bool) → eqb (partnerAt k) k ≡ s → allowedFor k n (numberAt (changed t k n) (partnerAt k)) ≡ true
+      by true e = alone-any k n (partnerNumber t k) _ h (eqb-true (partnerAt k) k e) fits
+      by false e = rw (other (partnerAt k) (eqb-false (partnerAt k) k e)) fits
+
+  -- at another: its partner holds what it held, unless that is the setting
+  at-other : (j : ℕ) → j < 26 → j ≢ k → allowedFor j (numberAt t j) (numberAt (changed t k n) (partnerAt j)) ≡ true
+  at-other j below e = by (eqb (partnerAt j) k) refl
+    where
+      by : (s : Bool) → eqb (partnerAt j) k ≡ s → allowedFor j (numberAt t j) (numberAt (changed t k n) (partnerAt j)) ≡ true
+      by true p =
+          let is : partnerAt j ≡ k = eqb-true (partnerAt j) k p in
+          let back : partnerAt k ≡ j = ap partnerAt (sym is) ∙ partner-back j below in
+          let agreed : agrees (roleAt k) n (numberAt t j) ≡ true = rw back at (allowed-agrees k n (partnerNumber t k) fits) in
+          let seen : agrees (roleAt j) (numberAt t j) n ≡ true = rw back at (partner-agrees k n (numberAt t j) h agreed) in
+          rw (is, here) (allowed-both j (numberAt t j) n (range-at t ok j below) seen)
+      by false p = rw (other (partnerAt j) (eqb-false (partnerAt j) k p)) (allowed-at t ok j below)
+
+  pub changed-allowed : allowed (changed t k n) ≡ true
+  unfolding allowed
+  changed-allowed = upTo-all count _ (λ j below. by j below (eqb j k) refl)
+    where
+      by : (j : ℕ) → j < 26 → (s : Bool) → eqb j k ≡ s → allowedFor j (numberAt (changed t k n) j) (partnerNumber (changed t k n) j) ≡ true
+      by j below true e = let is : j ≡ k = eqb-true j k e in rw (is, here) at-own
+      by j below false e = let apart : j ≢ k = eqb-false j k e in rw (other j apart) (at-other j below apart)
+
+-- so a Set keeps a table allowed and changes no other setting
+pub set-allowed : SetKeepsAllowed
+set-allowed t k n long ok = by (ltb k 26) (allowedFor k n (partnerNumber t k)) refl refl
+  where
+    by : (s r : Bool) → ltb k 26 ≡ s → allowedFor k n (partnerNumber t k) ≡ r → allowed (setting t k n .table) ≡ true
+    by true true p q = rw (setting-accepted t k n ok (ltb-true k 26 p) q) (changed-allowed t k n ok (ltb-true k 26 p) long q)
+    by true false p q = rw (setting-refused t k n ok (ltb-true k 26 p) q) ok
+    by false r p q = rw (setting-past t k n ok (ltb-false k 26 p)) ok
+
+pub set-one : SetChangesOne
+set-one t k n j apart = by (allowed t) (ltb k 26) (allowedFor k n (partnerNumber t k)) refl refl refl
+  where
+    by : (o s r : Bool) → allowed t ≡ o → ltb k 26 ≡ s → allowedFor k n (partnerNumber t k) ≡ r → numberAt (setting t k n .table) j ≡ numberAt t j
+    by false s r o p q = rw (setting-stray t k n o)
+    by true true true o p q = rw (setting-accepted t k n o (ltb-true k 26 p) q) (getD-set-other (t .numbers) k j n 0 apart)
+    by true true false o p q = rw (setting-refused t k n o (ltb-true k 26 p) q)
+    by true false r o p q = rw (setting-past t k n o (ltb-false k 26 p))
+
+-- between two allowed tables
+pub pairs-order : PairsHaveAnOrder
+pairs-order from to ok ok′ k h =
+    record {
+      else-partner = λ e. partner-agrees k (numberAt from k) (numberAt to (partnerAt k)) h
+          (agrees-exchange (roleAt k) (numberAt from k) (partnerNumber from k) (numberAt to k) (partnerNumber to k) (agrees-at from ok k h) (agrees-at to ok′ k h) e);
+      then-partner = partner-agrees k (numberAt to k) (partnerNumber to k) h (agrees-at to ok′ k h);
+    }

@@ -1,0 +1,30 @@
+-- The statements of specs/Laws.antt, proved. Assumes nothing.
+use mathlib.Core.Path.{refl}
+use Rattle.settings.specs.Rules.{inRange, lowAgrees, highAgrees, agrees, allowedFor, allowed}
+use Rattle.settings.specs.Laws.{NearestIsFound, NearestIsOne, SetKeepsAllowed, SetChangesOne, RowsHold, FactoryIsAllowed, PairsHaveAnOrder}
+use Rattle.settings.proofs.Nearness.{nearest-one}
+use Rattle.settings.proofs.Windows.{nearest-found}
+use Rattle.settings.proofs.Rows.{row-holds}
+use Rattle.settings.proofs.Tables.{set-allowed, set-one, pairs-order}
+
+pub nearest-is-found : NearestIsFound
+nearest-is-found = nearest-found
+
+pub nearest-is-one : NearestIsOne
+nearest-is-one k wished partner = nearest-one _ wished
+
+pub set-keeps-allowed : SetKeepsAllowed
+set-keeps-allowed = set-allowed
+
+pub set-changes-one : SetChangesOne
+set-changes-one = set-one
+
+pub rows-hold : RowsHold
+rows-hold = row-holds
+
+pub factory-is-allowed : FactoryIsAllowed
+unfolding allowed allowedFor inRange agrees lowAgrees highAgrees
+factory-is-allowed = (refl, refl)
+
+pub pairs-have-an-order : PairsHaveAnOrder
+pairs-have-an-order = pairs-order

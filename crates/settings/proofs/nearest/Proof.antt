@@ -1,0 +1,31 @@
+-- `settings::nearest` meets its contract. Assumes nothing.
+use native.Mathlib.Omega.{arith}
+use mathlib.Core.Path.{sym, _∙_}
+use borrow.Author.Tests.{lt-ltb, le-ltb, not-true, not-false}
+use Rattle.settings.specs.Calls.{nearing}
+use Rattle.settings.proofs.nearest.Statement.{statement}
+use Rattle.settings.proofs.nearest.Tie as tie
+
+place-of-requires : tie.Need-place-of-requires
+place-of-requires c κs = tt
+
+returns : tie.Need-returns
+unfolding nearing
+returns c = rw (sym (c .before .place-of .ensures)) (simp (le-ltb _ 26 (c .if1 .taken)))
+
+is-fit-requires : tie.Need-is-fit-requires
+is-fit-requires c κs = omega arith
+
+returns-2 : tie.Need-returns-2
+unfolding nearing
+returns-2 c = rw (sym (c .before .before .before .place-of .ensures)) (simp (lt-ltb _ 26 (c .before .before .if1 .left), sym (c .before .is-fit .ensures) ∙ not-true _ (c .if2 .taken)))
+
+nearest-of-requires : tie.Need-nearest-of-requires
+nearest-of-requires c κs = (omega arith, sym (c .before .is-fit .ensures) ∙ not-false _ (c .if2 .left))
+
+returns-3 : tie.Need-returns-3
+unfolding nearing
+returns-3 c = rw (sym (c .before .before .before .before .place-of .ensures)) (simp (lt-ltb _ 26 (c .before .before .before .if1 .left), sym (c .before .before .is-fit .ensures) ∙ not-false _ (c .before .if2 .left), c .nearest-of .ensures))
+
+pub nearest-spec : {M : Type 1} → statement M
+nearest-spec = tie.close (tie.spec place-of-requires returns is-fit-requires returns-2 nearest-of-requires returns-3)

@@ -1,0 +1,48 @@
+-- What each public call answers, for every input. Assumes nothing.
+use Prim.Native.Nat.{ℕ, zero}
+use mathlib.Core.Bool.{Bool, cond, _&&_, _||_}
+use lib.Dec.{ltb, eqb}
+use Rattle.laws.specs.Lists.{before}
+use Rattle.settings.specs.Columns.{count, ids, idAt, widthAt, partnerAt}
+use Rattle.settings.specs.Rules.{inRange, allowedFor, allowed, numberAt, partnerNumber, changed, nearestOf}
+use Rattle.settings.specs.declared.Found.{Found}
+use Rattle.settings.specs.declared.Table.{Table}
+use Rattle.settings.specs.declared.Number.{Number}
+use Rattle.settings.specs.declared.Answer.{Answer}
+use Rattle.settings.specs.declared.Change.{Change}
+
+-- the setting at a place of the table, and the setting of an id
+unfoldable pub placing : ℕ → Found
+placing k = cond (ltb k count) (Found.At (record { index = k; id = idAt k; width = widthAt k })) Found.Nothing
+
+-- the place of an id: where it stands first, or past the table
+unfoldable pub placeOf : ℕ → ℕ
+placeOf id = before (λ x. eqb x id) ids
+
+unfoldable pub finding : ℕ → Found
+finding id = placing (placeOf id)
+
+-- a setting's number; 12 for a place past the table
+unfoldable pub holding : Table → ℕ → Number
+holding t k = cond (ltb k count) (Number.Is (numberAt t k)) (Number.Refused 12)
+
+-- A Set of one setting: 12 for a table that is not allowed or a place past it, 10 with the nearest allowed number for a number that is
+-- not allowed, and the table then as it was.
+unfoldable pub setting : Table → ℕ → ℕ → Change
+setting t k n =
+    cond (allowed t && ltb k count)
+    (cond (allowedFor k n (partnerNumber t k))
+    (record { answer = Answer.Accepted; table = changed t k n })
+    (record { answer = Answer.Refused 10 (nearestOf k n (partnerNumber t k)); table = t }))
+    (record { answer = Answer.Refused 12 zero; table = t })
+
+-- The nearest allowed number. "7 if the id is no setting, then 12 if the partner is outside its own range", the partner's number being
+-- "unused without a partner".
+unfoldable pub partnerFits : ℕ → ℕ → Bool
+partnerFits k partner = eqb (partnerAt k) k || inRange (partnerAt k) partner
+
+unfoldable pub nearing : ℕ → ℕ → ℕ → Number
+nearing id wished partner =
+    cond (ltb (placeOf id) count)
+    (cond (partnerFits (placeOf id) partner) (Number.Is (nearestOf (placeOf id) wished partner)) (Number.Refused 12))
+    (Number.Refused 7)

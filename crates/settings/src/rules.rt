@@ -1,0 +1,74 @@
+// The rules over the table: a setting's own range, the pair rule, and what is allowed.
+ghost use Prim.Native.Nat.{_<_};
+ghost use mathlib.Core.Path.{_≡_};
+ghost use Rattle.settings.specs.Rules.{inRange, lowAgrees, highAgrees, agrees, allowedFor, allowed};
+ghost use Rattle.settings.specs.Calls.{partnerFits};
+use crate::COUNT;
+use crate::columns;
+use crate::columns::Role;
+
+// A number in the setting's own range.
+pub(crate) fn in_range(index: usize, n: u16) -> bool
+    requires { ⌜ index < 26 ⌝ }
+    ensures { λ r. ⌜ r ≡ inRange index n ⌝ }
+{
+    (columns::zero_of(index) & (n == 0))
+        | ((columns::low_of(index) <= n) & (n <= columns::high_of(index)))
+}
+
+// A low pair: the first is at most the second.
+fn low_agrees(first: u16, second: u16) -> bool
+    ensures { λ r. ⌜ r ≡ lowAgrees first second ⌝ }
+{
+    first <= second
+}
+
+// A high pair: the first is at least the second.
+fn high_agrees(first: u16, second: u16) -> bool
+    ensures { λ r. ⌜ r ≡ highAgrees first second ⌝ }
+{
+    second <= first
+}
+
+// Whether a number agrees with the partner's, by the setting's part in its pair.
+pub(crate) fn agrees_by(role: Role, n: u16, partner: u16) -> bool
+    ensures { λ r. ⌜ r ≡ agrees role n partner ⌝ }
+{
+    match role {
+        Role::Alone => true,
+        Role::LowFirst => low_agrees(n, partner),
+        Role::LowSecond => low_agrees(partner, n),
+        Role::HighFirst => high_agrees(n, partner),
+        Role::HighSecond => high_agrees(partner, n),
+    }
+}
+
+// A number that is allowed for a setting while its partner holds another.
+pub(crate) fn allowed_for(index: usize, n: u16, partner: u16) -> bool
+    requires { ⌜ index < 26 ⌝ }
+    ensures { λ r. ⌜ r ≡ allowedFor index n partner ⌝ }
+{
+    in_range(index, n) & agrees_by(columns::role_of(index), n, partner)
+}
+
+// A partner's number that may be handed in: in the partner's own range, or any where there is no partner.
+pub(crate) fn is_fit(index: usize, partner: u16) -> bool
+    requires { ⌜ index < 26 ⌝ }
+    ensures { λ r. ⌜ r ≡ partnerFits index partner ⌝ }
+{
+    let other = columns::partner_of(index);
+    (other == index) | in_range(other, partner)
+}
+
+// Every number is in its own range, and every pair agrees.
+pub(crate) fn all_allowed(numbers: [u16; COUNT]) -> bool
+    ensures { λ r. ⌜ r ≡ allowed (record { numbers = numbers }) ⌝ }
+{
+    let mut all = true;
+    let mut i = 0;
+    while i < COUNT {
+        all = all & allowed_for(i, numbers[i], numbers[columns::partner_of(i)]);
+        i += 1;
+    }
+    all
+}
