@@ -1,9 +1,9 @@
--- The constant table of 26 settings, column by column, in the order of the ids. Document 01: "Width 1 where marked, else 2. Shown: id,
--- allowed, factory." The same columns stand as const arrays in src/columns.rt; what each entry is there, it is here (proved where an entry
--- is read). Assumes nothing.
+-- The constant table of 26 settings, a row each, in the order of the ids. Document 01, "Settings": "Width 1 where marked, else 2. Shown:
+-- id, allowed, factory." The same numbers stand as const arrays, column by column, in src/columns.rt; that they are the same is proved
+-- where an entry is read. Assumes nothing.
 use Prim.Native.Nat.{ℕ}
 use mathlib.Core.Bool.{Bool, true, false}
-use mathlib.Core.List.{List, [], _∷_}
+use mathlib.Core.List.{List, [], _∷_, map}
 use lib.ListN.{getD}
 use Rattle.settings.specs.declared.columns.Role.{Role}
 use Rattle.settings.specs.declared.Table.{Table}
@@ -12,58 +12,97 @@ use Rattle.settings.specs.declared.Table.{Table}
 abbrev pub count : ℕ
 count = 26
 
--- ids, ascending
+-- A setting: id, width in bytes, lower and upper end, whether 0 is allowed besides ("0 or 17400..37200"), factory number, the place of the
+-- other one of its pair (a setting alone is its own partner), and its part in the pair.
+pub record Entry : Type 0 where
+  pub id : ℕ
+  pub width : ℕ
+  pub low : ℕ
+  pub high : ℕ
+  pub zero-too : Bool
+  pub factory-number : ℕ
+  pub partner : ℕ
+  pub role : Role
+
+abbrev entry : ℕ → ℕ → ℕ → ℕ → Bool → ℕ → ℕ → Role → Entry
+entry i w l h z f p r =
+    record { id = i; width = w; low = l; high = h; zero-too = z; factory-number = f; partner = p; role = r }
+
+abbrev pub entries : List Entry
+entries =
+    entry 0x0320 2 0 950 false 0 1 Role.LowFirst ∷  -- low voltage
+    entry 0x0321 2 0 950 false 0 0 Role.LowSecond ∷  -- its clear
+    entry 0x0322 2 0 950 false 0 3 Role.HighFirst ∷  -- high voltage
+    entry 0x0323 2 0 950 false 0 2 Role.HighSecond ∷  -- its clear
+    entry 0x0328 2 0 990 false 0 5 Role.LowFirst ∷  -- low SOC
+    entry 0x0329 2 0 990 false 0 4 Role.LowSecond ∷  -- its clear
+    entry 0x032A 2 17400 37200 true 0 7 Role.LowFirst ∷  -- low temperature
+    entry 0x032B 2 17400 37200 true 0 6 Role.LowSecond ∷  -- its clear
+    entry 0x032C 2 17400 37200 true 0 9 Role.HighFirst ∷  -- high temperature
+    entry 0x032D 2 17400 37200 true 0 8 Role.HighSecond ∷  -- its clear
+    entry 0x0400 1 0 1 false 1 10 Role.Alone ∷  -- backlight on
+    entry 0x1000 2 1 9999 false 200 11 Role.Alone ∷  -- capacity
+    entry 0x1001 2 0 950 false 132 12 Role.Alone ∷  -- charged voltage
+    entry 0x1002 2 5 100 false 40 13 Role.Alone ∷  -- tail current
+    entry 0x1003 2 1 50 false 3 14 Role.Alone ∷  -- detection time
+    entry 0x1004 2 50 99 false 90 15 Role.Alone ∷  -- efficiency
+    entry 0x1005 2 100 150 false 125 16 Role.Alone ∷  -- Peukert
+    entry 0x1006 2 0 200 false 10 17 Role.Alone ∷  -- threshold
+    entry 0x1007 2 0 12 false 3 18 Role.Alone ∷  -- TTG delta
+    entry 0x1008 2 0 990 false 500 20 Role.LowFirst ∷  -- discharge floor
+    entry 0x1009 2 0 990 false 900 19 Role.LowSecond ∷  -- its clear
+    entry 0xEEF5 1 1 5 false 3 21 Role.Alone ∷  -- scroll
+    entry 0xEEF7 1 0 1 false 0 22 Role.Alone ∷  -- unit
+    entry 0xEEFB 2 1 9999 false 500 23 Role.Alone ∷  -- shunt amps
+    entry 0xEEFC 1 0 1 false 1 24 Role.Alone ∷  -- buzzer
+    entry 0xEEFE 1 0 9 false 5 25 Role.Alone ∷  -- backlight
+    []
+
+-- the columns, and a setting's entry in each by its place
 abbrev pub ids : List ℕ
-ids = 0x0320 ∷ 0x0321 ∷ 0x0322 ∷ 0x0323 ∷ 0x0328 ∷ 0x0329 ∷ 0x032A ∷ 0x032B ∷ 0x032C ∷ 0x032D ∷ 0x0400 ∷ 0x1000 ∷ 0x1001 ∷ 0x1002 ∷ 0x1003 ∷ 0x1004 ∷ 0x1005 ∷ 0x1006 ∷ 0x1007 ∷ 0x1008 ∷ 0x1009 ∷ 0xEEF5 ∷ 0xEEF7 ∷ 0xEEFB ∷ 0xEEFC ∷ 0xEEFE ∷ []
+ids = map (λ (e : Entry). e .id) entries
 
--- widths in bytes
-abbrev pub widths : List ℕ
-widths = 2 ∷ 2 ∷ 2 ∷ 2 ∷ 2 ∷ 2 ∷ 2 ∷ 2 ∷ 2 ∷ 2 ∷ 1 ∷ 2 ∷ 2 ∷ 2 ∷ 2 ∷ 2 ∷ 2 ∷ 2 ∷ 2 ∷ 2 ∷ 2 ∷ 1 ∷ 1 ∷ 2 ∷ 1 ∷ 1 ∷ []
-
--- lower and upper ends of the own range
-abbrev pub lows : List ℕ
-lows = 0 ∷ 0 ∷ 0 ∷ 0 ∷ 0 ∷ 0 ∷ 17400 ∷ 17400 ∷ 17400 ∷ 17400 ∷ 0 ∷ 1 ∷ 0 ∷ 5 ∷ 1 ∷ 50 ∷ 100 ∷ 0 ∷ 0 ∷ 0 ∷ 0 ∷ 1 ∷ 0 ∷ 1 ∷ 0 ∷ 0 ∷ []
-
-abbrev pub highs : List ℕ
-highs = 950 ∷ 950 ∷ 950 ∷ 950 ∷ 990 ∷ 990 ∷ 37200 ∷ 37200 ∷ 37200 ∷ 37200 ∷ 1 ∷ 9999 ∷ 950 ∷ 100 ∷ 50 ∷ 99 ∷ 150 ∷ 200 ∷ 12 ∷ 990 ∷ 990 ∷ 5 ∷ 1 ∷ 9999 ∷ 1 ∷ 9 ∷ []
-
--- "0 or 17400..37200": whether 0 is allowed besides
-abbrev pub zeros : List Bool
-zeros = false ∷ false ∷ false ∷ false ∷ false ∷ false ∷ true ∷ true ∷ true ∷ true ∷ false ∷ false ∷ false ∷ false ∷ false ∷ false ∷ false ∷ false ∷ false ∷ false ∷ false ∷ false ∷ false ∷ false ∷ false ∷ false ∷ []
-
--- factory numbers
-abbrev pub factories : List ℕ
-factories = 0 ∷ 0 ∷ 0 ∷ 0 ∷ 0 ∷ 0 ∷ 0 ∷ 0 ∷ 0 ∷ 0 ∷ 1 ∷ 200 ∷ 132 ∷ 40 ∷ 3 ∷ 90 ∷ 125 ∷ 10 ∷ 3 ∷ 500 ∷ 900 ∷ 3 ∷ 0 ∷ 500 ∷ 1 ∷ 5 ∷ []
-
--- the place of the other one of the pair; a setting alone is its own partner
-abbrev pub partners : List ℕ
-partners = 1 ∷ 0 ∷ 3 ∷ 2 ∷ 5 ∷ 4 ∷ 7 ∷ 6 ∷ 9 ∷ 8 ∷ 10 ∷ 11 ∷ 12 ∷ 13 ∷ 14 ∷ 15 ∷ 16 ∷ 17 ∷ 18 ∷ 20 ∷ 19 ∷ 21 ∷ 22 ∷ 23 ∷ 24 ∷ 25 ∷ []
-
--- "Low pairs 0320/0321, 0328/0329, 032A/032B, 1008/1009 [..] High pairs 0322/0323, 032C/032D"
-abbrev pub roles : List Role
-roles = Role.LowFirst ∷ Role.LowSecond ∷ Role.HighFirst ∷ Role.HighSecond ∷ Role.LowFirst ∷ Role.LowSecond ∷ Role.LowFirst ∷ Role.LowSecond ∷ Role.HighFirst ∷ Role.HighSecond ∷ Role.Alone ∷ Role.Alone ∷ Role.Alone ∷ Role.Alone ∷ Role.Alone ∷ Role.Alone ∷ Role.Alone ∷ Role.Alone ∷ Role.Alone ∷ Role.LowFirst ∷ Role.LowSecond ∷ Role.Alone ∷ Role.Alone ∷ Role.Alone ∷ Role.Alone ∷ Role.Alone ∷ []
-
--- a setting's entries, by its place
 abbrev pub idAt : ℕ → ℕ
 idAt k = getD ids k 0
+
+abbrev pub widths : List ℕ
+widths = map (λ (e : Entry). e .width) entries
 
 abbrev pub widthAt : ℕ → ℕ
 widthAt k = getD widths k 0
 
+abbrev pub lows : List ℕ
+lows = map (λ (e : Entry). e .low) entries
+
 abbrev pub lowAt : ℕ → ℕ
 lowAt k = getD lows k 0
+
+abbrev pub highs : List ℕ
+highs = map (λ (e : Entry). e .high) entries
 
 abbrev pub highAt : ℕ → ℕ
 highAt k = getD highs k 0
 
+abbrev pub zeros : List Bool
+zeros = map (λ (e : Entry). e .zero-too) entries
+
 abbrev pub zeroAt : ℕ → Bool
 zeroAt k = getD zeros k false
+
+abbrev pub factories : List ℕ
+factories = map (λ (e : Entry). e .factory-number) entries
 
 abbrev pub factoryAt : ℕ → ℕ
 factoryAt k = getD factories k 0
 
+abbrev pub partners : List ℕ
+partners = map (λ (e : Entry). e .partner) entries
+
 abbrev pub partnerAt : ℕ → ℕ
 partnerAt k = getD partners k 0
+
+abbrev pub roles : List Role
+roles = map (λ (e : Entry). e .role) entries
 
 abbrev pub roleAt : ℕ → Role
 roleAt k = getD roles k Role.Alone

@@ -133,7 +133,8 @@ impl Table {
             return refused(self, NOT_ALLOWED, 0);
         }
         let mut numbers = self.numbers;
-        let partner = numbers[columns::partner_of(index)];
+        let other = columns::partner_of(index);
+        let partner = numbers[other];
         if !rules::allowed_for(index, number, partner) {
             return refused(
                 self,
