@@ -33,3 +33,7 @@ gives-none {buffer = buffer} r e = gives-bytes r [] buffer e refl
 -- two answers that meet the same promise are the same, and so are the buffers that they leave
 pub gives-same : {A : Type 0} {given : Given A} {buffer : List ℕ} {r r′ : A} {l l′ : List ℕ} → Gives A given buffer r l → Gives A given buffer r′ l′ → (r ≡ r′) × (l ≡ l′)
 gives-same g g′ = (g .answered ∙ sym (g′ .answered), g .left ∙ sym (g′ .left))
+
+-- the same where a promise is an equation alone
+pub equal-same : {A : Type 0} {r r′ given : A} → r ≡ given → r′ ≡ given → r ≡ r′
+equal-same met met′ = met ∙ sym met′

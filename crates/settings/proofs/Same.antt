@@ -1,6 +1,7 @@
 -- Two answers that meet a call's own contract are the same. `Post` is what the call ensures, as its source states it. Assumes nothing.
-use mathlib.Core.Path.{_≡_, sym, _∙_}
+use mathlib.Core.Path.{_≡_}
 use Prim.Native.Nat.{ℕ}
+use Rattle.laws.proofs.Promise.{equal-same}
 use Rattle.settings.specs.declared.Found.{Found}
 use Rattle.settings.specs.declared.Number.{Number}
 use Rattle.settings.specs.declared.Table.{Table}
@@ -14,29 +15,25 @@ use Rattle.settings.proofs.Table.is_allowed.Reads as is-allowed
 use Rattle.settings.proofs.Table.number.Reads as number
 use Rattle.settings.proofs.Table.set.Reads as set
 
--- what equals the same is the same
-alike : {A : Type 0} {r r′ given : A} → r ≡ given → r′ ≡ given → r ≡ r′
-alike met met′ = met ∙ sym met′
-
 pub find-same : (id : ℕ) (r r′ : Found) → find.Post tt (id, tt) r (id, tt) → find.Post tt (id, tt) r′ (id, tt) → r ≡ r′
-find-same id r r′ met met′ = alike met met′
+find-same id r r′ met met′ = equal-same met met′
 
 pub at-same : (index : ℕ) (r r′ : Found) → at.Post tt (index, tt) r (index, tt) → at.Post tt (index, tt) r′ (index, tt) → r ≡ r′
-at-same index r r′ met met′ = alike met met′
+at-same index r r′ met met′ = equal-same met met′
 
 pub nearest-same : (id wished partner : ℕ) (r r′ : Number) → nearest.Post tt (id, (wished, (partner, tt))) r (id, (wished, (partner, tt)))
     → nearest.Post tt (id, (wished, (partner, tt))) r′ (id, (wished, (partner, tt))) → r ≡ r′
-nearest-same id wished partner r r′ met met′ = alike met met′
+nearest-same id wished partner r r′ met met′ = equal-same met met′
 
 pub factory-same : (r r′ : Table) → factory.Post tt tt r tt → factory.Post tt tt r′ tt → r ≡ r′
-factory-same r r′ met met′ = alike met met′
+factory-same r r′ met met′ = equal-same met met′
 
 pub is-allowed-same : (t : Table) (r r′ : Bool) → is-allowed.Post tt (t, tt) r (t, tt) → is-allowed.Post tt (t, tt) r′ (t, tt) → r ≡ r′
-is-allowed-same t r r′ met met′ = alike met met′
+is-allowed-same t r r′ met met′ = equal-same met met′
 
 pub number-same : (t : Table) (index : ℕ) (r r′ : Number) → number.Post tt (t, (index, tt)) r (t, (index, tt)) → number.Post tt (t, (index, tt)) r′ (t, (index, tt)) → r ≡ r′
-number-same t index r r′ met met′ = alike met met′
+number-same t index r r′ met met′ = equal-same met met′
 
 pub set-same : (t : Table) (index n : ℕ) (r r′ : Change) → set.Post tt (t, (index, (n, tt))) r (t, (index, (n, tt)))
     → set.Post tt (t, (index, (n, tt))) r′ (t, (index, (n, tt))) → r ≡ r′
-set-same t index n r r′ met met′ = alike met met′
+set-same t index n r r′ met met′ = equal-same met met′

@@ -1,11 +1,11 @@
 -- Two answers that meet a call's own contract are the same, and so are the buffers that they leave. `Post` is what the call ensures, as
 -- its source states it. Assumes nothing.
-use mathlib.Core.Path.{_≡_, sym, _∙_}
+use mathlib.Core.Path.{_≡_}
 use mathlib.Core.List.{List}
 use Prim.Native.Nat.{ℕ}
 use denote.Ref.{RefT, now}
 use contract.Lifetimes.{Lfts}
-use Rattle.laws.proofs.Promise.{gives-same}
+use Rattle.laws.proofs.Promise.{gives-same, equal-same}
 use Rattle.wire.specs.declared.Written.{Written}
 use Rattle.wire.specs.declared.Read.{Read}
 use Rattle.wire.specs.declared.Held.{Held}
@@ -32,4 +32,4 @@ module _ (κs : Lfts 2) (bytes buffer left left′ : RefT (List ℕ)) where
   hear-same held r r′ met met′ = gives-same met met′
 
 pub outside-same : (r r′ : Held) → outside.Post tt tt r tt → outside.Post tt tt r′ tt → r ≡ r′
-outside-same r r′ met met′ = met ∙ sym met′
+outside-same r r′ met met′ = equal-same met met′

@@ -20,4 +20,7 @@ unfolding placing
 returns-2 c = rw (c .before .id-of .ensures, c .width-of .ensures, lt-ltb _ 26 (c .before .before .if1 .left))
 
 pub at-spec : {M : Type 1} → statement M
-at-spec = tie.close (tie.spec returns id-of-requires width-of-requires returns-2)
+at-spec =
+    tie.close
+    (tie.spec
+    returns id-of-requires width-of-requires returns-2)

@@ -14,4 +14,7 @@ unfolding finding
 returns c = rw (c .at .ensures, c .before .place-of .ensures)
 
 pub find-spec : {M : Type 1} → statement M
-find-spec = tie.close (tie.spec place-of-requires at-requires returns)
+find-spec =
+    tie.close
+    (tie.spec
+    place-of-requires at-requires returns)

@@ -25,7 +25,13 @@ nearest-of-requires c κs = (omega arith, sym (c .before .is-fit .ensures) ∙ n
 
 returns-3 : tie.Need-returns-3
 unfolding nearing
-returns-3 c = rw (sym (c .before .before .before .before .place-of .ensures)) (simp (lt-ltb _ 26 (c .before .before .before .if1 .left), sym (c .before .before .is-fit .ensures) ∙ not-false _ (c .before .if2 .left), c .nearest-of .ensures))
+returns-3 c =
+    let c4 = c .before .before .before .before in
+    let c4 = c4 in
+    rw (sym (c4 .place-of .ensures)) (simp (lt-ltb _ 26 (c .before .before .before .if1 .left), sym (c .before .before .is-fit .ensures) ∙ not-false _ (c .before .if2 .left), c .nearest-of .ensures))
 
 pub nearest-spec : {M : Type 1} → statement M
-nearest-spec = tie.close (tie.spec place-of-requires returns is-fit-requires returns-2 nearest-of-requires returns-3)
+nearest-spec =
+    tie.close
+    (tie.spec
+    place-of-requires returns is-fit-requires returns-2 nearest-of-requires returns-3)

@@ -18,6 +18,8 @@ long : (c : tie.Else2) → 2 ≤ length (c .before .before .before .before .befo
 long c =
     let c5 = c .before .before .before .before .before in
     let c5 = c5 in
+    let c5 = c5 in
+    let c5 = c5 in
     enclosed-long (c5 .args .frame .now) (enclosed c)
 
 returns : tie.Need-returns
@@ -50,6 +52,8 @@ same-length c = omega arith
 returns-3 : tie.Need-returns-3
 returns-3 c =
     let c5 = c .before .before .before .before .before in
+    let c5 = c5 in
+    let c5 = c5 in
     let c5 = c5 in
     let c7 = c5 .before .before in
     let c10 = c7 .before .before .before in

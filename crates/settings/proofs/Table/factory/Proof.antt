@@ -9,4 +9,7 @@ returns : tie.Need-returns
 returns c = rw (c .factory-numbers .ensures)
 
 pub factory-spec : {M : Type 1} → statement M
-factory-spec = tie.close (tie.spec factory-numbers-requires returns)
+factory-spec =
+    tie.close
+    (tie.spec
+    factory-numbers-requires returns)

@@ -20,4 +20,7 @@ unfolding holding
 returns-2 c = simp (lt-ltb _ 26 (c .before .if1 .left))
 
 pub number-spec : {M : Type 1} → statement M
-number-spec = tie.close (tie.spec returns mul-t5 array-read-t8 returns-2)
+number-spec =
+    tie.close
+    (tie.spec
+    returns mul-t5 array-read-t8 returns-2)

@@ -44,16 +44,22 @@ allowed-for-requires : tie.Need-allowed-for-requires
 allowed-for-requires c κs = omega arith
 
 nearest-of-requires : tie.Need-nearest-of-requires
-nearest-of-requires c κs = (c .before .before .before .before .if2 .left, rw (c .before .before .partner-of .ensures) (partner-fits _ (ok (c .before .before .before .before .before)) _ (c .before .before .before .before .if2 .left)))
+nearest-of-requires c κs =
+    let c4 = c .before .before .before .before in
+    let c5 = c4 .before in
+    (c4 .if2 .left, rw (c .before .before .partner-of .ensures) (partner-fits _ (ok c5) _ (c4 .if2 .left)))
 
 refused-requires-3 : tie.Need-refused-requires-3
 refused-requires-3 c κs = tt
 
 returns-3 : tie.Need-returns-3
 returns-3 c =
+    let c4 = c .before .before .before .before in
+    let c6 = c4 .before .before in
+    let c7 = c6 .before in
     c .refused3 .ensures
-    ∙ rw (c .before .nearest-of .ensures, c .before .before .before .before .partner-of .ensures)
-    (sym (setting-refused _ _ _ (ok (c .before .before .before .before .before .before .before)) (c .before .before .before .before .before .before .if2 .left) (rw (c .before .before .before .before .partner-of .ensures) at (sym (c .before .before .before .allowed-for .ensures) ∙ not-true _ (c .before .before .if3 .taken)))))
+    ∙ rw (c .before .nearest-of .ensures, c4 .partner-of .ensures)
+    (sym (setting-refused _ _ _ (ok c7) (c6 .if2 .left) (rw (c4 .partner-of .ensures) at (sym (c .before .before .before .allowed-for .ensures) ∙ not-true _ (c .before .before .if3 .taken)))))
 
 mul-numbers : tie.Need-mul-numbers
 mul-numbers c = omega arith
@@ -62,7 +68,14 @@ array-write-numbers : tie.Need-array-write-numbers
 array-write-numbers c = omega arith
 
 returns-4 : tie.Need-returns-4
-returns-4 c = sym (setting-accepted _ _ _ (ok (c .before .before .before .before .before)) (c .before .before .before .before .if2 .left) (rw (c .before .before .partner-of .ensures) at (sym (c .before .allowed-for .ensures) ∙ not-false _ (c .if3 .left))))
+returns-4 c =
+    let c4 = c .before .before .before .before in
+    let c5 = c4 .before in
+    sym (setting-accepted _ _ _ (ok c5) (c4 .if2 .left) (rw (c .before .before .partner-of .ensures) at (sym (c .before .allowed-for .ensures) ∙ not-false _ (c .if3 .left))))
 
 pub set-spec : {M : Type 1} → statement M
-set-spec = tie.close (tie.spec is-allowed-requires refused-requires returns refused-requires-2 returns-2 partner-of-requires mul-partner array-read-partner allowed-for-requires nearest-of-requires refused-requires-3 returns-3 mul-numbers array-write-numbers returns-4)
+set-spec =
+    tie.close
+    (tie.spec
+    is-allowed-requires refused-requires returns refused-requires-2 returns-2 partner-of-requires mul-partner array-read-partner
+    allowed-for-requires nearest-of-requires refused-requires-3 returns-3 mul-numbers array-write-numbers returns-4)

@@ -41,4 +41,7 @@ returns-2 : tie.Need-returns-2 Inv-loop μ-loop
 returns-2 c = sym (before-end _ ids _ (c .loop-test .left)) ∙ c .before .loop .inv .1
 
 pub place-of-spec : {M : Type 1} → statement M
-place-of-spec = tie.close (tie.spec Inv-loop μ-loop loop-holds id-of-requires returns add-i loop-less loop-again returns-2)
+place-of-spec =
+    tie.close
+    (tie.spec
+    Inv-loop μ-loop loop-holds id-of-requires returns add-i loop-less loop-again returns-2)

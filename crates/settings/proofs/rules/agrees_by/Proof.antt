@@ -53,4 +53,8 @@ unfolding agrees
 returns-5 c = c .high-agrees2 .ensures ∙ rw (c .before .enum-told5 .given .1)
 
 pub agrees-by-spec : {M : Type 1} → statement M
-agrees-by-spec = tie.close (tie.spec enum-told enum-told-2 low-agrees-requires enum-told-3 low-agrees-requires-2 enum-told-4 high-agrees-requires enum-told-5 high-agrees-requires-2 returns returns-2 returns-3 returns-4 returns-5)
+agrees-by-spec =
+    tie.close
+    (tie.spec
+    enum-told enum-told-2 low-agrees-requires enum-told-3 low-agrees-requires-2 enum-told-4 high-agrees-requires enum-told-5
+    high-agrees-requires-2 returns returns-2 returns-3 returns-4 returns-5)

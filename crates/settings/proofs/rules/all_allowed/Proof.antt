@@ -55,4 +55,8 @@ unfolding allowed
 returns c = let all : c .before .loop .i ≡ 26 = omega arith in rw all at (c .before .loop .inv .1)
 
 pub all-allowed-spec : {M : Type 1} → statement M
-all-allowed-spec = tie.close (tie.spec Inv-loop μ-loop loop-holds mul-allowed-for array-read-allowed-for partner-of-requires mul-allowed-for-2 array-read-allowed-for-2 allowed-for-requires add-i loop-less loop-again returns)
+all-allowed-spec =
+    tie.close
+    (tie.spec
+    Inv-loop μ-loop loop-holds mul-allowed-for array-read-allowed-for partner-of-requires mul-allowed-for-2
+    array-read-allowed-for-2 allowed-for-requires add-i loop-less loop-again returns)

@@ -18,4 +18,7 @@ unfolding allowedFor
 returns c = rw (c .before .before .in-range .ensures, c .agrees-by .ensures, c .before .role-of .ensures)
 
 pub allowed-for-spec : {M : Type 1} → statement M
-allowed-for-spec = tie.close (tie.spec in-range-requires role-of-requires agrees-by-requires returns)
+allowed-for-spec =
+    tie.close
+    (tie.spec
+    in-range-requires role-of-requires agrees-by-requires returns)

@@ -18,4 +18,7 @@ unfolding inRange
 returns c = rw (c .before .before .zero-of .ensures, c .before .low-of .ensures, c .high-of .ensures)
 
 pub in-range-spec : {M : Type 1} → statement M
-in-range-spec = tie.close (tie.spec zero-of-requires low-of-requires high-of-requires returns)
+in-range-spec =
+    tie.close
+    (tie.spec
+    zero-of-requires low-of-requires high-of-requires returns)

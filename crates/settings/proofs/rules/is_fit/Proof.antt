@@ -16,4 +16,7 @@ unfolding partnerFits
 returns c = rw (c .in-range .ensures, c .before .partner-of .ensures)
 
 pub is-fit-spec : {M : Type 1} → statement M
-is-fit-spec = tie.close (tie.spec partner-of-requires in-range-requires returns)
+is-fit-spec =
+    tie.close
+    (tie.spec
+    partner-of-requires in-range-requires returns)

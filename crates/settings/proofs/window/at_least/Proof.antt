@@ -10,4 +10,7 @@ returns : tie.Need-returns
 returns c = rw (c .most .ensures)
 
 pub at-least-spec : {M : Type 1} → statement M
-at-least-spec = tie.close (tie.spec most-requires returns)
+at-least-spec =
+    tie.close
+    (tie.spec
+    most-requires returns)

@@ -10,4 +10,7 @@ returns : tie.Need-returns
 returns c = rw (c .least .ensures)
 
 pub at-most-spec : {M : Type 1} → statement M
-at-most-spec = tie.close (tie.spec least-requires returns)
+at-most-spec =
+    tie.close
+    (tie.spec
+    least-requires returns)

@@ -25,4 +25,7 @@ returns-3 : tie.Need-returns-3
 returns-3 c = rw (c .if2 .left) (c .before .clamped .ensures)
 
 pub closest-spec : {M : Type 1} → statement M
-closest-spec = tie.close (tie.spec returns clamped-requires or-zero-requires returns-2 returns-3)
+closest-spec =
+    tie.close
+    (tie.spec
+    returns clamped-requires or-zero-requires returns-2 returns-3)

@@ -13,4 +13,7 @@ returns-2 : tie.Need-returns-2
 returns-2 c = simp (lt-leb _ _ (rw (c .before .distance-of .ensures) at (c .if1 .left)))
 
 pub or-zero-spec : {M : Type 1} → statement M
-or-zero-spec = tie.close (tie.spec distance-of-requires returns returns-2)
+or-zero-spec =
+    tie.close
+    (tie.spec
+    distance-of-requires returns returns-2)
