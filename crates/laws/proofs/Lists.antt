@@ -4,13 +4,13 @@ use mathlib.Core.Bool.{Bool, true, false, not, cond, _&&_, and-assoc, and-true}
 use mathlib.Core.Logic.{⊎-elim}
 use native.Mathlib.Nat.{eq-or-lt-of-le, le-of-suc-le-suc, not-suc-le-zero, add-zero, add-suc, suc-add, zero-min, min-zero, suc-min-suc}
 use mathlib.Core.List.{List, [], _∷_, _++_}
-use Prim.Native.Nat.{ℕ, zero, suc, _+_, _%_, _≤_, _<_, min}
+use Prim.Native.Nat.{ℕ, zero, suc, _+_, _%_, _≤_, _<_, _-_, min}
 use native.Mathlib.Numerals.{add-one}
 use native.Mathlib.Omega.{arith}
-use lib.ListN.{length, getD, take, drop, set, replicate, drop-of-length-le}
+use lib.ListN.{length, getD, take, drop, set, replicate, length-drop, drop-of-length-le}
 use lib.Dec.{eqb}
 use borrow.Author.Tests.{eqb-true}
-use lib.Seq.{drop-cons, sets, take-nil}
+use lib.Seq.{drop-cons, sets, take-nil, take-all}
 use Rattle.laws.proofs.Bools.{and-left, and-right}
 use Rattle.laws.specs.Lists.{every, before, sumOf, upTo}
 
@@ -146,3 +146,7 @@ upTo-at (suc n) p e k h = ⊎-elim (λ is. rw is (and-right (upTo n p) (p n) e))
 pub upTo-all : (n : ℕ) (p : ℕ → Bool) → ((k : ℕ) → k < n → p k ≡ true) → upTo n p ≡ true
 upTo-all zero p h = refl
 upTo-all (suc n) p h = rw (upTo-all n p (λ k less. h k (omega arith)), h n (omega arith))
+
+-- a list from a place to its end
+pub part-to-end : (l : List ℕ) (n i : ℕ) → length l ≡ n → take (n - i) (drop i l) ≡ drop i l
+part-to-end l n i e = take-all (n - i) (drop i l) (rw length-drop (omega arith))

@@ -48,10 +48,6 @@ padded-behind front more zeros last k m z h e =
     let none : drop k zs ≡ [] = drop-of-length-le zs {i = k} (rw length-replicate (omega arith)) in
     rw (append-assoc front more (replicate m 0), take-append-add, ← padded more k m h, e, n, z, take-replicate k k 0 (omega arith), none, append-nil)
 
--- a list from a place to its end
-pub part-to-end : (l : List ℕ) (n i : ℕ) → length l ≡ n → take (n - i) (drop i l) ≡ drop i l
-part-to-end l n i e = take-all (n - i) (drop i l) (rw length-drop (omega arith))
-
 -- what an allowed state has
 module _ (h : Held) (ok : allowed h ≡ true) where
   pub allowed-few : h .len ≤ 74

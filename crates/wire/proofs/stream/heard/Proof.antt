@@ -5,14 +5,14 @@ use mathlib.Core.List.{[]}
 use native.Mathlib.Omega.{arith}
 use borrow.Author.Needs.{needs}
 use lib.ListN.{length, drop, length-drop}
-use Rattle.laws.proofs.Lists.{before-first}
+use Rattle.laws.proofs.Lists.{part-to-end, before-first}
 use Rattle.laws.specs.Promise.{Gives}
 use Rattle.laws.proofs.Promise.{gives-none}
 use Rattle.wire.specs.Stream.{inside, taken}
 use Rattle.wire.specs.Calls.{heldOf, heardOf}
 use Rattle.wire.specs.declared.Heard.{Heard}
 use Rattle.wire.proofs.Streams.{taken-within}
-use Rattle.wire.proofs.Helds.{part-to-end, allowed-inside, unfinished-held}
+use Rattle.wire.proofs.Helds.{allowed-inside, unfinished-held}
 use Rattle.wire.proofs.Hearing.{colonAt, call-skipped, call-begun, gives-behind}
 use Rattle.wire.proofs.stream.heard.Statement.{statement}
 use Rattle.wire.proofs.stream.heard.Tie as tie

@@ -7,7 +7,8 @@ use borrow.Author.Tests.{not-true, not-false}
 use lib.Dec.{eqb}
 use lib.ListN.{length, length-take}
 use Rattle.laws.specs.Lists.{every}
-use Rattle.wire.proofs.Helds.{allowed-many, allowed-stray, allowed-strange, allowed-rest, part-to-end}
+use Rattle.laws.proofs.Lists.{part-to-end}
+use Rattle.wire.proofs.Helds.{allowed-many, allowed-stray, allowed-strange, allowed-rest}
 use Rattle.wire.proofs.stream.is_allowed.Statement.{statement}
 use Rattle.wire.proofs.stream.is_allowed.Tie as tie
 
