@@ -9,7 +9,13 @@ use Rattle.laws.proofs.Bools.{and-left, and-right}
 use Rattle.laws.proofs.Lists.{upTo-at}
 use Rattle.settings.specs.Columns.{count, lowAt, highAt, zeroAt, partnerAt, roleAt}
 use Rattle.settings.specs.Rules.{inRange, lowAgrees, highAgrees, agrees}
+use Rattle.settings.specs.Laws.{opposite}
 use Rattle.settings.specs.declared.columns.Role.{Role}
+
+-- without a partner any number agrees
+pub agrees-alone : (n p : ℕ) → agrees Role.Alone n p ≡ true
+unfolding agrees
+agrees-alone n p = refl
 
 -- a number agrees with itself
 pub agrees-self : (r : Role) (n : ℕ) → agrees r n n ≡ true
@@ -20,21 +26,14 @@ agrees-self Role.LowSecond n = le-leb n n (omega arith)
 agrees-self Role.HighFirst n = le-leb n n (omega arith)
 agrees-self Role.HighSecond n = le-leb n n (omega arith)
 
--- the part of the other one of the pair: what agrees seen from one agrees seen from the other
-abbrev pub turned : Role → Role
-turned Role.Alone = Role.Alone
-turned Role.LowFirst = Role.LowSecond
-turned Role.LowSecond = Role.LowFirst
-turned Role.HighFirst = Role.HighSecond
-turned Role.HighSecond = Role.HighFirst
-
-pub agrees-turned : (r : Role) (x y : ℕ) → agrees (turned r) y x ≡ agrees r x y
+-- what agrees seen from one of a pair agrees seen from the other
+pub agrees-opposite : (r : Role) (x y : ℕ) → agrees (opposite r) y x ≡ agrees r x y
 unfolding agrees
-agrees-turned Role.Alone x y = refl
-agrees-turned Role.LowFirst x y = refl
-agrees-turned Role.LowSecond x y = refl
-agrees-turned Role.HighFirst x y = refl
-agrees-turned Role.HighSecond x y = refl
+agrees-opposite Role.Alone x y = refl
+agrees-opposite Role.LowFirst x y = refl
+agrees-opposite Role.LowSecond x y = refl
+agrees-opposite Role.HighFirst x y = refl
+agrees-opposite Role.HighSecond x y = refl
 
 -- of two pairs of numbers that agree, either the one's first agrees with the other's second, or the other way round
 exchange-leb : (x y u v : ℕ) → leb x y ≡ true → leb u v ≡ true → leb u y ≡ false → leb x v ≡ true
@@ -91,12 +90,12 @@ same-bool true false e = sym e
 same-bool false true e = e
 same-bool false false e = refl
 
-module _ (k : ℕ) (h : k < 26) where
-  pub role-turned : roleAt (partnerAt k) ≡ turned (roleAt k)
-  role-turned = same-role _ _ (upTo-at count (λ i. eqb (roleNumber (roleAt (partnerAt i))) (roleNumber (turned (roleAt i)))) refl k h)
+module _ (k : ℕ) (h : k < count) where
+  pub parts-opposite : roleAt (partnerAt k) ≡ opposite (roleAt k)
+  parts-opposite = same-role _ _ (upTo-at count (λ i. eqb (roleNumber (roleAt (partnerAt i))) (roleNumber (opposite (roleAt i)))) refl k h)
 
-  pub alone-role : partnerAt k ≡ k → roleAt k ≡ Role.Alone
-  alone-role e =
+  pub alone-none : partnerAt k ≡ k → roleAt k ≡ Role.Alone
+  alone-none e =
       same-role (roleAt k) Role.Alone
       (rw (eq-eqb (partnerAt k) k e) at (upTo-at count (λ i. cond (eqb (partnerAt i) i) (eqb (roleNumber (roleAt i)) 0) true) refl k h))
 

@@ -11,14 +11,15 @@ use lib.Dec.{ltb, eqb}
 use Rattle.laws.proofs.Bools.{and-left, and-right, both, or-second}
 use Rattle.laws.proofs.Lists.{upTo-at, upTo-all}
 use Rattle.settings.specs.Columns.{count, partnerAt, roleAt}
-use Rattle.settings.specs.Rules.{inRange, agrees, allowedFor, allowed, numberAt, partnerNumber, changed, nearestOf}
-use Rattle.settings.specs.Calls.{partnerFits, setting}
-use Rattle.settings.specs.Laws.{SetKeepsAllowed, SetChangesOne, PairsHaveAnOrder}
+use Rattle.settings.specs.Rules.{inRange, agrees, allowedFor, allowed, numberAt, partnerNumber, changed, Nearest, nearestOf}
+use Rattle.settings.specs.Calls.{partnerFits, setTo, numberNotAllowed, notAllowed}
+use Rattle.settings.specs.Laws.{SetKeepsAllowed, SetChangesOne, SetStores, RefusedNamesNearest, PairsHaveAnOrder}
 use Rattle.settings.specs.declared.columns.Role.{Role}
 use Rattle.settings.specs.declared.Table.{Table}
 use Rattle.settings.specs.declared.Answer.{Answer}
 use Rattle.settings.proofs.Rows.{partner-below, partner-back}
-use Rattle.settings.proofs.Pairs.{agrees-turned, role-turned, agrees-exchange, alone-role}
+use Rattle.settings.proofs.Windows.{nearest-found}
+use Rattle.settings.proofs.Pairs.{agrees-alone, agrees-opposite, parts-opposite, agrees-exchange, alone-none}
 
 -- "in its own range and agrees with the partner", apart and together
 pub allowed-range : (k n p : ℕ) → allowedFor k n p ≡ true → inRange k n ≡ true
@@ -34,7 +35,7 @@ unfolding allowedFor
 allowed-both k n p a b = both _ _ a b
 
 -- what an allowed table holds
-module _ (t : Table) (ok : allowed t ≡ true) (k : ℕ) (h : k < 26) where
+module _ (t : Table) (ok : allowed t ≡ true) (k : ℕ) (h : k < count) where
   pub allowed-at : allowedFor k (numberAt t k) (partnerNumber t k) ≡ true
   unfolding allowed
   allowed-at = upTo-at count (λ i. allowedFor i (numberAt t i) (partnerNumber t i)) ok k h
@@ -45,40 +46,39 @@ module _ (t : Table) (ok : allowed t ≡ true) (k : ℕ) (h : k < 26) where
   pub agrees-at : agrees (roleAt k) (numberAt t k) (partnerNumber t k) ≡ true
   agrees-at = allowed-agrees k (numberAt t k) (partnerNumber t k) allowed-at
 
-pub partner-fits : (t : Table) → allowed t ≡ true → (k : ℕ) → k < 26 → partnerFits k (partnerNumber t k) ≡ true
+pub partner-fits : (t : Table) → allowed t ≡ true → (k : ℕ) → k < count → partnerFits k (partnerNumber t k) ≡ true
 unfolding partnerFits
 partner-fits t ok k h = or-second (eqb (partnerAt k) k) _ (range-at t ok (partnerAt k) (partner-below k h))
 
 -- a Set, case by case
-pub setting-stray : (t : Table) (k n : ℕ) → allowed t ≡ false → setting t k n ≡ record { answer = Answer.Refused 12 0; table = t }
-unfolding setting
-setting-stray t k n e = rw e
+pub set-stray : (t : Table) (k n : ℕ) → allowed t ≡ false → setTo t k n ≡ record { answer = Answer.Refused notAllowed 0; table = t }
+unfolding setTo
+set-stray t k n e = rw e
 
 module _ (t : Table) (k n : ℕ) (ok : allowed t ≡ true) where
-  pub setting-past : 26 ≤ k → setting t k n ≡ record { answer = Answer.Refused 12 0; table = t }
-  unfolding setting
-  setting-past h = rw (ok, le-ltb k 26 h)
+  pub set-past : count ≤ k → setTo t k n ≡ record { answer = Answer.Refused notAllowed 0; table = t }
+  unfolding setTo
+  set-past h = rw (ok, le-ltb k count h)
 
-  pub setting-refused : k < 26 → allowedFor k n (partnerNumber t k) ≡ false
-      → setting t k n ≡ record { answer = Answer.Refused 10 (nearestOf k n (partnerNumber t k)); table = t }
-  unfolding setting
-  setting-refused h e = rw (ok, lt-ltb k 26 h, e)
+  pub set-refused : k < count → allowedFor k n (partnerNumber t k) ≡ false
+      → setTo t k n ≡ record { answer = Answer.Refused numberNotAllowed (nearestOf k n (partnerNumber t k)); table = t }
+  unfolding setTo
+  set-refused h e = rw (ok, lt-ltb k count h, e)
 
-  pub setting-accepted : k < 26 → allowedFor k n (partnerNumber t k) ≡ true → setting t k n ≡ record { answer = Answer.Accepted; table = changed t k n }
-  unfolding setting
-  setting-accepted h e = rw (ok, lt-ltb k 26 h, e)
+  pub set-accepted : k < count → allowedFor k n (partnerNumber t k) ≡ true → setTo t k n ≡ record { answer = Answer.Accepted; table = changed t k n }
+  unfolding setTo
+  set-accepted h e = rw (ok, lt-ltb k count h, e)
 
 -- without a partner any number serves as the partner's
-alone-any : (k n p q : ℕ) → k < 26 → partnerAt k ≡ k → allowedFor k n p ≡ true → allowedFor k n q ≡ true
-unfolding allowedFor agrees
-alone-any k n p q h e ok = rw (alone-role k h e) (rw (alone-role k h e) at ok)
+alone-any : (k n p q : ℕ) → k < count → partnerAt k ≡ k → allowedFor k n p ≡ true → allowedFor k n q ≡ true
+alone-any k n p q h e ok = allowed-both k n q (allowed-range k n p ok) (ap (λ (r : Role). agrees r n q) (alone-none k h e) ∙ agrees-alone n q)
 
 -- what agrees seen from one of a pair agrees seen from the other
-partner-agrees : (k n x : ℕ) → k < 26 → agrees (roleAt k) n x ≡ true → agrees (roleAt (partnerAt k)) x n ≡ true
-partner-agrees k n x h e = ap (λ (r : Role). agrees r x n) (role-turned k h) ∙ agrees-turned (roleAt k) n x ∙ e
+partner-agrees : (k n x : ℕ) → k < count → agrees (roleAt k) n x ≡ true → agrees (roleAt (partnerAt k)) x n ≡ true
+partner-agrees k n x h e = ap (λ (r : Role). agrees r x n) (parts-opposite k h) ∙ agrees-opposite (roleAt k) n x ∙ e
 
 -- a number that is allowed leaves the table allowed
-module _ (t : Table) (k n : ℕ) (ok : allowed t ≡ true) (h : k < 26) (long : length (t .numbers) ≡ 26) (fits : allowedFor k n (partnerNumber t k) ≡ true) where
+module _ (t : Table) (k n : ℕ) (ok : allowed t ≡ true) (h : k < count) (long : length (t .numbers) ≡ count) (fits : allowedFor k n (partnerNumber t k) ≡ true) where
   here : numberAt (changed t k n) k ≡ n
   here = getD-set-same (t .numbers) k n 0 (omega arith)
 
@@ -94,7 +94,7 @@ module _ (t : Table) (k n : ℕ) (ok : allowed t ≡ true) (h : k < 26) (long : 
       by false e = rw (other (partnerAt k) (eqb-false (partnerAt k) k e)) fits
 
   -- at another: its partner holds what it held, unless that is the setting
-  at-other : (j : ℕ) → j < 26 → j ≢ k → allowedFor j (numberAt t j) (numberAt (changed t k n) (partnerAt j)) ≡ true
+  at-other : (j : ℕ) → j < count → j ≢ k → allowedFor j (numberAt t j) (numberAt (changed t k n) (partnerAt j)) ≡ true
   at-other j below e = by (eqb (partnerAt j) k) refl
     where
       by : (s : Bool) → eqb (partnerAt j) k ≡ s → allowedFor j (numberAt t j) (numberAt (changed t k n) (partnerAt j)) ≡ true
@@ -110,27 +110,36 @@ module _ (t : Table) (k n : ℕ) (ok : allowed t ≡ true) (h : k < 26) (long : 
   unfolding allowed
   changed-allowed = upTo-all count _ (λ j below. by j below (eqb j k) refl)
     where
-      by : (j : ℕ) → j < 26 → (s : Bool) → eqb j k ≡ s → allowedFor j (numberAt (changed t k n) j) (partnerNumber (changed t k n) j) ≡ true
+      by : (j : ℕ) → j < count → (s : Bool) → eqb j k ≡ s → allowedFor j (numberAt (changed t k n) j) (partnerNumber (changed t k n) j) ≡ true
       by j below true e = let is : j ≡ k = eqb-true j k e in rw (is, here) at-own
       by j below false e = let apart : j ≢ k = eqb-false j k e in rw (other j apart) (at-other j below apart)
 
 -- so a Set keeps a table allowed and changes no other setting
 pub set-allowed : SetKeepsAllowed
-set-allowed t k n long ok = by (ltb k 26) (allowedFor k n (partnerNumber t k)) refl refl
+set-allowed t k n long ok = by (ltb k count) (allowedFor k n (partnerNumber t k)) refl refl
   where
-    by : (s r : Bool) → ltb k 26 ≡ s → allowedFor k n (partnerNumber t k) ≡ r → allowed (setting t k n .table) ≡ true
-    by true true p q = rw (setting-accepted t k n ok (ltb-true k 26 p) q) (changed-allowed t k n ok (ltb-true k 26 p) long q)
-    by true false p q = rw (setting-refused t k n ok (ltb-true k 26 p) q) ok
-    by false r p q = rw (setting-past t k n ok (ltb-false k 26 p)) ok
+    by : (s r : Bool) → ltb k count ≡ s → allowedFor k n (partnerNumber t k) ≡ r → allowed (setTo t k n .table) ≡ true
+    by true true p q = rw (set-accepted t k n ok (ltb-true k count p) q) (changed-allowed t k n ok (ltb-true k count p) long q)
+    by true false p q = rw (set-refused t k n ok (ltb-true k count p) q) ok
+    by false r p q = rw (set-past t k n ok (ltb-false k count p)) ok
 
 pub set-one : SetChangesOne
-set-one t k n j apart = by (allowed t) (ltb k 26) (allowedFor k n (partnerNumber t k)) refl refl refl
+set-one t k n j apart = by (allowed t) (ltb k count) (allowedFor k n (partnerNumber t k)) refl refl refl
   where
-    by : (o s r : Bool) → allowed t ≡ o → ltb k 26 ≡ s → allowedFor k n (partnerNumber t k) ≡ r → numberAt (setting t k n .table) j ≡ numberAt t j
-    by false s r o p q = rw (setting-stray t k n o)
-    by true true true o p q = rw (setting-accepted t k n o (ltb-true k 26 p) q) (getD-set-other (t .numbers) k j n 0 apart)
-    by true true false o p q = rw (setting-refused t k n o (ltb-true k 26 p) q)
-    by true false r o p q = rw (setting-past t k n o (ltb-false k 26 p))
+    by : (o s r : Bool) → allowed t ≡ o → ltb k count ≡ s → allowedFor k n (partnerNumber t k) ≡ r → numberAt (setTo t k n .table) j ≡ numberAt t j
+    by false s r o p q = rw (set-stray t k n o)
+    by true true true o p q = rw (set-accepted t k n o (ltb-true k count p) q) (getD-set-other (t .numbers) k j n 0 apart)
+    by true true false o p q = rw (set-refused t k n o (ltb-true k count p) q)
+    by true false r o p q = rw (set-past t k n o (ltb-false k count p))
+
+-- a number that is allowed is stored, and one that is not is answered with the nearest
+pub set-stores : SetStores
+set-stores t k n long ok h fits =
+    rw (set-accepted t k n ok h fits) (refl, here t k n ok h long fits)
+
+pub refused-names : RefusedNamesNearest
+refused-names t k n ok h small e =
+    (nearestOf k n (partnerNumber t k), set-refused t k n ok h e, nearest-found k n (partnerNumber t k) h (partner-fits t ok k h) small)
 
 -- between two allowed tables
 pub pairs-order : PairsHaveAnOrder
@@ -138,5 +147,6 @@ pairs-order from to ok ok′ k h =
     record {
       else-partner = λ e. partner-agrees k (numberAt from k) (numberAt to (partnerAt k)) h
           (agrees-exchange (roleAt k) (numberAt from k) (partnerNumber from k) (numberAt to k) (partnerNumber to k) (agrees-at from ok k h) (agrees-at to ok′ k h) e);
+      then-setting = agrees-at to ok′ k h;
       then-partner = partner-agrees k (numberAt to k) (partnerNumber to k) h (agrees-at to ok′ k h);
     }

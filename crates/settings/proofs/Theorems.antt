@@ -1,17 +1,23 @@
 -- The statements of specs/Laws.antt, proved. Assumes nothing.
 use mathlib.Core.Path.{refl}
 use Rattle.settings.specs.Rules.{inRange, lowAgrees, highAgrees, agrees, allowedFor, allowed}
-use Rattle.settings.specs.Laws.{NearestIsFound, NearestIsOne, SetKeepsAllowed, SetChangesOne, RowsHold, FactoryIsAllowed, PairsHaveAnOrder}
+use Rattle.settings.specs.Laws.{NearestIsFound, NearestIsOne, SetStores, RefusedNamesNearest, SetKeepsAllowed, SetChangesOne, RowsHold, IdsAreCount, FactoryIsAllowed, FindIsFound, FoundHasId, PairsHaveAnOrder}
 use Rattle.settings.proofs.Nearness.{nearest-one}
 use Rattle.settings.proofs.Windows.{nearest-found}
-use Rattle.settings.proofs.Rows.{row-holds}
-use Rattle.settings.proofs.Tables.{set-allowed, set-one, pairs-order}
+use Rattle.settings.proofs.Rows.{row-holds, find-found, found-id}
+use Rattle.settings.proofs.Tables.{set-stores, refused-names, set-allowed, set-one, pairs-order}
 
 pub nearest-is-found : NearestIsFound
 nearest-is-found = nearest-found
 
 pub nearest-is-one : NearestIsOne
 nearest-is-one k wished partner = nearest-one _ wished
+
+pub set-stores-it : SetStores
+set-stores-it = set-stores
+
+pub refused-names-nearest : RefusedNamesNearest
+refused-names-nearest = refused-names
 
 pub set-keeps-allowed : SetKeepsAllowed
 set-keeps-allowed = set-allowed
@@ -24,7 +30,16 @@ rows-hold = row-holds
 
 pub factory-is-allowed : FactoryIsAllowed
 unfolding allowed allowedFor inRange agrees lowAgrees highAgrees
-factory-is-allowed = (refl, refl)
+factory-is-allowed = refl
+
+pub ids-are-count : IdsAreCount
+ids-are-count = refl
+
+pub find-is-found : FindIsFound
+find-is-found = find-found
+
+pub found-has-id : FoundHasId
+found-has-id = found-id
 
 pub pairs-have-an-order : PairsHaveAnOrder
 pairs-have-an-order = pairs-order

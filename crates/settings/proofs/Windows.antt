@@ -7,13 +7,13 @@ use native.Mathlib.Omega.{arith}
 use borrow.Author.Tests.{le-leb, leb-true, eq-eqb, eqb-true}
 use lib.Dec.{leb, eqb}
 use Rattle.laws.proofs.Bools.{and-left, and-right, both, same-test, or-cases}
-use Rattle.settings.specs.Columns.{lowAt, highAt, zeroAt, partnerAt, roleAt}
+use Rattle.settings.specs.Columns.{count, lowAt, highAt, zeroAt, partnerAt, roleAt}
 use Rattle.settings.specs.Rules.{inWindow, inRange, agrees, allowedFor, Nearest, nearestOf}
 use Rattle.settings.specs.Calls.{partnerFits}
 use Rattle.settings.specs.declared.columns.Role.{Role}
 use Rattle.settings.proofs.Nearness.{window-zero, window-row, window-cases, seek-nearest}
 use Rattle.settings.proofs.Rows.{low-high, high-small}
-use Rattle.settings.proofs.Pairs.{agrees-self, alone-role, same-range}
+use Rattle.settings.proofs.Pairs.{agrees-alone, agrees-self, alone-none, same-range}
 
 module _ (z : Bool) (low high p n : ℕ) where
   -- what of a window is at most a number
@@ -47,8 +47,7 @@ allowed-by k partner n r test is rule =
 
 module _ (k partner : ℕ) where
   pub own-window : roleAt k ≡ Role.Alone → (n : ℕ) → inWindow (zeroAt k) (lowAt k) (highAt k) n ≡ allowedFor k n partner
-  unfolding agrees
-  own-window is n = sym (and-true _) ∙ allowed-by k partner n Role.Alone true is refl
+  own-window is n = sym (and-true _) ∙ allowed-by k partner n Role.Alone true is (agrees-alone n partner)
 
   pub most-window : (r : Role) → ((n : ℕ) → agrees r n partner ≡ leb n partner) → roleAt k ≡ r
       → (n : ℕ) → inWindow (zeroAt k) (lowAt k) (min (highAt k) partner) n ≡ allowedFor k n partner
@@ -60,11 +59,10 @@ module _ (k partner : ℕ) where
 
 -- Some number is always allowed: the partner's own, and without a partner the lower end.
 
-module _ (k partner : ℕ) (h : k < 26) (fit : partnerFits k partner ≡ true) where
+module _ (k partner : ℕ) (h : k < count) (fit : partnerFits k partner ≡ true) where
   lower-end : partnerAt k ≡ k → allowedFor k (lowAt k) partner ≡ true
-  unfolding agrees
   lower-end e =
-      sym (allowed-by k partner (lowAt k) Role.Alone true (alone-role k h e) refl)
+      sym (allowed-by k partner (lowAt k) Role.Alone true (alone-none k h e) (agrees-alone (lowAt k) partner))
       ∙ both _ _ (window-row (zeroAt k) (lowAt k) (highAt k) (lowAt k) (omega arith) (low-high k h)) refl
 
   as-partner : inRange (partnerAt k) partner ≡ true → allowedFor k partner partner ≡ true
@@ -77,14 +75,14 @@ module _ (k partner : ℕ) (h : k < 26) (fit : partnerFits k partner ≡ true) w
       ⊎-elim (λ a. (lowAt k, lower-end (eqb-true _ _ a))) (λ b. (partner, as-partner b)) (or-cases (eqb (partnerAt k) k) _ fit)
 
 -- what is allowed is a 16-bit number
-pub allowed-small : (k m partner : ℕ) → k < 26 → allowedFor k m partner ≡ true → m < 65536
+pub allowed-small : (k m partner : ℕ) → k < count → allowedFor k m partner ≡ true → m < 65536
 unfolding allowedFor inRange
 allowed-small k m partner h e =
     ⊎-elim (λ c. let is : m ≡ 0 = c .1 in omega arith) (λ c. let a : m ≤ highAt k = c .1 in let b : highAt k < 65536 = high-small k h in omega arith)
     (window-cases (zeroAt k) (lowAt k) (highAt k) m (and-left _ (agrees (roleAt k) m partner) e))
 
 -- "one always exists": the search finds it
-pub nearest-found : (k wished partner : ℕ) → k < 26 → partnerFits k partner ≡ true → wished < 65536
+pub nearest-found : (k wished partner : ℕ) → k < count → partnerFits k partner ≡ true → wished < 65536
     → Nearest k wished partner (nearestOf k wished partner)
 unfolding nearestOf
 nearest-found k wished partner h fit small =

@@ -11,6 +11,17 @@ use Rattle.settings.specs.declared.Number.{Number}
 use Rattle.settings.specs.declared.Answer.{Answer}
 use Rattle.settings.specs.declared.Change.{Change}
 
+-- Document 01, "Numbers of refusal": 7 an id that is no setting, 10 a number that is not allowed, 12 "a handed-in number, state or table is
+-- not allowed"
+abbrev pub noSetting : ℕ
+noSetting = 7
+
+abbrev pub numberNotAllowed : ℕ
+numberNotAllowed = 10
+
+abbrev pub notAllowed : ℕ
+notAllowed = 12
+
 -- the setting at a place of the table, and the setting of an id
 unfoldable pub placing : ℕ → Found
 placing k = cond (ltb k count) (Found.At (record { index = k; id = idAt k; width = widthAt k })) Found.Nothing
@@ -24,17 +35,17 @@ finding id = placing (placeOf id)
 
 -- a setting's number; 12 for a place past the table
 unfoldable pub holding : Table → ℕ → Number
-holding t k = cond (ltb k count) (Number.Is (numberAt t k)) (Number.Refused 12)
+holding t k = cond (ltb k count) (Number.Is (numberAt t k)) (Number.Refused notAllowed)
 
 -- A Set of one setting: 12 for a table that is not allowed or a place past it, 10 with the nearest allowed number for a number that is
 -- not allowed, and the table then as it was.
-unfoldable pub setting : Table → ℕ → ℕ → Change
-setting t k n =
+unfoldable pub setTo : Table → ℕ → ℕ → Change
+setTo t k n =
     cond (allowed t && ltb k count)
     (cond (allowedFor k n (partnerNumber t k))
     (record { answer = Answer.Accepted; table = changed t k n })
-    (record { answer = Answer.Refused 10 (nearestOf k n (partnerNumber t k)); table = t }))
-    (record { answer = Answer.Refused 12 zero; table = t })
+    (record { answer = Answer.Refused numberNotAllowed (nearestOf k n (partnerNumber t k)); table = t }))
+    (record { answer = Answer.Refused notAllowed zero; table = t })
 
 -- The nearest allowed number. "7 if the id is no setting, then 12 if the partner is outside its own range", the partner's number being
 -- "unused without a partner".
@@ -44,5 +55,5 @@ partnerFits k partner = eqb (partnerAt k) k || inRange (partnerAt k) partner
 unfoldable pub nearing : ℕ → ℕ → ℕ → Number
 nearing id wished partner =
     cond (ltb (placeOf id) count)
-    (cond (partnerFits (placeOf id) partner) (Number.Is (nearestOf (placeOf id) wished partner)) (Number.Refused 12))
-    (Number.Refused 7)
+    (cond (partnerFits (placeOf id) partner) (Number.Is (nearestOf (placeOf id) wished partner)) (Number.Refused notAllowed))
+    (Number.Refused noSetting)

@@ -6,9 +6,11 @@ use mathlib.Core.Logic.{_≢_}
 use mathlib.Core.Bool.{true, false}
 use lib.ListN.{length}
 use Rattle.settings.specs.Columns.{count, ids, idAt, widthAt, lowAt, highAt, factoryAt, factory, partnerAt, roleAt}
-use Rattle.settings.specs.Rules.{inRange, agrees, allowed, numberAt, Nearest, nearestOf}
-use Rattle.settings.specs.Calls.{partnerFits, setting}
+use Rattle.settings.specs.Rules.{inRange, agrees, allowedFor, allowed, numberAt, partnerNumber, Nearest, nearestOf}
+use Rattle.settings.specs.Calls.{placeOf, partnerFits, setTo, numberNotAllowed}
+use Rattle.settings.specs.declared.columns.Role.{Role}
 use Rattle.settings.specs.declared.Table.{Table}
+use Rattle.settings.specs.declared.Answer.{Answer}
 
 -- 1. "The nearest allowed number has the least distance, the smaller on a tie; one always exists" (for 16-bit numbers), and no two do.
 abbrev pub NearestIsFound : Type 0
@@ -18,20 +20,40 @@ NearestIsFound =
 abbrev pub NearestIsOne : Type 0
 NearestIsOne = (k wished partner n m : ℕ) → Nearest k wished partner n → Nearest k wished partner m → n ≡ m
 
--- 2. A Set keeps a table allowed, whether it is accepted or refused, and changes no other setting. (A table has its 26 numbers in every
--- value of the type.)
+-- 2. A Set of an allowed number is accepted and stores it; any other is refused with the nearest allowed number. Either way the table stays
+-- allowed and no other setting changes. (A table has its numbers in every value of the type, which `length` says.)
+abbrev pub SetStores : Type 0
+SetStores =
+    (t : Table) (k n : ℕ) → length (t .numbers) ≡ count → allowed t ≡ true → k < count → allowedFor k n (partnerNumber t k) ≡ true
+    → (setTo t k n .answer ≡ Answer.Accepted) × (numberAt (setTo t k n .table) k ≡ n)
+
+abbrev pub RefusedNamesNearest : Type 0
+RefusedNamesNearest =
+    (t : Table) (k n : ℕ) → allowed t ≡ true → k < count → n < 2 ^ 16 → allowedFor k n (partnerNumber t k) ≡ false
+    → (m : ℕ) × (setTo t k n ≡ record { answer = Answer.Refused numberNotAllowed m; table = t }) × Nearest k n (partnerNumber t k) m
+
 abbrev pub SetKeepsAllowed : Type 0
 SetKeepsAllowed =
-    (t : Table) (k n : ℕ) → length (t .numbers) ≡ count → allowed t ≡ true → allowed (setting t k n .table) ≡ true
+    (t : Table) (k n : ℕ) → length (t .numbers) ≡ count → allowed t ≡ true → allowed (setTo t k n .table) ≡ true
 
 abbrev pub SetChangesOne : Type 0
-SetChangesOne = (t : Table) (k n j : ℕ) → j ≢ k → numberAt (setting t k n .table) j ≡ numberAt t j
+SetChangesOne = (t : Table) (k n j : ℕ) → j ≢ k → numberAt (setTo t k n .table) j ≡ numberAt t j
 
--- 3. The columns, at every entry.
+-- 3. The columns, at every entry: the two of a pair have opposite parts in it, and a setting alone has none. That the const arrays of
+-- src/columns.rt have the same entries is what their readers there promise.
+abbrev pub opposite : Role → Role
+opposite Role.Alone = Role.Alone
+opposite Role.LowFirst = Role.LowSecond
+opposite Role.LowSecond = Role.LowFirst
+opposite Role.HighFirst = Role.HighSecond
+opposite Role.HighSecond = Role.HighFirst
+
 pub record Row (k : ℕ) : Type 0 where
   pub ascends : suc k < count → idAt k < idAt (suc k)
   pub partner-is : partnerAt k < count
   pub partner-back : partnerAt (partnerAt k) ≡ k
+  pub parts-opposite : roleAt (partnerAt k) ≡ opposite (roleAt k)
+  pub alone-none : partnerAt k ≡ k → roleAt k ≡ Role.Alone
   pub range-some : lowAt k ≤ highAt k
   pub width-holds : highAt k < 256 ^ widthAt k
   pub factory-in : inRange k (factoryAt k) ≡ true
@@ -40,14 +62,25 @@ pub record Row (k : ℕ) : Type 0 where
 abbrev pub RowsHold : Type 0
 RowsHold = (k : ℕ) → k < count → Row k
 
+abbrev pub IdsAreCount : Type 0
+IdsAreCount = length ids ≡ count
+
 abbrev pub FactoryIsAllowed : Type 0
-FactoryIsAllowed = (allowed factory ≡ true) × (length ids ≡ count)
+FactoryIsAllowed = allowed factory ≡ true
+
+-- 4. A look-up finds each setting at its place, and what it finds has the id.
+abbrev pub FindIsFound : Type 0
+FindIsFound = (k : ℕ) → k < count → placeOf (idAt k) ≡ k
+
+abbrev pub FoundHasId : Type 0
+FoundHasId = (id : ℕ) → placeOf id < count → idAt (placeOf id) ≡ id
 
 -- 5. For the order of a restore, between two allowed tables: the setting's new number agrees with the partner's present one, or else
 -- the partner's new number agrees with the setting's present one; and once one of the two is set, the other's new number agrees.
 pub record Order (from to : Table) (k : ℕ) : Type 0 where
   pub else-partner : agrees (roleAt k) (numberAt to k) (numberAt from (partnerAt k)) ≡ false
       → agrees (roleAt (partnerAt k)) (numberAt to (partnerAt k)) (numberAt from k) ≡ true
+  pub then-setting : agrees (roleAt k) (numberAt to k) (numberAt to (partnerAt k)) ≡ true
   pub then-partner : agrees (roleAt (partnerAt k)) (numberAt to (partnerAt k)) (numberAt to k) ≡ true
 
 abbrev pub PairsHaveAnOrder : Type 0

@@ -2,7 +2,7 @@
 // every look-up of an id, a width, an end, a factory number or a partner comes here.
 ghost use Prim.Native.Nat.{_<_};
 ghost use mathlib.Core.Path.{_≡_};
-ghost use Rattle.settings.specs.Columns.{idAt, widthAt, lowAt, highAt, zeroAt, factories, partnerAt, roleAt};
+ghost use Rattle.settings.specs.Columns.{count, idAt, widthAt, lowAt, highAt, zeroAt, factories, partnerAt, roleAt};
 ghost use Rattle.settings.specs.Calls.{placeOf};
 use crate::COUNT;
 
@@ -250,49 +250,49 @@ const ROLES: [Role; COUNT] = [
 ];
 
 pub(crate) fn id_of(index: usize) -> u16
-    requires { ⌜ index < 26 ⌝ }
+    requires { ⌜ index < count ⌝ }
     ensures { λ r. ⌜ r ≡ idAt index ⌝ }
 {
     IDS[index]
 }
 
 pub(crate) fn width_of(index: usize) -> usize
-    requires { ⌜ index < 26 ⌝ }
+    requires { ⌜ index < count ⌝ }
     ensures { λ r. ⌜ r ≡ widthAt index ⌝ }
 {
     WIDTHS[index]
 }
 
 pub(crate) fn low_of(index: usize) -> u16
-    requires { ⌜ index < 26 ⌝ }
+    requires { ⌜ index < count ⌝ }
     ensures { λ r. ⌜ r ≡ lowAt index ⌝ }
 {
     LOWS[index]
 }
 
 pub(crate) fn high_of(index: usize) -> u16
-    requires { ⌜ index < 26 ⌝ }
+    requires { ⌜ index < count ⌝ }
     ensures { λ r. ⌜ r ≡ highAt index ⌝ }
 {
     HIGHS[index]
 }
 
 pub(crate) fn zero_of(index: usize) -> bool
-    requires { ⌜ index < 26 ⌝ }
+    requires { ⌜ index < count ⌝ }
     ensures { λ r. ⌜ r ≡ zeroAt index ⌝ }
 {
     ZEROS[index]
 }
 
 pub(crate) fn partner_of(index: usize) -> usize
-    requires { ⌜ index < 26 ⌝ }
+    requires { ⌜ index < count ⌝ }
     ensures { λ r. ⌜ r ≡ partnerAt index ⌝ }
 {
     PARTNERS[index]
 }
 
 pub(crate) fn role_of(index: usize) -> Role
-    requires { ⌜ index < 26 ⌝ }
+    requires { ⌜ index < count ⌝ }
     ensures { λ r. ⌜ r ≡ roleAt index ⌝ }
 {
     ROLES[index]

@@ -3,7 +3,7 @@
 ghost use mathlib.Core.Path.{_≡_};
 ghost use Rattle.settings.specs.Columns.{factory};
 ghost use Rattle.settings.specs.Rules.{allowed};
-ghost use Rattle.settings.specs.Calls.{finding, placing, holding, setting, nearing};
+ghost use Rattle.settings.specs.Calls.{finding, placing, holding, setTo, nearing};
 ghost use Rattle.settings.specs.declared.Answer.{Answer};
 
 mod columns;
@@ -16,7 +16,7 @@ pub const COUNT: usize = 26;
 // 7: an id that is no setting; 10: a number that is not allowed; 12: a place, a table or a partner handed in is not allowed.
 const NO_SETTING: u8 = 7;
 
-const OUT_OF_RANGE: u8 = 10;
+const NUMBER_NOT_ALLOWED: u8 = 10;
 
 const NOT_ALLOWED: u8 = 12;
 
@@ -124,7 +124,7 @@ impl Table {
     // A Set of one setting: accepted with the new table, or refused 10 with the nearest allowed number; 12 for a table that is not
     // allowed or a place past it.
     pub fn set(self, index: usize, number: u16) -> Change
-        ensures { λ r. ⌜ r ≡ setting self index number ⌝ }
+        ensures { λ r. ⌜ r ≡ setTo self index number ⌝ }
     {
         if !self.is_allowed() {
             return refused(self, NOT_ALLOWED, 0);
@@ -138,7 +138,7 @@ impl Table {
         if !rules::allowed_for(index, number, partner) {
             return refused(
                 self,
-                OUT_OF_RANGE,
+                NUMBER_NOT_ALLOWED,
                 window::nearest_of(index, number, partner),
             );
         }

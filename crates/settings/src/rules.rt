@@ -1,6 +1,7 @@
 // The rules over the table: a setting's own range, the pair rule, and what is allowed.
 ghost use Prim.Native.Nat.{_<_};
 ghost use mathlib.Core.Path.{_≡_};
+ghost use Rattle.settings.specs.Columns.{count};
 ghost use Rattle.settings.specs.Rules.{inRange, lowAgrees, highAgrees, agrees, allowedFor, allowed};
 ghost use Rattle.settings.specs.Calls.{partnerFits};
 use crate::COUNT;
@@ -9,7 +10,7 @@ use crate::columns::Role;
 
 // A number in the setting's own range.
 pub(crate) fn in_range(index: usize, n: u16) -> bool
-    requires { ⌜ index < 26 ⌝ }
+    requires { ⌜ index < count ⌝ }
     ensures { λ r. ⌜ r ≡ inRange index n ⌝ }
 {
     (columns::zero_of(index) & (n == 0))
@@ -45,7 +46,7 @@ pub(crate) fn agrees_by(role: Role, n: u16, partner: u16) -> bool
 
 // A number that is allowed for a setting while its partner holds another.
 pub(crate) fn allowed_for(index: usize, n: u16, partner: u16) -> bool
-    requires { ⌜ index < 26 ⌝ }
+    requires { ⌜ index < count ⌝ }
     ensures { λ r. ⌜ r ≡ allowedFor index n partner ⌝ }
 {
     in_range(index, n) & agrees_by(columns::role_of(index), n, partner)
@@ -53,7 +54,7 @@ pub(crate) fn allowed_for(index: usize, n: u16, partner: u16) -> bool
 
 // A partner's number that may be handed in: in the partner's own range, or any where there is no partner.
 pub(crate) fn is_fit(index: usize, partner: u16) -> bool
-    requires { ⌜ index < 26 ⌝ }
+    requires { ⌜ index < count ⌝ }
     ensures { λ r. ⌜ r ≡ partnerFits index partner ⌝ }
 {
     let other = columns::partner_of(index);

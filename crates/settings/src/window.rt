@@ -4,6 +4,7 @@ ghost use Prim.Native.Nat.{ℕ, _<_, _≤_, min, max};
 ghost use mathlib.Core.Path.{_≡_};
 ghost use mathlib.Core.Bool.{true, false, cond, _&&_, _||_};
 ghost use lib.Dec.{leb, eqb};
+ghost use Rattle.settings.specs.Columns.{count};
 ghost use Rattle.settings.specs.Rules.{inWindow, allowedFor, distance, NearestIn, nearestOf};
 ghost use Rattle.settings.specs.Calls.{partnerFits};
 use crate::columns;
@@ -54,7 +55,7 @@ fn at_least(window: Window, bottom: u16) -> Window
 
 // What is allowed for a setting while its partner holds a number: its own range, cut by the pair rule.
 fn window_of(index: usize, partner: u16) -> Window
-    requires { ⌜ index < 26 ⌝ }
+    requires { ⌜ index < count ⌝ }
     ensures { λ r. ⌜ ((n : ℕ) → inWindow (r .zero) (r .low) (r .high) n ≡ allowedFor index n partner) ⌝ }
 {
     let own = Window {
@@ -120,7 +121,7 @@ fn closest(window: Window, wished: u16) -> u16
 
 // The nearest allowed number, for a partner's number in its own range.
 pub(crate) fn nearest_of(index: usize, wished: u16, partner: u16) -> u16
-    requires { ⌜ (index < 26) × (partnerFits index partner ≡ true) ⌝ }
+    requires { ⌜ (index < count) × (partnerFits index partner ≡ true) ⌝ }
     ensures { λ r. ⌜ r ≡ nearestOf index wished partner ⌝ }
 {
     closest(window_of(index, partner), wished)

@@ -1,13 +1,14 @@
 -- `settings::at` meets its contract. Assumes nothing.
 use native.Mathlib.Omega.{arith}
 use borrow.Author.Tests.{lt-ltb, le-ltb}
+use Rattle.settings.specs.Columns.{count}
 use Rattle.settings.specs.Calls.{placing}
 use Rattle.settings.proofs.at.Statement.{statement}
 use Rattle.settings.proofs.at.Tie as tie
 
 returns : tie.Need-returns
 unfolding placing
-returns c = simp (le-ltb _ 26 (c .if1 .taken))
+returns c = simp (le-ltb _ count (c .if1 .taken))
 
 id-of-requires : tie.Need-id-of-requires
 id-of-requires c κs = omega arith
@@ -17,7 +18,7 @@ width-of-requires c κs = omega arith
 
 returns-2 : tie.Need-returns-2
 unfolding placing
-returns-2 c = rw (c .before .id-of .ensures, c .width-of .ensures, lt-ltb _ 26 (c .before .before .if1 .left))
+returns-2 c = rw (c .before .id-of .ensures, c .width-of .ensures, lt-ltb _ count (c .before .before .if1 .left))
 
 pub at-spec : {M : Type 1} → statement M
 at-spec =

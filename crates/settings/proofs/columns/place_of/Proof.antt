@@ -7,16 +7,16 @@ use lib.ListN.{drop}
 use lib.Dec.{eqb}
 use Rattle.laws.specs.Lists.{before}
 use Rattle.laws.proofs.Lists.{before-turn, before-here, before-end}
-use Rattle.settings.specs.Columns.{ids}
+use Rattle.settings.specs.Columns.{count, ids}
 use Rattle.settings.specs.Calls.{placeOf}
 use Rattle.settings.proofs.columns.place_of.Statement.{statement}
 use Rattle.settings.proofs.columns.place_of.Tie as tie
 
 abbrev Inv-loop : tie.InvT-loop
-Inv-loop id i₀ i = (i ≤ 26) × (i + before (λ x. eqb x id) (drop i ids) ≡ placeOf id)
+Inv-loop id i₀ i = (i ≤ count) × (i + before (λ x. eqb x id) (drop i ids) ≡ placeOf id)
 
 abbrev μ-loop : tie.MeasureT-loop
-μ-loop id i₀ i = 26 - i
+μ-loop id i₀ i = count - i
 
 loop-holds : tie.Need-loop-holds Inv-loop μ-loop
 unfolding placeOf

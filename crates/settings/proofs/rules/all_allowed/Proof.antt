@@ -5,17 +5,17 @@ use native.Mathlib.Omega.{arith}
 use native.Mathlib.Numerals.{add-one}
 use lib.ListN.{getD}
 use Rattle.laws.specs.Lists.{upTo}
-use Rattle.settings.specs.Columns.{partnerAt}
+use Rattle.settings.specs.Columns.{count, partnerAt}
 use Rattle.settings.specs.Rules.{allowedFor, allowed}
 use Rattle.settings.proofs.Rows.{partner-below}
 use Rattle.settings.proofs.rules.all_allowed.Statement.{statement}
 use Rattle.settings.proofs.rules.all_allowed.Tie as tie
 
 abbrev Inv-loop : tie.InvT-loop
-Inv-loop numbers all₀ i₀ all i = (i ≤ 26) × (all ≡ upTo i (λ k. allowedFor k (getD numbers k 0) (getD numbers (partnerAt k) 0)))
+Inv-loop numbers all₀ i₀ all i = (i ≤ count) × (all ≡ upTo i (λ k. allowedFor k (getD numbers k 0) (getD numbers (partnerAt k) 0)))
 
 abbrev μ-loop : tie.MeasureT-loop
-μ-loop numbers all₀ i₀ all i = 26 - i
+μ-loop numbers all₀ i₀ all i = count - i
 
 loop-holds : tie.Need-loop-holds Inv-loop μ-loop
 loop-holds c = (omega arith, refl)
@@ -29,7 +29,7 @@ array-read-allowed-for c = omega arith
 partner-of-requires : tie.Need-partner-of-requires Inv-loop μ-loop
 partner-of-requires c κs = omega arith
 
-below : (c : tie.After-partner-of Inv-loop μ-loop) → c .partner-of .result < 26
+below : (c : tie.After-partner-of Inv-loop μ-loop) → c .partner-of .result < count
 below c = rw (c .partner-of .ensures) (partner-below _ (c .before .loop-test .taken))
 
 mul-allowed-for-2 : tie.Need-mul-allowed-for-2 Inv-loop μ-loop
@@ -52,7 +52,7 @@ loop-again c = (omega arith, rw (add-one, c .allowed-for .ensures, c .before .pa
 
 returns : tie.Need-returns Inv-loop μ-loop
 unfolding allowed
-returns c = let all : c .before .loop .i ≡ 26 = omega arith in rw all at (c .before .loop .inv .1)
+returns c = let all : c .before .loop .i ≡ count = omega arith in rw all at (c .before .loop .inv .1)
 
 pub all-allowed-spec : {M : Type 1} → statement M
 all-allowed-spec =
