@@ -1,12 +1,16 @@
 -- Any cutting, for any call that takes pieces: what a row of calls comes to is what the bytes taken say, read as one row.
 -- Assumes nothing.
+use mathlib.Core.Bool.{Bool, true, _&&_}
+use lib.Dec.{leb}
+use borrow.Author.Tests.{leb-true}
 use mathlib.Core.Path.{_≡_, sym, ap, _∙_}
 use mathlib.Core.List.{List, [], _∷_, _++_}
 use Prim.Native.Nat.{ℕ, _+_, _≤_, _-_, min}
 use native.Mathlib.Omega.{arith}
 use lib.ListN.{length, take, drop, length-take, length-drop}
 use lib.Seq.{take-take, take-add}
-use Rattle.laws.specs.Cutting.{Step, Offer, calls}
+use Rattle.laws.specs.Cutting.{Step, Offer, calls, ready}
+use Rattle.laws.proofs.Bools.{and-left, and-right}
 
 -- U is where a reading stands; says and left read a row of bytes from there, state is how a call holds it
 module _ {S E C U : Type 0} (call : S → C → List ℕ → Step S E) (state : U → S) (says : U → List ℕ → List E) (left : U → List ℕ → U) where
@@ -46,8 +50,28 @@ module _ {S E C U : Type 0} (call : S → C → List ℕ → Step S E) (state : 
       pub any-cutting : (u : U) (bytes : List ℕ) (offers : List (Offer C)) → Reads u bytes (calls call (state u) bytes offers)
       any-cutting u bytes [] = record { within = omega arith; state-is = ap state (sym (left-nil u)); events-are = sym (says-nil u) }
       any-cutting u bytes (o ∷ more) =
-          let here = call (state u) (o .with) (take (o .bytes) bytes) in
-          let h : Reads u bytes here = part u (o .with) (o .bytes) bytes in
+          let here = call (state u) (o .with) (take (o .count) bytes) in
+          let h : Reads u bytes here = part u (o .with) (o .count) bytes in
           let u′ : U = left u (take (here .taken) bytes) in
           both u bytes here (calls call (here .state) (drop (here .taken) bytes) more) h
           (rw (h .state-is) (any-cutting u′ (drop (here .taken) bytes) more))
+
+      -- calls that take a byte at least, where there is one, take all in as many calls as there are bytes
+      module _ (serves : C → Bool) (goes-on : (u : U) (c : C) (piece : List ℕ) → serves c ≡ true → min 1 (length piece) ≤ call (state u) c piece .taken) where
+        pub all-taken : (u : U) (bytes : List ℕ) (offers : List (Offer C)) → ready serves offers ≡ true → length bytes ≤ length offers
+            → calls call (state u) bytes offers .taken ≡ length bytes
+        all-taken u bytes [] r h = omega arith
+        all-taken u bytes (o ∷ more) r h =
+            let own = and-left (leb 1 (o .count) && serves (o .with)) (ready serves more) r in
+            let some : 1 ≤ o .count = leb-true 1 _ (and-left (leb 1 (o .count)) (serves (o .with)) own) in
+            let here = call (state u) (o .with) (take (o .count) bytes) in
+            let one : min 1 (min (o .count) (length bytes)) ≤ here .taken =
+            rw length-take at (goes-on u (o .with) (take (o .count) bytes) (and-right (leb 1 (o .count)) _ own)) in
+            let reading : Reads u bytes here = part u (o .with) (o .count) bytes in
+            let first : here .taken ≤ length bytes = reading .within in
+            let u′ : U = left u (take (here .taken) bytes) in
+            let less : length (drop (here .taken) bytes) ≤ length more = rw length-drop (omega arith) in
+            let rest : calls call (here .state) (drop (here .taken) bytes) more .taken ≡ length bytes - here .taken =
+            rw (reading .state-is) (all-taken u′ (drop (here .taken) bytes) more (and-right (leb 1 (o .count) && serves (o .with)) _ r) less)
+            ∙ length-drop (here .taken) bytes in
+            omega arith

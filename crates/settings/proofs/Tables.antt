@@ -11,7 +11,7 @@ use lib.Dec.{ltb, eqb}
 use Rattle.laws.proofs.Bools.{and-left, and-right, both, or-second}
 use Rattle.laws.proofs.Lists.{upTo-at, upTo-all}
 use Rattle.settings.specs.Columns.{count, partnerAt, roleAt}
-use Rattle.settings.specs.Rules.{inRange, agrees, allowedFor, allowed, numberAt, partnerNumber, changed, Nearest, nearestOf}
+use Rattle.settings.specs.Rules.{inRange, agrees, allowedFor, allowed, numberAt, partnerNumber, changed, nearestOf}
 use Rattle.settings.specs.Calls.{partnerFits, setTo, numberNotAllowed, notAllowed}
 use Rattle.settings.specs.Laws.{SetKeepsAllowed, SetChangesOne, SetStores, RefusedNamesNearest, PairsHaveAnOrder}
 use Rattle.settings.specs.declared.columns.Role.{Role}

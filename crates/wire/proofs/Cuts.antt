@@ -2,22 +2,22 @@
 use mathlib.Core.Path.{_≡_, refl, sym, ap, _∙_}
 use mathlib.Core.Bool.{Bool, true, false, false≢true}
 use mathlib.Core.List.{List, [], _∷_, _++_, append-assoc, append-nil}
-use Prim.Native.Nat.{ℕ, suc}
+use Prim.Native.Nat.{ℕ, suc, _≤_, min}
 use native.Mathlib.Nat.{not-suc-le-zero, le-of-suc-le-suc}
 use native.Mathlib.Omega.{arith}
-use borrow.Author.Tests.{ltb-true, ltb-false}
+use borrow.Author.Tests.{ltb-true, ltb-false, leb-true, eq-eqb}
 use lib.ListN.{length, take}
-use lib.Seq.{take-nil}
-use lib.Dec.{ltb, eqb}
+use lib.Seq.{take-nil, take-all}
+use lib.Dec.{ltb, leb, eqb}
 use Rattle.laws.specs.Lists.{every}
-use Rattle.laws.specs.Cutting.{Step}
+use Rattle.laws.specs.Cutting.{Step, calls}
 use Rattle.laws.proofs.Cutting as cutting
 use Rattle.wire.specs.Digits.{isDigit}
 use Rattle.wire.specs.Frame.{colon, newline}
-use Rattle.wire.specs.Reading.{Ended, badCount, sumsUp, bodySays, brokenSays}
+use Rattle.wire.specs.Reading.{Ended, dataOf, badCount, sumsUp, bodySays, brokenSays}
 use Rattle.wire.specs.Stream.{Unfinished, outside, inside, next, endedBy, ends, taken, framesFrom, leftBy}
 use Rattle.wire.specs.Calls.{heldOf, heardOf, eventOf, eventFrom, readAs, dataOfFirst}
-use Rattle.wire.specs.Laws.{frameIn, stepOf, hears, Cut, AnyCutting, FirstAt, FirstEndIsFirst, FromTheStart, CuttingChangesNothing}
+use Rattle.wire.specs.Laws.{frameIn, stepOf, hears, Cut, AnyCutting, FirstAt, FirstEndIsFirst, AllIsTaken, CuttingChangesNothing}
 use Rattle.wire.specs.declared.Held.{Held}
 use Rattle.wire.proofs.Streams.{left-append, frames-append, none-ends, taken-within}
 use Rattle.wire.proofs.Answers.{body-long, body-strange, body-count, body-sum, body-good, broken-long, broken-short, hearing-short, hearing-heard}
@@ -34,7 +34,7 @@ body-seen chars = by (ltb 73 (length chars)) (every isDigit chars) (badCount (le
     by false false c d p q r s = rw (body-strange chars (ltb-false 73 _ p) q)
     by false true true d p q r s = rw (body-count chars (ltb-false 73 _ p) q r)
     by false true false false p q r s = rw (body-sum chars (ltb-false 73 _ p) q r s)
-    by false true false true p q r s = rw (body-good chars (ltb-false 73 _ p) q r s)
+    by false true false true p q r s = rw (body-good chars (ltb-false 73 _ p) q r s, eq-eqb (length (dataOf chars)) _ refl)
 
 broken-seen : (count : ℕ) → frameIn (eventFrom (readAs (brokenSays count) .answer)) (readAs (brokenSays count) .written) ≡ brokenSays count ∷ []
 broken-seen count = by (ltb 73 count) refl
@@ -117,16 +117,36 @@ one-call earlier room piece = by (ltb room 35) refl
         rw (hearing-heard (heldOf (leftBy earlier)) piece room (ltb-false room 35 e) (left-allowed earlier), unfinished-kept (leftBy earlier))
         (heard-reads earlier piece)
 
+-- the reading of earlier bytes goes on in the next ones
+says-append : (e xs ys : List ℕ) → framesFrom (leftBy e) (xs ++ ys) ≡ framesFrom (leftBy e) xs ++ framesFrom (leftBy (e ++ xs)) ys
+says-append e xs ys = frames-append (leftBy e) xs ys ∙ ap (λ (u : Unfinished). framesFrom (leftBy e) xs ++ framesFrom u ys) (sym (left-append outside e xs))
+
 pub any-cutting : AnyCutting
 any-cutting earlier bytes offers =
     let all = cutting.any-cutting hears (λ (e : List ℕ). heldOf (leftBy e)) (λ (e : List ℕ). framesFrom (leftBy e)) (λ (e xs : List ℕ). e ++ xs)
-    (λ e. refl) append-nil
-    (λ e xs ys. frames-append (leftBy e) xs ys ∙ ap (λ (u : Unfinished). framesFrom (leftBy e) xs ++ framesFrom u ys) (sym (left-append outside e xs)))
-    (λ e xs ys. sym (append-assoc e xs ys)) one-call earlier bytes offers in
+    (λ e. refl) append-nil says-append (λ e xs ys. sym (append-assoc e xs ys)) one-call earlier bytes offers in
     record { within = all .within; state-is = all .state-is; events-are = all .events-are }
 
-pub from-the-start : FromTheStart
-from-the-start bytes offers all e = rw e (any-cutting [] bytes offers .events-are, any-cutting [] bytes offers .state-is)
+-- a call with room enough takes a byte where there is one
+taken-some : (u : Unfinished) (piece : List ℕ) → min 1 (length piece) ≤ taken u piece
+unfolding taken
+taken-some u piece = omega arith
+
+goes-on : (earlier : List ℕ) (room : ℕ) (piece : List ℕ) → leb 35 room ≡ true → min 1 (length piece) ≤ hears (heldOf (leftBy earlier)) room piece .taken
+goes-on earlier room piece e =
+    rw (hearing-heard (heldOf (leftBy earlier)) piece room (leb-true 35 room e) (left-allowed earlier)) (taken-some _ piece)
+
+pub all-taken : AllIsTaken
+all-taken earlier bytes offers r h =
+    let all = calls hears (heldOf (leftBy earlier)) bytes offers in
+    let cut : Cut earlier bytes all = any-cutting earlier bytes offers in
+    let count : all .taken ≡ length bytes =
+    cutting.all-taken hears (λ (e : List ℕ). heldOf (leftBy e)) (λ (e : List ℕ). framesFrom (leftBy e)) (λ (e xs : List ℕ). e ++ xs)
+    (λ e. refl) append-nil says-append (λ e xs ys. sym (append-assoc e xs ys)) one-call (λ room. leb 35 room) goes-on earlier bytes offers r h in
+    let whole : take (all .taken) bytes ≡ bytes = take-all (all .taken) bytes (omega arith) in
+    let states : all .state ≡ heldOf (leftBy (earlier ++ bytes)) = rw whole at (cut .state-is) in
+    let events : all .events ≡ framesFrom (leftBy earlier) bytes = rw whole at (cut .events-are) in
+    λ i. record { state = states i; events = events i; taken = count i }
 
 pub changes-nothing : CuttingChangesNothing
 changes-nothing earlier bytes offers offers′ all all′ e e′ same =

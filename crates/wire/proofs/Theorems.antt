@@ -1,5 +1,5 @@
 -- The statements of specs/Laws.antt, proved. Assumes nothing.
-use Rattle.wire.specs.Laws.{WrittenIsRead, WrittenIsHeard, ReadIsWritten, AnyCutting, FromTheStart, CuttingChangesNothing, FirstEndIsFirst, AllowedIsLeft}
+use Rattle.wire.specs.Laws.{WrittenIsRead, WrittenIsHeard, ReadIsWritten, AnyCutting, AllIsTaken, CuttingChangesNothing, FirstEndIsFirst, AllowedIsLeft}
 use Rattle.wire.proofs.RoundTrip.{frame-says, frame-heard, slice-written}
 use Rattle.wire.proofs.Cuts
 use Rattle.wire.proofs.Reached
@@ -16,8 +16,8 @@ read-is-written = slice-written
 pub any-cutting : AnyCutting
 any-cutting = Cuts.any-cutting
 
-pub from-the-start : FromTheStart
-from-the-start = Cuts.from-the-start
+pub all-is-taken : AllIsTaken
+all-is-taken = Cuts.all-taken
 
 pub cutting-changes-nothing : CuttingChangesNothing
 cutting-changes-nothing = Cuts.changes-nothing

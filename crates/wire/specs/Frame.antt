@@ -19,7 +19,7 @@ total = 0x55
 abbrev pub mostNibble : ℕ
 mostNibble = 15
 
--- "Data are 0 to 35 bytes, so at most 73 characters stand between colon and newline."
+-- "Data are 0 to 35 bytes, so at most 73 characters stand between colon and newline (*ours*)."
 abbrev pub mostData : ℕ
 mostData = 35
 

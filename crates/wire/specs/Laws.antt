@@ -6,13 +6,13 @@ use mathlib.Core.Bool.{true, cond}
 use mathlib.Core.Logic.{_↔_}
 use mathlib.Core.List.{List, [], _∷_, _++_}
 use lib.ListN.{length, take}
-use lib.Dec.{ltb}
+use lib.Dec.{ltb, leb, eqb}
 use Rattle.laws.specs.Lists.{every}
 use Rattle.laws.specs.Promise.{Given}
-use Rattle.laws.specs.Cutting.{Step, Offer, calls}
-use Rattle.wire.specs.Frame.{frame}
+use Rattle.laws.specs.Cutting.{Step, Offer, calls, ready}
+use Rattle.wire.specs.Frame.{mostNibble, mostData, frameRoom, frame}
 use Rattle.wire.specs.Reading.{Ended, good, refused}
-use Rattle.wire.specs.Stream.{Unfinished, outside, framesFrom, framesOf, leftFrom, leftBy, firstEnd}
+use Rattle.wire.specs.Stream.{Unfinished, framesFrom, framesOf, leftBy, firstEnd}
 use Rattle.wire.specs.Calls.{writing, writtenAs, reading, readAs, mostHeld, heldOf, allowed, hearing}
 use Rattle.wire.specs.declared.Event.{Event}
 use Rattle.wire.specs.declared.Held.{Held}
@@ -25,26 +25,26 @@ pub record Bytes (bytes : List ℕ) : Type 0 where
 -- 1. "A frame written by one end is read by the other as the same command and data": read whole, and on the stream.
 abbrev pub WrittenIsRead : Type 0
 WrittenIsRead =
-    (command : ℕ) (bytes : List ℕ) → command ≤ 15 → length bytes ≤ 35 → Bytes bytes → (room : ℕ) → 35 ≤ room
+    (command : ℕ) (bytes : List ℕ) → command ≤ mostNibble → length bytes ≤ mostData → Bytes bytes → (room : ℕ) → mostData ≤ room
     → reading (frame command bytes) room ≡ readAs (good command bytes)
 
 abbrev pub WrittenIsHeard : Type 0
 WrittenIsHeard =
-    (command : ℕ) (bytes : List ℕ) → command ≤ 15 → length bytes ≤ 35 → Bytes bytes → (rest : List ℕ)
-    → (framesFrom outside (frame command bytes ++ rest) ≡ good command bytes ∷ framesFrom outside rest)
-    × (leftFrom outside (frame command bytes ++ rest) ≡ leftFrom outside rest)
+    (command : ℕ) (bytes : List ℕ) → command ≤ mostNibble → length bytes ≤ mostData → Bytes bytes → (rest : List ℕ)
+    → (framesOf (frame command bytes ++ rest) ≡ good command bytes ∷ framesOf rest)
+    × (leftBy (frame command bytes ++ rest) ≡ leftBy rest)
 
 -- 2. "A frame read whole is byte for byte the one the writer makes for them."
 abbrev pub ReadIsWritten : Type 0
 ReadIsWritten =
     (slice : List ℕ) (room : ℕ) (command : ℕ) (bytes : List ℕ) → reading slice room ≡ readAs (good command bytes)
-    → (out : ℕ) → 75 ≤ out → writing command bytes out ≡ writtenAs slice
+    → (out : ℕ) → frameRoom ≤ out → writing command bytes out ≡ writtenAs slice
 
--- 3. The stream in any cutting. What a call on the stream comes to: a frame with its data, a frame's refusal (1 to 4), or no frame (under
--- 11 and 12 too, which are the call's).
+-- 3. The stream in any cutting. What a call on the stream comes to: a frame with its data, of the length that is said; a frame's refusal (1
+-- to 4); or no frame (under 11 and 12 too, which are the call's).
 abbrev pub frameIn : Event → List ℕ → List Ended
 frameIn Event.Nothing written = []
-frameIn (Event.Frame command len) written = good command written ∷ []
+frameIn (Event.Frame command len) written = cond (eqb len (length written)) (good command written ∷ []) []
 frameIn (Event.Refused number) written = cond (ltb 4 number) [] (refused number ∷ [])
 
 abbrev pub stepOf : Given Heard → Step Held Ended
@@ -58,8 +58,8 @@ stepOf given =
 abbrev pub hears : Held → ℕ → List ℕ → Step Held Ended
 hears held room piece = stepOf (hearing held piece room)
 
--- "for any list of pieces, with what a call did not take handed on first, the events are exactly the frames of the bytes taken, in order,
--- and the state is what those bytes leave": from any state that bytes left, with any room in each call.
+-- Demand 3: "after any bytes in any cutting, what a call did not take being handed on first": what happened is the frames of the bytes taken,
+-- in order, and the state is what those bytes leave; from any state that bytes left, with any room in each call.
 pub record Cut (earlier bytes : List ℕ) (all : Step Held Ended) : Type 0 where
   pub within : all .taken ≤ length bytes
   pub state-is : all .state ≡ heldOf (leftBy (earlier ++ take (all .taken) bytes))
@@ -68,13 +68,15 @@ pub record Cut (earlier bytes : List ℕ) (all : Step Held Ended) : Type 0 where
 abbrev pub AnyCutting : Type 0
 AnyCutting = (earlier bytes : List ℕ) (offers : List (Offer ℕ)) → Cut earlier bytes (calls hears (heldOf (leftBy earlier)) bytes offers)
 
--- So the cutting changes nothing: rows of calls that take as many of the same bytes come to the same, and from the start that is the
--- frames of the bytes taken and what those leave.
-abbrev pub FromTheStart : Type 0
-FromTheStart =
-    (bytes : List ℕ) (offers : List (Offer ℕ)) (all : Step Held Ended) → all ≡ calls hears (heldOf outside) bytes offers
-    → (all .events ≡ framesOf (take (all .taken) bytes)) × (all .state ≡ heldOf (leftBy (take (all .taken) bytes)))
+-- Calls that are handed a byte at least and lend room enough take every byte, in as many calls as there are bytes; so what happened is the
+-- frames of all the bytes.
+abbrev pub AllIsTaken : Type 0
+AllIsTaken =
+    (earlier bytes : List ℕ) (offers : List (Offer ℕ)) → ready (λ room. leb mostData room) offers ≡ true → length bytes ≤ length offers
+    → calls hears (heldOf (leftBy earlier)) bytes offers
+    ≡ record { state = heldOf (leftBy (earlier ++ bytes)); events = framesFrom (leftBy earlier) bytes; taken = length bytes }
 
+-- The cutting changes nothing: rows of calls that take as many of the same bytes come to the same.
 abbrev pub CuttingChangesNothing : Type 0
 CuttingChangesNothing =
     (earlier bytes : List ℕ) (offers offers′ : List (Offer ℕ)) (all all′ : Step Held Ended)

@@ -36,8 +36,8 @@ badCount n = ltb n 3 || eqb (n % 2) 0
 abbrev pub sumsUp : List ℕ → Bool
 sumsUp chars = eqb ((commandOf chars + sumOf (payloadOf chars)) % 256) total
 
--- ended by a newline: "1 over 73 characters in the frame; 2 a character is no digit; 3 under 3 characters, or an even count; 4 sum is
--- not 0x55", in this order
+-- ended by a newline, in the order of the paper's rows: 1 "over 73 characters in the frame", 2 "a character is no digit", 3 "under 3
+-- characters, or an even count", 4 "sum is not 0x55"
 unfoldable pub bodySays : List ℕ → Ended
 bodySays chars =
     cond (ltb mostChars (length chars)) (refused 1)
@@ -46,6 +46,6 @@ bodySays chars =
     (cond (not (sumsUp chars)) (refused 4)
     (good (commandOf chars) (dataOf chars)))))
 
--- ended by a colon after so many characters: "2 a colon broke it", after 1
+-- ended by a colon after so many characters: 2 "a colon broke it", after 1
 unfoldable pub brokenSays : ℕ → Ended
 brokenSays count = cond (ltb mostChars count) (refused 1) (refused 2)

@@ -1,6 +1,6 @@
 -- What a row of bytes says, read from its first byte to its last: no calls, no pieces and no buffers are in it. Document 01, Frames:
 -- "Outside a frame every byte but a colon is skipped. Inside one, a newline ends it. A colon inside one ends it as broken and begins the
--- next." Assumes nothing.
+-- next (*ours*)." Assumes nothing.
 use Prim.Native.Nat.{ℕ, zero, suc, min}
 use mathlib.Core.Bool.{Bool, false, cond, _||_}
 use mathlib.Core.List.{List, [], _∷_, _++_}

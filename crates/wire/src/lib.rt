@@ -21,7 +21,7 @@ pub enum Written {
     Refused(u8),
 }
 
-// What a frame says: its command and how many data bytes it has, or the number of the refusal.
+// What the whole-frame reader answers: the frame's command and how many data bytes it has, or the number of the refusal.
 pub enum Read {
     Frame { command: u8, len: usize },
     Refused(u8),
@@ -34,7 +34,8 @@ pub struct Held {
     pub chars: [u8; numbers::MOST_HELD],
 }
 
-// What happened in a call on the stream: no frame ended, or one ended as said or was refused.
+// What happened in a call on the stream: no frame ended; a frame with its command and the number of its data bytes; or a refusal, 1 to 4
+// of the frame that ended, 11 or 12 of the call.
 pub enum Event {
     Nothing,
     Frame { command: u8, len: usize },

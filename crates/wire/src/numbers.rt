@@ -24,7 +24,7 @@ pub(crate) const FRAME_ROOM: usize = 75;
 // 1: over 73 characters in the frame.
 pub(crate) const TOO_LONG: u8 = 1;
 
-// 2: a character is no digit, or a colon broke the frame.
+// 2: a character is no digit, or a colon broke the frame; and a slice that is not enclosed by a colon and a newline.
 pub(crate) const NO_DIGIT: u8 = 2;
 
 // 3: under 3 characters, or an even count.
