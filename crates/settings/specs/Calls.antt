@@ -33,9 +33,9 @@ placeOf id = before (λ x. eqb x id) ids
 unfoldable pub finding : ℕ → Found
 finding id = placing (placeOf id)
 
--- a setting's number; 12 for a place past the table
+-- a setting's number; 12 for a table that is not allowed or a place past it
 unfoldable pub holding : Table → ℕ → Number
-holding t k = cond (ltb k count) (Number.Is (numberAt t k)) (Number.Refused notAllowed)
+holding t k = cond (allowed t && ltb k count) (Number.Is (numberAt t k)) (Number.Refused notAllowed)
 
 -- A Set of one setting: 12 for a table that is not allowed or a place past it, 10 with the nearest allowed number for a number that is
 -- not allowed, and the table then as it was.

@@ -110,10 +110,13 @@ impl Table {
         rules::all_allowed(numbers)
     }
 
-    // The number of the setting at a place; 12 for a place past the table.
+    // The number of the setting at a place; 12 for a table that is not allowed or a place past it.
     pub fn number(self, index: usize) -> Number
         ensures { λ r. ⌜ r ≡ holding self index ⌝ }
     {
+        if !self.is_allowed() {
+            return Number::Refused(NOT_ALLOWED);
+        }
         if COUNT <= index {
             return Number::Refused(NOT_ALLOWED);
         }

@@ -1,27 +1,33 @@
 -- `settings::Table::number` meets its contract. Assumes nothing.
+use mathlib.Core.Path.{sym, _∙_}
 use native.Mathlib.Omega.{arith}
-use borrow.Author.Tests.{lt-ltb, le-ltb}
+use borrow.Author.Tests.{not-true, not-false, lt-ltb, le-ltb}
 use Rattle.settings.specs.Columns.{count}
 use Rattle.settings.specs.Calls.{holding}
 use Rattle.settings.proofs.Table.number.Statement.{statement}
 use Rattle.settings.proofs.Table.number.Tie as tie
 
+is-allowed-requires : tie.Need-is-allowed-requires
+is-allowed-requires c κs = tt
+
 returns : tie.Need-returns
 unfolding holding
-returns c = simp (le-ltb _ count (c .if1 .taken))
-
-mul-t5 : tie.Need-mul-t5
-mul-t5 c = omega arith
-
-array-read-t8 : tie.Need-array-read-t8
-array-read-t8 c = omega arith
+returns c = rw (sym (c .before .is-allowed .ensures) ∙ not-true _ (c .if1 .taken))
 
 returns-2 : tie.Need-returns-2
 unfolding holding
-returns-2 c = simp (lt-ltb _ count (c .before .if1 .left))
+returns-2 c = rw (sym (c .before .before .is-allowed .ensures) ∙ not-false _ (c .before .if1 .left), le-ltb _ count (c .if2 .taken))
+
+mul-t6 : tie.Need-mul-t6
+mul-t6 c = omega arith
+
+array-read-t9 : tie.Need-array-read-t9
+array-read-t9 c = omega arith
+
+returns-3 : tie.Need-returns-3
+unfolding holding
+returns-3 c =
+    rw (sym (c .before .before .before .is-allowed .ensures) ∙ not-false _ (c .before .before .if1 .left), lt-ltb _ count (c .before .if2 .left))
 
 pub number-spec : {M : Type 1} → statement M
-number-spec =
-    tie.close
-    (tie.spec
-    returns mul-t5 array-read-t8 returns-2)
+number-spec = tie.close (tie.spec is-allowed-requires returns returns-2 mul-t6 array-read-t9 returns-3)
