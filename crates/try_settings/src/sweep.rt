@@ -1,0 +1,167 @@
+// All wished numbers of one setting beside one number of its partner: `nearest` and `set` against a plain search that goes up through
+// the numbers. What is accepted is what `set` accepts; the line shows it as runs.
+use crate::say;
+use crate::tables;
+use settings::Answer;
+use settings::Number;
+use settings::Table;
+
+const WISHED: usize = 65536;
+
+// Farther from every number than any two numbers are apart.
+const NOWHERE: usize = 1000000;
+
+const NUMBER_NOT_ALLOWED: u8 = 10;
+
+// A setting and its partner's number, which both hold in the table: equal numbers agree.
+pub struct Case {
+    pub table: Table,
+    pub place: usize,
+    pub id: u16,
+    pub partner: u16,
+}
+
+// On the way up: the last accepted number so far, the next one from here, and how many wished numbers agreed.
+struct Seen {
+    below: usize,
+    above: usize,
+    agreed: usize,
+}
+
+// The line of one sweep.
+pub fn line(case: Case) {
+    let first = next(case, 0);
+    say::text(b"@ takes #", [case.id as usize, first, 0, 0]);
+    let agreed = up(case, first);
+    say::text(
+        b"; wished numbers that agree #, that differ #\n",
+        [agreed, apart(WISHED, agreed), 0, 0],
+    );
+}
+
+// Goes up through the wished numbers and counts those on which calls and search agree.
+fn up(case: Case, first: usize) -> usize {
+    let mut seen = Seen {
+        below: NOWHERE,
+        above: first,
+        agreed: 0,
+    };
+    let mut wished = 0;
+    while wished < WISHED {
+        seen = turn(case, seen, wished);
+        wished += 1;
+    }
+    seen.agreed
+}
+
+// One wished number.
+fn turn(case: Case, seen: Seen, wished: usize) -> Seen {
+    let above = ahead(case, seen, wished);
+    let below = last(seen.below, above, wished);
+    let is_due = agrees(case, short(wished), short(closer(wished, below, above)));
+    Seen {
+        below,
+        above,
+        agreed: more(seen.agreed, is_due),
+    }
+}
+
+// The next accepted number from here. Where it jumps, a run has ended.
+fn ahead(case: Case, seen: Seen, wished: usize) -> usize {
+    if wished <= seen.above {
+        return seen.above;
+    }
+    let above = next(case, wished);
+    if above != wished {
+        jump(seen.below, above);
+    }
+    above
+}
+
+// The end of a run and the start of the next; no run reaches 65535, so each has its end here.
+fn jump(below: usize, above: usize) {
+    if above < WISHED {
+        say::text(b"..# #", [below, above, 0, 0]);
+    } else {
+        say::one(b"..#", below);
+    }
+}
+
+// The first accepted number from here on.
+fn next(case: Case, from: usize) -> usize {
+    let mut n = from;
+    while n < WISHED {
+        if accepts(case, short(n)) {
+            return n;
+        }
+        n += 1;
+    }
+    NOWHERE
+}
+
+// Whether a Set of the number is accepted.
+fn accepts(case: Case, number: u16) -> bool {
+    let change = case.table.set(case.place, number);
+    let answer = change.answer;
+    match answer {
+        Answer::Accepted => true,
+        Answer::Refused { .. } => false,
+    }
+}
+
+// The last accepted number up to here.
+fn last(below: usize, above: usize, wished: usize) -> usize {
+    if above == wished { wished } else { below }
+}
+
+// The nearer of two numbers, the smaller on a tie.
+fn closer(wished: usize, below: usize, above: usize) -> usize {
+    if apart(wished, above) < apart(wished, below) {
+        above
+    } else {
+        below
+    }
+}
+
+// The distance of two numbers.
+fn apart(a: usize, b: usize) -> usize {
+    if a < b { b - a } else { a - b }
+}
+
+// A number at the calls' width.
+fn short(n: usize) -> u16 {
+    if n < WISHED { n as u16 } else { 0 }
+}
+
+// One more; the remainder keeps the sum from wrapping and changes no count up to 65536.
+fn more(count: usize, is_due: bool) -> usize {
+    if is_due { count % NOWHERE + 1 } else { count }
+}
+
+// Both calls answer the due number, which is the wished one exactly where that is accepted.
+fn agrees(case: Case, wished: u16, due: u16) -> bool {
+    let table = case.table;
+    let change = table.set(case.place, wished);
+    let answer = change.answer;
+    is_number(settings::nearest(case.id, wished, case.partner), due)
+        & is_answer(answer, wished, due)
+        & tables::is_right(table, change, case.place, wished)
+}
+
+// A number, and the one that is due.
+fn is_number(answer: Number, due: u16) -> bool {
+    match answer {
+        Number::Is(n) => n == due,
+        Number::Refused(_) => false,
+    }
+}
+
+// Accepted where the wished number is due, else refused 10 with the one that is.
+fn is_answer(answer: Answer, wished: u16, due: u16) -> bool {
+    match answer {
+        Answer::Accepted => due == wished,
+        Answer::Refused { number, nearest } => {
+            (due != wished) & (number == NUMBER_NOT_ALLOWED) & (nearest == due)
+        }
+    }
+}
