@@ -28,7 +28,6 @@ returns-3 : tie.Need-returns-3
 unfolding nearing
 returns-3 c =
     let c4 = c .before .before .before .before in
-    let c4 = c4 in
     rw (sym (c4 .place-of .ensures)) (simp (lt-ltb _ count (c .before .before .before .if1 .left), sym (c .before .before .is-fit .ensures) ∙ not-false _ (c .before .if2 .left), c .nearest-of .ensures))
 
 pub nearest-spec : {M : Type 1} → statement M

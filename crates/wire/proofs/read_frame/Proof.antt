@@ -17,9 +17,6 @@ enclosed c = sym (c .before .well-enclosed .ensures) ∙ not-false _ (c .if2 .le
 long : (c : tie.Else2) → 2 ≤ length (c .before .before .before .before .before .args .frame .now)
 long c =
     let c5 = c .before .before .before .before .before in
-    let c5 = c5 in
-    let c5 = c5 in
-    let c5 = c5 in
     enclosed-long (c5 .args .frame .now) (enclosed c)
 
 returns : tie.Need-returns
@@ -52,9 +49,6 @@ same-length c = omega arith
 returns-3 : tie.Need-returns-3
 returns-3 c =
     let c5 = c .before .before .before .before .before in
-    let c5 = c5 in
-    let c5 = c5 in
-    let c5 = c5 in
     let c7 = c5 .before .before in
     let c10 = c7 .before .before .before in
     let s = c10 .args .frame .now in

@@ -23,9 +23,6 @@ same-length c = omega arith
 returns-4 : tie.Need-returns-4
 returns-4 c =
     let c4 = c .before .before .before .before in
-    let c4 = c4 in
-    let c4 = c4 in
-    let c4 = c4 in
     let c5 = c4 .before in
     let c6 = c5 .before in
     rw (c .before .before .put-frame .ensures .0)

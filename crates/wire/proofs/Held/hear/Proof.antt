@@ -31,7 +31,6 @@ same-length c = search needs
 returns-3 : tie.Need-returns-3
 returns-3 c =
     let c4 = c .before .before .before .before in
-    let c4 = c4 in
     let c5 = c4 .before in
     let c6 = c5 .before in
     rw (hearing-heard _ _ _ (c6 .if1 .left) (sym (c5 .is-allowed .ensures) ∙ not-false _ (c4 .if2 .left))) (c .before .before .heard .ensures)

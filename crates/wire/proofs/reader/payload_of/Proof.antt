@@ -47,7 +47,6 @@ shared-slice-read-byte-of-2 c = omega arith
 byte-of-requires : tie.Need-byte-of-requires Inv-loop μ-loop
 byte-of-requires c κs =
     let c5 = c .before .before .before .before .before in
-    let c5 = c5 in
     let i = c .before .before .before .loop .i in
     let chars = c5 .args .chars .now in
     let digits = c5 .pre .1 in
@@ -65,7 +64,6 @@ loop-less c = omega arith
 loop-again : tie.Need-loop-again Inv-loop μ-loop
 loop-again c =
     let c4 = c .before .before .before .before in
-    let c4 = c4 in
     (search needs, simp length-set (c4 .loop .inv .1), rw (c .byte-of .ensures) (bytes-turn _ _ (c .before .before .before .loop-test .taken) _) ∙ c4 .loop .inv .2)
 
 returns : tie.Need-returns Inv-loop μ-loop

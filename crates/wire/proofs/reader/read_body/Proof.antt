@@ -23,7 +23,6 @@ bad-count-requires c κs = tt
 returns-3 : tie.Need-returns-3
 returns-3 c =
     let c4 = c .before .before .before .before in
-    let c4 = c4 in
     gives-none _
     (ap readAs
     (body-count _ (c4 .if1 .left) (sym (c .before .before .before .all-digits .ensures) ∙ not-false _ (c .before .before .if2 .left)) (sym (c .before .bad-count .ensures) ∙ c .if3 .taken)))
@@ -31,7 +30,6 @@ returns-3 c =
 read-digits-requires : tie.Need-read-digits-requires
 read-digits-requires c κs =
     let c4 = c .before .before .before .before in
-    let c4 = c4 in
     (search needs, sym (c4 .all-digits .ensures) ∙ not-false _ (c .before .before .before .if2 .left), sym (c .before .before .bad-count .ensures) ∙ c .before .if3 .left, search needs)
 
 same-length : tie.Need-same-length

@@ -24,7 +24,6 @@ payload-of-requires c κs = search needs
 shared-slice-read-nibble-of : tie.Need-shared-slice-read-nibble-of
 shared-slice-read-nibble-of c =
     let c4 = c .before .before .before .before in
-    let c4 = c4 in
     omega (arith, many c4)
 
 nibble-of-requires : tie.Need-nibble-of-requires
@@ -49,21 +48,18 @@ add-if1 c = omega arith
 sums : (c : tie.After-sum-of) → (c .before .before .nibble-of .result + c .sum-of .result) % 256 ≡ (commandOf (c .before .before .before .before .before .before .before .args .chars .now) + sumOf (payloadOf (c .before .before .before .before .before .before .before .args .chars .now))) % 256
 sums c =
     let c4 = c .before .before .before .before in
-    let c4 = c4 in
     let c7 = c4 .before .before .before in
     rw (c .before .before .nibble-of .ensures, c .sum-of .ensures, payload-part _ _ (c7 .pre .2) (c4 .payload-of .ensures .1)) (add-mod-mod _ _ 256)
 
 returns : tie.Need-returns
 returns c =
     let c8 = c .before .before .before .before .before .before .before .before in
-    let c8 = c8 in
     let pre = c8 .pre in
     gives-none _ (ap readAs (body-sum _ (pre .0) (pre .1) (pre .2) (ne-eqb _ _ (λ e. c .if1 .taken (sums (c .before) ∙ e)))))
 
 sub-payload : tie.Need-sub-payload
 sub-payload c =
     let c8 = c .before .before .before .before .before .before .before .before in
-    let c8 = c8 in
     omega (arith, many c8)
 
 array-share-prefix-payload-2 : tie.Need-array-share-prefix-payload-2
@@ -72,19 +68,16 @@ array-share-prefix-payload-2 c = omega arith
 slice-aggregate-copy : tie.Need-slice-aggregate-copy
 slice-aggregate-copy c =
     let c6 = c .before .before .before .before .before .before in
-    let c6 = c6 in
     rw length-take (omega (arith, c6 .payload-of .ensures .0))
 
 copy-requires : tie.Need-copy-requires
 copy-requires c κs =
     let c7 = c .before .before .before .before .before .before .before in
-    let c7 = c7 in
     rw length-take (omega (arith, c7 .payload-of .ensures .0))
 
 sub-t10 : tie.Need-sub-t10
 sub-t10 c =
     let c13 = c .before .before .before .before .before .before .before .before .before .before .before .before .before in
-    let c13 = c13 in
     omega (arith, many c13)
 
 same-length : tie.Need-same-length
@@ -93,7 +86,6 @@ same-length c = omega arith
 returns-2 : tie.Need-returns-2
 returns-2 c =
     let c5 = c .before .before .before .before .before in
-    let c5 = c5 in
     let c6 = c5 .before in
     let c8 = c6 .before .before in
     let c10 = c8 .before .before in

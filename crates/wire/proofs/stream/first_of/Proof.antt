@@ -29,7 +29,6 @@ returns c = sym (before-here _ _ (c .before .before .loop-test .taken) _ (simp (
 returns-2 : tie.Need-returns-2 Inv-loop μ-loop
 returns-2 c =
     let c4 = c .before .before .before .before in
-    let c4 = c4 in
     sym (before-here _ _ (c .before .before .before .loop-test .taken) _ (simp (ne-eqb _ _ (c .before .if1 .left), eq-eqb _ _ (c .if2 .taken)))) ∙ c4 .loop .inv .1
 
 add-i : tie.Need-add-i Inv-loop μ-loop
@@ -41,7 +40,6 @@ loop-less c = search needs
 loop-again : tie.Need-loop-again Inv-loop μ-loop
 loop-again c =
     let c4 = c .before .before .before .before in
-    let c4 = c4 in
     (search needs, before-turn _ _ (c .before .before .before .loop-test .taken) _ (simp (ne-eqb _ _ (c .before .if1 .left), ne-eqb _ _ (c .if2 .left))) ∙ c4 .loop .inv .1)
 
 returns-3 : tie.Need-returns-3 Inv-loop μ-loop

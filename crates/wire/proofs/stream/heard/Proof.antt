@@ -23,7 +23,6 @@ chars-long c = search needs
 some : (c : tie.Else2) → c .before .first-of .result < length (c .before .before .before .before .before .args .piece .now)
 some c =
     let c5 = c .before .before .before .before .before in
-    let c5 = c5 in
     let short : c .before .first-of .result ≤ length (c5 .args .piece .now) = rw (c .before .first-of .ensures) (before-first colonAt (c5 .args .piece .now) .inside) in
     omega arith
 
@@ -31,7 +30,6 @@ some c =
 found : (c : tie.After-in-frame2) → Gives Heard (heardOf (inside []) (drop (c .before .before .before .before .before .first-of .result + 1) (c .before .before .before .before .before .before .before .before .before .args .piece .now))) (c .before .before .before .before .before .before .before .before .before .args .into .now) (c .in-frame2 .result) (c .in-frame2 .last .1 .1 .0)
 found c =
     let c5 = c .before .before .before .before .before in
-    let c5 = c5 in
     let c9 = c5 .before .before .before .before in
     rw (c .before .before .before .begun .ensures, unfinished-held [], part-to-end (c9 .args .piece .now) _ (c5 .first-of .result + 1) refl) at (c .in-frame2 .ensures)
 
@@ -53,7 +51,6 @@ first-of-requires c κs = omega arith
 returns-2 : tie.Need-returns-2
 returns-2 c =
     let c5 = c .before .before .before .before .before in
-    let c5 = c5 in
     gives-none _ (call-skipped _ (c5 .pre .0) (chars-long c5) (c .before .before .if1 .left) _ _ (c .before .first-of .ensures) (c .if2 .taken))
 
 begun-requires : tie.Need-begun-requires
@@ -77,13 +74,11 @@ in-frame-requires-2 c κs = rw (c .before .before .begun .ensures) (allowed-insi
 add-t11 : tie.Need-add-t11
 add-t11 c =
     let c7 = c .before .before .before .before .before .before .before in
-    let c7 = c7 in
     omega (arith, some c7)
 
 add-t15 : tie.Need-add-t15
 add-t15 c =
     let c4 = c .before .before .before .before in
-    let c4 = c4 in
     let c8 = c4 .before .before .before .before in
     omega (arith, some c8, rw length-drop at (within c4))
 
@@ -93,7 +88,6 @@ same-length-2 c = omega arith
 returns-3 : tie.Need-returns-3
 returns-3 c =
     let c4 = c .before .before .before .before in
-    let c4 = c4 in
     let c8 = c4 .before .before .before .before in
     let c9 = c8 .before in
     let c10 = c9 .before in

@@ -32,7 +32,6 @@ with-more-requires c κs = search needs
 returns : tie.Need-returns
 returns c =
     let c6 = c .before .before .before .before .before .before in
-    let c6 = c6 in
     gives-none _ (call-nothing _ (c6 .pre .1) _ _ (c .before .before .before .first-of .ensures) _ (c .before .with-more .ensures) (c .if1 .taken))
 
 add-taken : tie.Need-add-taken
@@ -50,7 +49,6 @@ broken-requires c κs = omega arith
 returns-2 : tie.Need-returns-2
 returns-2 c =
     let c4 = c .before .before .before .before in
-    let c4 = c4 in
     let inside = c4 in
     rw (c .before .begun .ensures, c .broken .ensures)
     (gives-none _
@@ -60,13 +58,11 @@ returns-2 c =
 array-share-prefix-chars : tie.Need-array-share-prefix-chars
 array-share-prefix-chars c =
     let c4 = c .before .before .before .before in
-    let c4 = c4 in
     kept c4
 
 slice-aggregate-read-body : tie.Need-slice-aggregate-read-body
 slice-aggregate-read-body c =
     let c5 = c .before .before .before .before .before in
-    let c5 = c5 in
     rw length-take (omega (arith, kept c5))
 
 read-body-requires : tie.Need-read-body-requires
@@ -84,7 +80,6 @@ same-length c = omega arith
 returns-3 : tie.Need-returns-3
 returns-3 c =
     let c4 = c .before .before .before .before in
-    let c4 = c4 in
     let c8 = c4 .before .before .before .before in
     let c10 = c8 .before .before in
     let inside = c10 in

@@ -30,13 +30,11 @@ returns-2 c = sym (allowed-stray _ (c .before .before .if1 .left) (sym (c .befor
 array-share-prefix-chars : tie.Need-array-share-prefix-chars
 array-share-prefix-chars c =
     let c4 = c .before .before .before .before in
-    let c4 = c4 in
     omega (arith, chars-long c4)
 
 slice-aggregate-all-stay : tie.Need-slice-aggregate-all-stay
 slice-aggregate-all-stay c =
     let c5 = c .before .before .before .before .before in
-    let c5 = c5 in
     rw length-take (omega (arith, chars-long c5))
 
 all-stay-requires : tie.Need-all-stay-requires
@@ -48,7 +46,6 @@ part-all-zero-start c = omega arith
 part-all-zero-end : tie.Need-part-all-zero-end
 part-all-zero-end c =
     let c8 = c .before .before .before .before .before .before .before .before in
-    let c8 = c8 in
     omega (arith, chars-long c8)
 
 all-zero-requires : tie.Need-all-zero-requires
@@ -57,7 +54,6 @@ all-zero-requires c κs = omega arith
 returns-3 : tie.Need-returns-3
 returns-3 c =
     let c4 = c .before .before .before .before in
-    let c4 = c4 in
     let c6 = c4 .before .before in
     let c8 = c6 .before .before in
     let c10 = c8 .before .before in
@@ -68,7 +64,6 @@ returns-3 c =
 returns-4 : tie.Need-returns-4
 returns-4 c =
     let c5 = c .before .before .before .before .before in
-    let c5 = c5 in
     c .if3 .left ∙ sym (allowed-strange _ (c5 .if1 .left) (somewhere (c .before .before .before)) (sym (c .before .all-stay .ensures) ∙ c .if3 .left))
 
 pub is-allowed-spec : {M : Type 1} → statement M

@@ -26,25 +26,21 @@ slice-aggregate-copy c = rw length-take (omega (arith, c .before .least .ensures
 sub-copy : tie.Need-sub-copy
 sub-copy c =
     let c4 = c .before .before .before .before in
-    let c4 = c4 in
     few c4
 
 part-chars-start : tie.Need-part-chars-start
 part-chars-start c =
     let c4 = c .before .before .before .before in
-    let c4 = c4 in
     omega (arith, few c4)
 
 part-chars-end : tie.Need-part-chars-end
 part-chars-end c =
     let c4 = c .before .before .before .before in
-    let c4 = c4 in
     omega (arith, chars-long c4)
 
 copy-requires : tie.Need-copy-requires
 copy-requires c κs =
     let c5 = c .before .before .before .before .before in
-    let c5 = c5 in
     rw (length-take, length-take, length-drop) (omega (arith, c .before .before .least .ensures, chars-long c5))
 
 add-t7 : tie.Need-add-t7
@@ -53,7 +49,6 @@ add-t7 c = omega arith
 returns : tie.Need-returns
 returns c =
     let c4 = c .before .before .before .before in
-    let c4 = c4 in
     let c7 = c4 .before .before .before in
     rw (c4 .least .ensures) (held-more _ (c7 .pre .0) (chars-long c7) _ _ (rw (c4 .least .ensures) at (c .before .copy .ensures)))
 

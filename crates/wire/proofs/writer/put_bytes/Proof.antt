@@ -40,7 +40,6 @@ loop-less c = search needs
 loop-again : tie.Need-loop-again Inv-loop μ-loop
 loop-again c =
     let c5 = c .before .before .before .before .before in
-    let c5 = c5 in
     let c6 = c5 .before in
     (search needs, c .before .before .put-byte .kept .0 ∙ c6 .loop .inv .1, rw (c .before .before .put-byte .ensures) (digits-turn _ _ (c5 .loop-test .taken) _ _) ∙ c6 .loop .inv .2)
 

@@ -30,7 +30,6 @@ check-of-requires c κs = omega arith
 put-byte-requires : tie.Need-put-byte-requires
 put-byte-requires c κs =
     let c4 = c .before .before .before .before in
-    let c4 = c4 in
     omega (arith, simp length-set at (c4 .put-bytes .kept .0))
 
 add-out : tie.Need-add-out
@@ -39,7 +38,6 @@ add-out c = omega arith
 slice-write-out-3 : tie.Need-slice-write-out-3
 slice-write-out-3 c =
     let c7 = c .before .before .before .before .before .before .before in
-    let c7 = c7 in
     omega (arith, c .before .before .put-byte .kept .0, simp length-set at (c7 .put-bytes .kept .0))
 
 add-result : tie.Need-add-result
@@ -48,13 +46,11 @@ add-result c = omega arith
 same-length : tie.Need-same-length
 same-length c =
     let c7 = c .before .before .before .before .before .before .before in
-    let c7 = c7 in
     simp length-set (c .before .before .put-byte .kept .0 ∙ simp length-set at (c7 .put-bytes .kept .0))
 
 returns : tie.Need-returns
 returns c =
     let c7 = c .before .before .before .before .before .before .before in
-    let c7 = c7 in
     let c9 = c7 .before .before in (
       rw length-frame (omega arith),
       rw (c .before .before .put-byte .ensures, c .before .before .before .check-of .ensures, c7 .put-bytes .ensures, c9 .digit-of .ensures)

@@ -1,0 +1,44 @@
+-- `board::Board::store` meets its contract. Assumes nothing.
+use mathlib.Core.Path.{_≡_, sym}
+use mathlib.Core.Bool.{true, false, _&&_}
+use borrow.Author.Tests.{not-true, not-false}
+use Rattle.laws.proofs.Bools.{and-right}
+use Rattle.board.specs.Parts.{boardAllowed, givenFits}
+use Rattle.board.proofs.Starts.{store-refused, store-accepted}
+use Rattle.board.proofs.Board.store.Statement.{statement}
+use Rattle.board.proofs.Board.store.Tie as tie
+
+stray : (c : tie.Then1) → (boardAllowed (c .before .before .before .args .self) && givenFits (c .before .before .before .args .given)) ≡ false
+stray c =
+    let test : (c .before .before .is-allowed .result && c .before .fit .result) ≡ false = not-true _ (c .if1 .taken) in
+    rw (c .before .before .is-allowed .ensures, c .before .fit .ensures) at test
+
+fits : (c : tie.Else1) → (boardAllowed (c .before .before .before .args .self) && givenFits (c .before .before .before .args .given)) ≡ true
+fits c =
+    let test : (c .before .before .is-allowed .result && c .before .fit .result) ≡ true = not-false _ (c .if1 .left) in
+    rw (c .before .before .is-allowed .ensures, c .before .fit .ensures) at test
+
+is-allowed-requires : tie.Need-is-allowed-requires
+is-allowed-requires c κs = tt
+
+fit-requires : tie.Need-fit-requires
+fit-requires c κs = tt
+
+returns : tie.Need-returns
+returns c = sym (store-refused _ _ (stray c))
+
+readings-of-requires : tie.Need-readings-of-requires
+readings-of-requires c κs =
+    let c6 = c .before .before .before .before .before .before in
+    and-right (boardAllowed (c6 .args .self)) _ (fits (c .before .before .before))
+
+returns-2 : tie.Need-returns-2
+returns-2 c =
+    let c4 = c .before .before .before .before in
+    rw (c .readings-of .ensures) (sym (store-accepted _ _ (fits c4)))
+
+pub store-spec : {M : Type 1} → statement M
+store-spec =
+    tie.close
+    (tie.spec
+    is-allowed-requires fit-requires returns readings-of-requires returns-2)

@@ -1,0 +1,6 @@
+-- Laws of the definitions of specs/, and what the proofs of the functions cite.
+pub mod Signs
+pub mod Unfinished
+pub mod Starts
+pub mod Theorems
+pub mod Same

@@ -1,0 +1,27 @@
+-- Two answers that meet a call's own contract are the same. `Post` is what the call ensures, as its source states it. Assumes nothing.
+use mathlib.Core.Path.{_≡_}
+use mathlib.Core.List.{List}
+use Prim.Native.Nat.{ℕ}
+use denote.Ref.{RefT}
+use contract.Lifetimes.{Lfts}
+use Rattle.laws.proofs.Promise.{equal-same}
+use Rattle.settings.specs.declared.Table.{Table}
+use Rattle.board.specs.declared.Board.{Board}
+use Rattle.board.specs.declared.Given.{Given}
+use Rattle.board.specs.declared.Judged.{Judged}
+use Rattle.board.proofs.Board.start.Reads as start
+use Rattle.board.proofs.Board.start_factory.Reads as start-factory
+use Rattle.board.proofs.Board.store.Reads as store
+
+module _ (κs : Lfts 1) (product version : ℕ) (serial : RefT (List ℕ)) (r r′ : Judged) where
+  pub start-same : (table : Table) → start.Post κs (product, (version, (serial, (table, tt)))) r (product, (version, (serial, (table, tt))))
+      → start.Post κs (product, (version, (serial, (table, tt)))) r′ (product, (version, (serial, (table, tt)))) → r ≡ r′
+  start-same table met met′ = equal-same met met′
+
+  pub start-factory-same : start-factory.Post κs (product, (version, (serial, tt))) r (product, (version, (serial, tt)))
+      → start-factory.Post κs (product, (version, (serial, tt))) r′ (product, (version, (serial, tt))) → r ≡ r′
+  start-factory-same met met′ = equal-same met met′
+
+pub store-same : (board : Board) (given : Given) (r r′ : Judged) → store.Post tt (board, (given, tt)) r (board, (given, tt))
+    → store.Post tt (board, (given, tt)) r′ (board, (given, tt)) → r ≡ r′
+store-same board given r r′ met met′ = equal-same met met′
