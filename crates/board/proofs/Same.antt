@@ -7,7 +7,7 @@ use contract.Lifetimes.{Lfts}
 use Rattle.laws.proofs.Promise.{equal-same}
 use Rattle.settings.specs.declared.Table.{Table}
 use Rattle.board.specs.declared.Board.{Board}
-use Rattle.board.specs.declared.Given.{Given}
+use Rattle.board.specs.declared.Sample.{Sample}
 use Rattle.board.specs.declared.Judged.{Judged}
 use Rattle.board.proofs.Board.start.Reads as start
 use Rattle.board.proofs.Board.start_factory.Reads as start-factory
@@ -22,6 +22,6 @@ module _ (κs : Lfts 1) (product version : ℕ) (serial : RefT (List ℕ)) (r r�
       → start-factory.Post κs (product, (version, (serial, tt))) r′ (product, (version, (serial, tt))) → r ≡ r′
   start-factory-same met met′ = equal-same met met′
 
-pub store-same : (board : Board) (given : Given) (r r′ : Judged) → store.Post tt (board, (given, tt)) r (board, (given, tt))
+pub store-same : (board : Board) (given : Sample) (r r′ : Judged) → store.Post tt (board, (given, tt)) r (board, (given, tt))
     → store.Post tt (board, (given, tt)) r′ (board, (given, tt)) → r ≡ r′
 store-same board given r r′ met met′ = equal-same met met′

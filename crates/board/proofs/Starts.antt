@@ -16,12 +16,12 @@ use Rattle.settings.proofs.Theorems.{factory-is-allowed}
 use Rattle.settings.specs.Columns.{factory}
 use Rattle.settings.specs.Rules.{allowed}
 use Rattle.settings.specs.declared.Table.{Table}
-use Rattle.board.specs.Parts.{printed, serialFits, noSerial, identityOf, serialOf, noIdentity, identityAllowed, freshBoard, givenFits, boardAllowed}
+use Rattle.board.specs.Parts.{printed, serialFits, noSerial, identityOf, serialOf, noIdentity, identityAllowed, freshBoard, sampleFits, boardAllowed}
 use Rattle.board.specs.Calls.{starting, storing, withReadings, notAllowed}
 use Rattle.board.specs.Laws.{StartIsAllowed, SerialIsKept, StoreStores, StoreKeepsAllowed}
 use Rattle.board.specs.declared.Identity.{Identity}
 use Rattle.board.specs.declared.Board.{Board}
-use Rattle.board.specs.declared.Given.{Given}
+use Rattle.board.specs.declared.Sample.{Sample}
 use Rattle.board.specs.declared.Verdict.{Verdict}
 
 pub serial-short : (serial : List ℕ) → serialFits serial ≡ true → length serial ≤ 32
@@ -39,12 +39,12 @@ module _ (product version : ℕ) (serial : List ℕ) (table : Table) where
   unfolding starting
   start-accepted e = rw e
 
-module _ (board : Board) (given : Given) where
-  pub store-refused : (boardAllowed board && givenFits given) ≡ false → storing board given ≡ record { board = board; verdict = Verdict.Refused notAllowed }
+module _ (board : Board) (given : Sample) where
+  pub store-refused : (boardAllowed board && sampleFits given) ≡ false → storing board given ≡ record { board = board; verdict = Verdict.Refused notAllowed }
   unfolding storing
   store-refused e = rw e
 
-  pub store-accepted : (boardAllowed board && givenFits given) ≡ true
+  pub store-accepted : (boardAllowed board && sampleFits given) ≡ true
       → storing board given ≡ record { board = withReadings board given; verdict = Verdict.Accepted }
   unfolding storing
   store-accepted e = rw e
@@ -55,12 +55,17 @@ zeros-end zero m = every-replicate m
 zeros-end (suc n) zero = refl
 zeros-end (suc n) (suc m) = zeros-end n m
 
-pub serial-kept : SerialIsKept
+serial-back : (product version : ℕ) (serial : List ℕ) → serialOf (identityOf product version serial) ≡ serial
 unfolding serialOf identityOf overlaid
-serial-kept product version serial = take-append-seam serial _
+serial-back product version serial = take-append-seam serial _
+
+pub serial-kept : SerialIsKept
+unfolding freshBoard
+serial-kept product version serial table fits ok =
+    rw (start-accepted product version serial table (both _ _ fits ok)) (serial-back product version serial)
 
 identity-fits : (product version : ℕ) (serial : List ℕ) → serialFits serial ≡ true → identityAllowed (identityOf product version serial) ≡ true
-unfolding identityAllowed identityOf overlaid noSerial serialFits
+unfolding identityAllowed serialOf identityOf overlaid noSerial serialFits
 identity-fits product version serial e =
     rw (take-append-seam, drop-append-seam)
     (both _ _ (and-left (leb (length serial) 32) (every printed serial) e)
@@ -94,13 +99,13 @@ store-stores board given ok fits =
       held-same = rw is;
     }
 
-readings-aside : (board : Board) (given : Given) → boardAllowed (withReadings board given) ≡ boardAllowed board
+readings-aside : (board : Board) (given : Sample) → boardAllowed (withReadings board given) ≡ boardAllowed board
 unfolding boardAllowed
 readings-aside board given = refl
 
 pub store-allowed : StoreKeepsAllowed
-store-allowed board given ok = by (boardAllowed board && givenFits given) refl
+store-allowed board given ok = by (boardAllowed board && sampleFits given) refl
   where
-    by : (b : Bool) → (boardAllowed board && givenFits given) ≡ b → boardAllowed (storing board given .board) ≡ true
+    by : (b : Bool) → (boardAllowed board && sampleFits given) ≡ b → boardAllowed (storing board given .board) ≡ true
     by true e = rw (store-accepted board given e) (readings-aside board given ∙ ok)
     by false e = rw (store-refused board given e) ok

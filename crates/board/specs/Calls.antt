@@ -5,9 +5,9 @@ use mathlib.Core.List.{List}
 use Rattle.settings.specs.Columns.{factory}
 use Rattle.settings.specs.Rules.{allowed}
 use Rattle.settings.specs.declared.Table.{Table}
-use Rattle.board.specs.Parts.{serialFits, identityOf, noIdentity, freshBoard, givenFits, readingsOf, boardAllowed}
+use Rattle.board.specs.Parts.{serialFits, identityOf, noIdentity, freshBoard, sampleFits, readingsOf, boardAllowed}
 use Rattle.board.specs.declared.Board.{Board}
-use Rattle.board.specs.declared.Given.{Given}
+use Rattle.board.specs.declared.Sample.{Sample}
 use Rattle.board.specs.declared.Judged.{Judged}
 use Rattle.board.specs.declared.Verdict.{Verdict}
 
@@ -23,12 +23,12 @@ starting product version serial table =
     (record { board = freshBoard noIdentity factory; verdict = Verdict.Refused notAllowed })
 
 -- "The board program stores readings as whole numbers; one that does not fit its width is refused (12) and none of the five changes."
-abbrev pub withReadings : Board → Given → Board
+abbrev pub withReadings : Board → Sample → Board
 withReadings board given =
     record { identity = board .identity; table = board .table; readings = readingsOf given; held = board .held }
 
-unfoldable pub storing : Board → Given → Judged
+unfoldable pub storing : Board → Sample → Judged
 storing board given =
-    cond (boardAllowed board && givenFits given)
+    cond (boardAllowed board && sampleFits given)
     (record { board = withReadings board given; verdict = Verdict.Accepted })
     (record { board = board; verdict = Verdict.Refused notAllowed })

@@ -15,7 +15,7 @@ use Rattle.wire.specs.Stream.{outside}
 use Rattle.settings.specs.declared.Table.{Table}
 use Rattle.board.specs.declared.Identity.{Identity}
 use Rattle.board.specs.declared.Readings.{Readings}
-use Rattle.board.specs.declared.Given.{Given}
+use Rattle.board.specs.declared.Sample.{Sample}
 use Rattle.board.specs.declared.Board.{Board}
 
 -- "serial, 0 to 32 bytes of 0x20..0x7E"
@@ -41,26 +41,26 @@ noIdentity = identityOf 0 0 []
 unfoldable pub serialOf : Identity → List ℕ
 serialOf identity = take (identity .len) (identity .serial)
 
--- an identity that a start can give
+-- a serial as above, and 0 past its length, so each serial is one value
 unfoldable pub identityAllowed : Identity → Bool
 identityAllowed identity =
-    leb (identity .len) mostSerial && (every printed (take (identity .len) (identity .serial)) && every (eqb 0) (drop (identity .len) (identity .serial)))
+    leb (identity .len) mostSerial && (every printed (serialOf identity) && every (eqb 0) (drop (identity .len) (identity .serial)))
 
 abbrev pub noReadings : Readings
 noReadings = record { voltage = pos 0; current = pos 0; fine = pos 0; consumed = pos 0; charge = 0 }
 
 -- "stores readings as whole numbers; one that does not fit its width is refused (12) and none of the five changes": signed 16, signed 16,
 -- signed 32, signed 32, unsigned 16
-abbrev pub between : ℤ → ℤ → ℤ → Bool
-between low high x = leZ low x && leZ x high
+abbrev pub within : ℤ → ℤ → ℤ → Bool
+within low high x = leZ low x && leZ x high
 
-unfoldable pub givenFits : Given → Bool
-givenFits given =
-    between (negsuc 0x7FFF) (pos 0x7FFF) (given .voltage) && between (negsuc 0x7FFF) (pos 0x7FFF) (given .current)
-    && between (negsuc 0x7FFFFFFF) (pos 0x7FFFFFFF) (given .fine) && between (negsuc 0x7FFFFFFF) (pos 0x7FFFFFFF) (given .consumed)
-    && between (pos 0) (pos 0xFFFF) (given .charge)
+unfoldable pub sampleFits : Sample → Bool
+sampleFits given =
+    within (negsuc 0x7FFF) (pos 0x7FFF) (given .voltage) && within (negsuc 0x7FFF) (pos 0x7FFF) (given .current)
+    && within (negsuc 0x7FFFFFFF) (pos 0x7FFFFFFF) (given .fine) && within (negsuc 0x7FFFFFFF) (pos 0x7FFFFFFF) (given .consumed)
+    && within (pos 0) (pos 0xFFFF) (given .charge)
 
-unfoldable pub readingsOf : Given → Readings
+unfoldable pub readingsOf : Sample → Readings
 readingsOf given =
     record { voltage = given .voltage; current = given .current; fine = given .fine; consumed = given .consumed; charge = natAbs (given .charge) }
 

@@ -11,6 +11,7 @@ use wire::Held;
 
 mod measured;
 mod numbers;
+mod values;
 mod who;
 
 // Who a board is: product and version of two bytes, and a serial of 0 to 32 bytes; past its length the array is 0.
@@ -31,7 +32,7 @@ pub struct Readings {
 }
 
 // Five readings as they are handed in, wider than their widths: the board stores them all or none.
-pub struct Given {
+pub struct Sample {
     pub voltage: i64,
     pub current: i64,
     pub fine: i64,
@@ -85,7 +86,7 @@ impl Board {
     }
 
     // Stores five readings, or none: 12 for a board that is not allowed, or a number that does not fit its width.
-    pub fn store(self, given: Given) -> Judged
+    pub fn store(self, given: Sample) -> Judged
         ensures { λ r. ⌜ r ≡ storing self given ⌝ }
     {
         if !(is_allowed(self) & measured::fit(given)) {
@@ -121,7 +122,7 @@ fn fresh(identity: Identity, table: Table) -> Board
     }
 }
 
-// A board that a start and bytes can give.
+// An allowed board: identity, settings and held frame are; readings at their widths always are.
 fn is_allowed(board: Board) -> bool
     ensures { λ r. ⌜ r ≡ boardAllowed board ⌝ }
 {

@@ -2,9 +2,9 @@
 ghost use mathlib.Core.Path.{_≡_};
 ghost use mathlib.Core.Bool.{true};
 ghost use lib.IntN.{pos, negsuc, natAbs};
-ghost use Rattle.board.specs.Parts.{between, noReadings, givenFits, readingsOf};
-use crate::Given;
+ghost use Rattle.board.specs.Parts.{within, noReadings, sampleFits, readingsOf};
 use crate::Readings;
+use crate::Sample;
 use crate::numbers;
 
 // No readings: all 0.
@@ -20,49 +20,49 @@ pub(crate) fn nothing() -> Readings
     }
 }
 
-// A number between two ends.
-fn is_between(low: i64, x: i64, high: i64) -> bool
-    ensures { λ r. ⌜ r ≡ between low high x ⌝ }
+// A number within two ends.
+fn is_within(low: i64, x: i64, high: i64) -> bool
+    ensures { λ r. ⌜ r ≡ within low high x ⌝ }
 {
     (low <= x) & (x <= high)
 }
 
 // Five numbers that fit the published widths.
-pub(crate) fn fit(given: Given) -> bool
-    ensures { λ r. ⌜ r ≡ givenFits given ⌝ }
+pub(crate) fn fit(given: Sample) -> bool
+    ensures { λ r. ⌜ r ≡ sampleFits given ⌝ }
 {
-    is_between(numbers::LEAST_16, given.voltage, numbers::MOST_16)
-        & is_between(numbers::LEAST_16, given.current, numbers::MOST_16)
-        & is_between(numbers::LEAST_32, given.fine, numbers::MOST_32)
-        & is_between(numbers::LEAST_32, given.consumed, numbers::MOST_32)
-        & is_between(0, given.charge, numbers::MOST_CHARGE)
+    is_within(numbers::LEAST_16, given.voltage, numbers::MOST_16)
+        & is_within(numbers::LEAST_16, given.current, numbers::MOST_16)
+        & is_within(numbers::LEAST_32, given.fine, numbers::MOST_32)
+        & is_within(numbers::LEAST_32, given.consumed, numbers::MOST_32)
+        & is_within(0, given.charge, numbers::MOST_CHARGE)
 }
 
 // A number that fits signed 16, signed 32 or unsigned 16, at that width.
 fn as_16(x: i64) -> i16
-    requires { ⌜ between (negsuc 0x7FFF) (pos 0x7FFF) x ≡ true ⌝ }
+    requires { ⌜ within (negsuc 0x7FFF) (pos 0x7FFF) x ≡ true ⌝ }
     ensures { λ r. ⌜ r ≡ x ⌝ }
 {
     x as i16
 }
 
 fn as_32(x: i64) -> i32
-    requires { ⌜ between (negsuc 0x7FFFFFFF) (pos 0x7FFFFFFF) x ≡ true ⌝ }
+    requires { ⌜ within (negsuc 0x7FFFFFFF) (pos 0x7FFFFFFF) x ≡ true ⌝ }
     ensures { λ r. ⌜ r ≡ x ⌝ }
 {
     x as i32
 }
 
 fn as_charge(x: i64) -> u16
-    requires { ⌜ between (pos 0) (pos 0xFFFF) x ≡ true ⌝ }
+    requires { ⌜ within (pos 0) (pos 0xFFFF) x ≡ true ⌝ }
     ensures { λ r. ⌜ r ≡ natAbs x ⌝ }
 {
     x as u16
 }
 
 // The readings of five numbers that fit.
-pub(crate) fn readings_of(given: Given) -> Readings
-    requires { ⌜ givenFits given ≡ true ⌝ }
+pub(crate) fn readings_of(given: Sample) -> Readings
+    requires { ⌜ sampleFits given ≡ true ⌝ }
     ensures { λ r. ⌜ r ≡ readingsOf given ⌝ }
 {
     Readings {

@@ -23,3 +23,20 @@ pub(crate) const MOST_DATA: usize = 35;
 
 // 12: a handed-in number, state or table is not allowed.
 pub(crate) const NOT_ALLOWED: u8 = 12;
+
+// The read-only ids.
+pub(crate) const PRODUCT: u16 = 0x0100;
+
+pub(crate) const SERIAL: u16 = 0x010A;
+
+pub(crate) const VERSION: u16 = 0xEEF9;
+
+pub(crate) const VOLTAGE: u16 = 0xED8D;
+
+pub(crate) const CURRENT: u16 = 0xED8F;
+
+pub(crate) const FINE: u16 = 0xED8C;
+
+pub(crate) const CONSUMED: u16 = 0xEEFF;
+
+pub(crate) const CHARGE: u16 = 0x0FFF;

@@ -80,7 +80,7 @@ pub(crate) fn nobody() -> Identity
     }
 }
 
-// An identity that a start can give.
+// An identity whose serial fits, with 0 past its length.
 pub(crate) fn is_identity(identity: Identity) -> bool
     ensures { λ r. ⌜ r ≡ identityAllowed identity ⌝ }
 {

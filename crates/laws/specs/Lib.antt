@@ -1,4 +1,4 @@
--- Words that more than one layer's definitions use.
+-- Words that belong to no one layer.
 pub mod Lists
 pub mod Promise
 pub mod Cutting

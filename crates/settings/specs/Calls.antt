@@ -11,8 +11,7 @@ use Rattle.settings.specs.declared.Number.{Number}
 use Rattle.settings.specs.declared.Answer.{Answer}
 use Rattle.settings.specs.declared.Change.{Change}
 
--- Document 01, "Numbers of refusal": 7 an id that is no setting, 10 a number that is not allowed, 12 "a handed-in number, state or table is
--- not allowed"
+-- Document 01: "7 if the id is no setting"; 10 "number not allowed"; 12 "a handed-in number, state or table is not allowed"
 abbrev pub noSetting : ℕ
 noSetting = 7
 

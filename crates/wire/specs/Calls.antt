@@ -84,9 +84,9 @@ allowed held =
     leb (held .len) mostHeld && (held .inside || eqb (held .len) zero)
     && (every stays (take (held .len) (held .chars)) && every (eqb 0) (drop (held .len) (held .chars)))
 
--- The stream reader. "The stream is read by the same frame rule, bytes taken and refusals 1 to 4, with no reply. That call [refuses] 11 if
--- the data buffer is under 35 bytes"; then 12 for a state that no bytes could have left. "Under 11 and 12 a state handed in comes back as
--- it was, with counts and lengths 0."
+-- The stream reader. "The stream is read by the same frame rule, bytes taken and refusals 1 to 4, with no reply. That call and the one for
+-- a whole frame refuse 11 if the data buffer is under 35 bytes"; then 12 for a state that no bytes could have left. "Under 11 and 12 a state
+-- handed in comes back as it was, with counts and lengths 0."
 
 abbrev pub unheard : Held → ℕ → Given Heard
 unheard held number = record { answer = record { held = held; event = Event.Refused number; taken = zero }; written = [] }

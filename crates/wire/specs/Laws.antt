@@ -22,7 +22,7 @@ use Rattle.wire.specs.declared.Heard.{Heard}
 pub record Bytes (bytes : List ℕ) : Type 0 where
   pub below : every (λ b. ltb b 256) bytes ≡ true
 
--- 1. "A frame written by one end is read by the other as the same command and data": read whole, and on the stream.
+-- 1. Demand 2: "A frame written by one end is read by the other as the same command and data": read whole, and on the stream.
 abbrev pub WrittenIsRead : Type 0
 WrittenIsRead =
     (command : ℕ) (bytes : List ℕ) → command ≤ mostNibble → length bytes ≤ mostData → Bytes bytes → (room : ℕ) → mostData ≤ room
@@ -34,7 +34,7 @@ WrittenIsHeard =
     → (framesOf (frame command bytes ++ rest) ≡ good command bytes ∷ framesOf rest)
     × (leftBy (frame command bytes ++ rest) ≡ leftBy rest)
 
--- 2. "A frame read whole is byte for byte the one the writer makes for them."
+-- 2. Demand 2: "a frame read whole is byte for byte the one the writer makes for them".
 abbrev pub ReadIsWritten : Type 0
 ReadIsWritten =
     (slice : List ℕ) (room : ℕ) (command : ℕ) (bytes : List ℕ) → reading slice room ≡ readAs (good command bytes)
@@ -91,7 +91,8 @@ pub record FirstAt (u : Unfinished) (piece : List ℕ) : Type 0 where
 abbrev pub FirstEndIsFirst : Type 0
 FirstEndIsFirst = (u : Unfinished) (piece : List ℕ) → FirstAt u piece
 
--- 4. "[A state is allowed when] its held frame is one that bytes could have left." (Its array has 74 entries in every value of the type.)
+-- 4. "A state handed in is allowed when [..] its held frame is one that bytes could have left". (Its array has 74 entries in every value of
+-- the type.)
 abbrev pub AllowedIsLeft : Type 0
 AllowedIsLeft =
     (held : Held) → length (held .chars) ≡ mostHeld → (allowed held ≡ true) ↔ ((bytes : List ℕ) × (heldOf (leftBy bytes) ≡ held))

@@ -4,25 +4,25 @@ use lib.IntN.{pos, negsuc}
 use borrow.Author.Needs.{needs}
 use mir.Val.{SFits}
 use mir.Syntax.{w64}
-use Rattle.board.specs.Parts.{between, givenFits}
-use Rattle.board.proofs.Signs.{between-kept}
+use Rattle.board.specs.Parts.{within, sampleFits}
+use Rattle.board.proofs.Signs.{within-kept}
 use Rattle.board.proofs.measured.fit.Statement.{statement}
 use Rattle.board.proofs.measured.fit.Tie as tie
 
-is-between-requires : tie.Need-is-between-requires
-is-between-requires c κs = tt
+is-within-requires : tie.Need-is-within-requires
+is-within-requires c κs = tt
 
-is-between-requires-2 : tie.Need-is-between-requires-2
-is-between-requires-2 c κs = tt
+is-within-requires-2 : tie.Need-is-within-requires-2
+is-within-requires-2 c κs = tt
 
-is-between-requires-3 : tie.Need-is-between-requires-3
-is-between-requires-3 c κs = tt
+is-within-requires-3 : tie.Need-is-within-requires-3
+is-within-requires-3 c κs = tt
 
-is-between-requires-4 : tie.Need-is-between-requires-4
-is-between-requires-4 c κs = tt
+is-within-requires-4 : tie.Need-is-within-requires-4
+is-within-requires-4 c κs = tt
 
-is-between-requires-5 : tie.Need-is-between-requires-5
-is-between-requires-5 c κs = tt
+is-within-requires-5 : tie.Need-is-within-requires-5
+is-within-requires-5 c κs = tt
 
 voltage-fits : (s : tie.Start) → SFits w64 (s .args .given .voltage)
 voltage-fits s = search needs
@@ -40,22 +40,22 @@ charge-fits : (s : tie.Start) → SFits w64 (s .args .given .charge)
 charge-fits s = search needs
 
 returns : tie.Need-returns
-unfolding givenFits
+unfolding sampleFits
 returns c =
     let c4 = c .before .before .before .before in
     let c6 = c4 .before .before in
     let c8 = c6 .before .before in
     let c10 = c8 .before .before in
     let s = c10 in
-    let voltage : c8 .is-between .result ≡ between (negsuc 0x7FFF) (pos 0x7FFF) (s .args .given .voltage) = c8 .is-between .ensures ∙ between-kept (negsuc 0x7FFF) (pos 0x7FFF) _ (voltage-fits s) in
-    let current : c6 .is-between2 .result ≡ between (negsuc 0x7FFF) (pos 0x7FFF) (s .args .given .current) = c6 .is-between2 .ensures ∙ between-kept (negsuc 0x7FFF) (pos 0x7FFF) _ (current-fits s) in
-    let fine : c4 .is-between3 .result ≡ between (negsuc 0x7FFFFFFF) (pos 0x7FFFFFFF) (s .args .given .fine) = c4 .is-between3 .ensures ∙ between-kept (negsuc 0x7FFFFFFF) (pos 0x7FFFFFFF) _ (fine-fits s) in
-    let consumed : c .before .before .is-between4 .result ≡ between (negsuc 0x7FFFFFFF) (pos 0x7FFFFFFF) (s .args .given .consumed) = c .before .before .is-between4 .ensures ∙ between-kept (negsuc 0x7FFFFFFF) (pos 0x7FFFFFFF) _ (consumed-fits s) in
-    let charge : c .is-between5 .result ≡ between (pos 0) (pos 0xFFFF) (s .args .given .charge) = c .is-between5 .ensures ∙ between-kept (pos 0) (pos 0xFFFF) _ (charge-fits s) in
+    let voltage : c8 .is-within .result ≡ within (negsuc 0x7FFF) (pos 0x7FFF) (s .args .given .voltage) = c8 .is-within .ensures ∙ within-kept (negsuc 0x7FFF) (pos 0x7FFF) _ (voltage-fits s) in
+    let current : c6 .is-within2 .result ≡ within (negsuc 0x7FFF) (pos 0x7FFF) (s .args .given .current) = c6 .is-within2 .ensures ∙ within-kept (negsuc 0x7FFF) (pos 0x7FFF) _ (current-fits s) in
+    let fine : c4 .is-within3 .result ≡ within (negsuc 0x7FFFFFFF) (pos 0x7FFFFFFF) (s .args .given .fine) = c4 .is-within3 .ensures ∙ within-kept (negsuc 0x7FFFFFFF) (pos 0x7FFFFFFF) _ (fine-fits s) in
+    let consumed : c .before .before .is-within4 .result ≡ within (negsuc 0x7FFFFFFF) (pos 0x7FFFFFFF) (s .args .given .consumed) = c .before .before .is-within4 .ensures ∙ within-kept (negsuc 0x7FFFFFFF) (pos 0x7FFFFFFF) _ (consumed-fits s) in
+    let charge : c .is-within5 .result ≡ within (pos 0) (pos 0xFFFF) (s .args .given .charge) = c .is-within5 .ensures ∙ within-kept (pos 0) (pos 0xFFFF) _ (charge-fits s) in
     rw (voltage, current, fine, consumed, charge)
 
 pub fit-spec : {M : Type 1} → statement M
 fit-spec =
     tie.close
     (tie.spec
-    is-between-requires is-between-requires-2 is-between-requires-3 is-between-requires-4 is-between-requires-5 returns)
+    is-within-requires is-within-requires-2 is-within-requires-3 is-within-requires-4 is-within-requires-5 returns)

@@ -5,7 +5,7 @@ use borrow.Author.Needs.{needs}
 use borrow.Author.Tests.{lt-leb, le-leb}
 use lib.ListN.{length, length-take}
 use Rattle.laws.proofs.Lists.{part-to-end}
-use Rattle.board.specs.Parts.{identityAllowed}
+use Rattle.board.specs.Parts.{identityAllowed, serialOf}
 use Rattle.board.proofs.who.is_identity.Statement.{statement}
 use Rattle.board.proofs.who.is_identity.Tie as tie
 
@@ -13,7 +13,7 @@ serial-long : (c : tie.Start) → length (c .args .identity .serial) ≡ 32
 serial-long c = search needs
 
 returns : tie.Need-returns
-unfolding identityAllowed
+unfolding identityAllowed serialOf
 returns c = simp (lt-leb _ 32 (c .if1 .taken))
 
 array-share-prefix-serial : tie.Need-array-share-prefix-serial
@@ -37,7 +37,7 @@ all-zero-requires : tie.Need-all-zero-requires
 all-zero-requires c κs = tt
 
 returns-2 : tie.Need-returns-2
-unfolding identityAllowed
+unfolding identityAllowed serialOf
 returns-2 c =
     let c5 = c .before .before .before .before .before in
     let c7 = c5 .before .before in

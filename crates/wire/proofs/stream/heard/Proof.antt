@@ -8,7 +8,7 @@ use lib.ListN.{length, drop, length-drop}
 use Rattle.laws.proofs.Lists.{part-to-end, before-first}
 use Rattle.laws.specs.Promise.{Gives}
 use Rattle.laws.proofs.Promise.{gives-none}
-use Rattle.wire.specs.Stream.{inside, taken}
+use Rattle.wire.specs.Stream.{inside}
 use Rattle.wire.specs.Calls.{heldOf, heardOf}
 use Rattle.wire.specs.declared.Heard.{Heard}
 use Rattle.wire.proofs.Streams.{taken-within}
