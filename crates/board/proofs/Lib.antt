@@ -2,6 +2,7 @@
 pub mod Signs
 pub mod Complements
 pub mod Serials
+pub mod Fronts
 pub mod Unfinished
 pub mod Starts
 pub mod Theorems

@@ -11,6 +11,7 @@ use wire::Held;
 
 mod measured;
 mod numbers;
+mod replies;
 mod values;
 mod who;
 
