@@ -2,16 +2,18 @@
 use mathlib.Core.Path.{_≡_}
 use mathlib.Core.List.{List}
 use Prim.Native.Nat.{ℕ}
-use denote.Ref.{RefT}
+use denote.Ref.{RefT, now}
 use contract.Lifetimes.{Lfts}
-use Rattle.laws.proofs.Promise.{equal-same}
+use Rattle.laws.proofs.Promise.{equal-same, gives-same}
 use Rattle.settings.specs.declared.Table.{Table}
 use Rattle.board.specs.declared.Board.{Board}
 use Rattle.board.specs.declared.Sample.{Sample}
 use Rattle.board.specs.declared.Judged.{Judged}
+use Rattle.board.specs.declared.Answered.{Answered}
 use Rattle.board.proofs.Board.start.Reads as start
 use Rattle.board.proofs.Board.start_factory.Reads as start-factory
 use Rattle.board.proofs.Board.store.Reads as store
+use Rattle.board.proofs.Board.answer.Reads as answer
 
 module _ (κs : Lfts 1) (product version : ℕ) (serial : RefT (List ℕ)) (r r′ : Judged) where
   pub start-same : (table : Table) → start.Post κs (product, (version, (serial, (table, tt)))) r (product, (version, (serial, (table, tt))))
@@ -25,3 +27,8 @@ module _ (κs : Lfts 1) (product version : ℕ) (serial : RefT (List ℕ)) (r r�
 pub store-same : (board : Board) (given : Sample) (r r′ : Judged) → store.Post tt (board, (given, tt)) r (board, (given, tt))
     → store.Post tt (board, (given, tt)) r′ (board, (given, tt)) → r ≡ r′
 store-same board given r r′ met met′ = equal-same met met′
+
+module _ (κs : Lfts 2) (board : Board) (piece reply reply₁ reply₂ : RefT (List ℕ)) (r r′ : Answered) where
+  pub answer-same : answer.Post κs (board, (piece, (reply, tt))) r (board, (piece, (reply₁, tt)))
+      → answer.Post κs (board, (piece, (reply, tt))) r′ (board, (piece, (reply₂, tt))) → (r ≡ r′) × (now reply₁ ≡ now reply₂)
+  answer-same met met′ = gives-same met met′

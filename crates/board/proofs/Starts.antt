@@ -1,36 +1,29 @@
 -- What a start and a store give, case by case. Assumes nothing.
-use mathlib.Core.Path.{_≡_, refl, _∙_}
+use mathlib.Core.Path.{_≡_, refl, sym, ap, _∙_}
 use mathlib.Core.Bool.{Bool, true, false, _&&_}
 use mathlib.Core.List.{List, []}
-use Prim.Native.Nat.{ℕ, zero, suc, _≤_}
-use borrow.Author.Tests.{leb-true}
-use lib.ListN.{length, drop, replicate}
-use lib.Seq.{take-append-seam, drop-append-seam}
-use lib.Dec.{leb, eqb}
-use Rattle.laws.specs.Lists.{every}
+use Prim.Native.Nat.{ℕ}
 use Rattle.laws.proofs.Bools.{and-left, and-right, both}
-use Rattle.laws.proofs.Lists.{every-replicate}
-use Rattle.laws.specs.Promise.{overlaid}
 use Rattle.wire.proofs.Reached.{left-allowed}
 use Rattle.settings.proofs.Theorems.{factory-is-allowed}
 use Rattle.settings.specs.Columns.{factory}
 use Rattle.settings.specs.Rules.{allowed}
 use Rattle.settings.specs.declared.Table.{Table}
-use Rattle.board.specs.Parts.{printed, serialFits, noSerial, identityOf, serialOf, noIdentity, identityAllowed, freshBoard, sampleFits, boardAllowed}
-use Rattle.board.specs.Calls.{starting, storing, withReadings, notAllowed}
-use Rattle.board.specs.Laws.{StartIsAllowed, SerialIsKept, StoreStores, StoreKeepsAllowed}
-use Rattle.board.specs.declared.Identity.{Identity}
+use Rattle.answers.specs.Parts.{serialFits, identityOf, noIdentity, identityAllowed}
+use Rattle.answers.specs.Calls.{notAllowed, naming}
+use Rattle.answers.specs.declared.Identity.{Identity}
+use Rattle.answers.specs.declared.Verdict.{Verdict}
+use Rattle.answers.specs.declared.Named.{Named}
+use Rattle.answers.proofs.Identities.{serial-back, identity-fits, nobody-allowed, named-accepted, named-refused}
+use Rattle.board.specs.Parts.{freshBoard, sampleFits, boardAllowed}
+use Rattle.board.specs.Calls.{refusedStart, starting, storing, withReadings}
+use Rattle.board.specs.Laws.{StartIsAllowed, StartHoldsIt, StoreStores, StoreKeepsAllowed}
 use Rattle.board.specs.declared.Board.{Board}
 use Rattle.board.specs.declared.Sample.{Sample}
-use Rattle.board.specs.declared.Verdict.{Verdict}
-
-pub serial-short : (serial : List ℕ) → serialFits serial ≡ true → length serial ≤ 32
-unfolding serialFits
-serial-short serial e = leb-true (length serial) 32 (and-left _ (every printed serial) e)
 
 module _ (product version : ℕ) (serial : List ℕ) (table : Table) where
   pub start-refused : (serialFits serial && allowed table) ≡ false
-      → starting product version serial table ≡ record { board = freshBoard noIdentity factory; verdict = Verdict.Refused notAllowed }
+      → starting product version serial table ≡ refusedStart
   unfolding starting
   start-refused e = rw e
 
@@ -49,35 +42,27 @@ module _ (board : Board) (given : Sample) where
   unfolding storing
   store-accepted e = rw e
 
--- an identity of a serial that fits is allowed, and has that serial
-zeros-end : (n m : ℕ) → every (eqb 0) (drop n (replicate m 0)) ≡ true
-zeros-end zero m = every-replicate m
-zeros-end (suc n) zero = refl
-zeros-end (suc n) (suc m) = zeros-end n m
-
-serial-back : (product version : ℕ) (serial : List ℕ) → serialOf (identityOf product version serial) ≡ serial
-unfolding serialOf identityOf overlaid
-serial-back product version serial = take-append-seam serial _
-
-pub serial-kept : SerialIsKept
-unfolding freshBoard
-serial-kept product version serial table fits ok =
-    rw (start-accepted product version serial table (both _ _ fits ok)) (serial-back product version serial)
-
-identity-fits : (product version : ℕ) (serial : List ℕ) → serialFits serial ≡ true → identityAllowed (identityOf product version serial) ≡ true
-unfolding identityAllowed serialOf identityOf overlaid noSerial serialFits
-identity-fits product version serial e =
-    rw (take-append-seam, drop-append-seam)
-    (both _ _ (and-left (leb (length serial) 32) (every printed serial) e)
-    (both _ _ (and-right (leb (length serial) 32) (every printed serial) e) (zeros-end (length serial) 32)))
-
-nobody-allowed : identityAllowed noIdentity ≡ true
-unfolding noIdentity serialFits
-nobody-allowed = identity-fits 0 0 [] refl
+pub start-holds : StartHoldsIt
+unfolding freshBoard identityOf
+start-holds product version serial table fits ok =
+    let is = start-accepted product version serial table (both _ _ fits ok) in
+    record {
+      accepted = rw is;
+      product-is = rw is;
+      version-is = rw is;
+      serial-is = rw is (serial-back product version serial);
+      table-is = rw is;
+      readings-are = rw is;
+      held-is = rw is;
+    }
 
 fresh-allowed : (identity : Identity) (table : Table) → identityAllowed identity ≡ true → allowed table ≡ true → boardAllowed (freshBoard identity table) ≡ true
 unfolding boardAllowed freshBoard
 fresh-allowed identity table i t = both _ _ (both _ _ i t) (left-allowed [])
+
+refused-allowed : boardAllowed (refusedStart .board) ≡ true
+unfolding refusedStart
+refused-allowed = fresh-allowed noIdentity factory nobody-allowed factory-is-allowed
 
 pub start-allowed : StartIsAllowed
 start-allowed product version serial table = by (serialFits serial && allowed table) refl
@@ -86,7 +71,7 @@ start-allowed product version serial table = by (serialFits serial && allowed ta
     by true e =
         rw (start-accepted product version serial table e)
         (fresh-allowed _ table (identity-fits product version serial (and-left _ (allowed table) e)) (and-right (serialFits serial) _ e))
-    by false e = rw (start-refused product version serial table e) (fresh-allowed noIdentity factory nobody-allowed factory-is-allowed)
+    by false e = rw (start-refused product version serial table e) refused-allowed
 
 pub store-stores : StoreStores
 store-stores board given ok fits =
@@ -109,3 +94,32 @@ store-allowed board given ok = by (boardAllowed board && sampleFits given) refl
     by : (b : Bool) → (boardAllowed board && sampleFits given) ≡ b → boardAllowed (storing board given .board) ≡ true
     by true e = rw (store-accepted board given e) (readings-aside board given ∙ ok)
     by false e = rw (store-refused board given e) ok
+
+-- a start by what became of its identity
+abbrev accepts : Verdict → Bool
+accepts Verdict.Accepted = true
+accepts (Verdict.Refused number) = false
+
+module _ (product version : ℕ) (serial : List ℕ) (table : Table) where
+  pub start-stray : allowed table ≡ false → starting product version serial table ≡ refusedStart
+  start-stray e = start-refused product version serial table (rw e (by (serialFits serial)))
+    where
+      by : (b : Bool) → (b && false) ≡ false
+      by true = refl
+      by false = refl
+
+  module _ {named : Named} (is : named ≡ naming product version serial) where
+    fits-told : (b : Bool) → serialFits serial ≡ b → accepts (named .verdict) ≡ b
+    fits-told true e = rw (is, named-accepted product version serial e)
+    fits-told false e = rw (is, named-refused product version serial e)
+
+    pub start-named : allowed table ≡ true → named .verdict ≡ Verdict.Accepted
+        → record { board = freshBoard (named .identity) table; verdict = Verdict.Accepted } ≡ starting product version serial table
+    start-named ok e =
+        let fits : serialFits serial ≡ true = sym (fits-told (serialFits serial) refl) ∙ ap accepts e in
+        rw (is, named-accepted product version serial fits) (sym (start-accepted product version serial table (both _ _ fits ok)))
+
+    pub start-unnamed : (number : ℕ) → named .verdict ≡ Verdict.Refused number → starting product version serial table ≡ refusedStart
+    start-unnamed number e =
+        let fits : serialFits serial ≡ false = sym (fits-told (serialFits serial) refl) ∙ ap accepts e in
+        start-refused product version serial table (rw fits)

@@ -1,25 +1,51 @@
 -- What is proved of the definitions, as statements to hold against the paper. Each is proved under its name in proofs/Theorems.antt.
 -- Assumes nothing.
-use Prim.Native.Nat.{ℕ}
+use Prim.Native.Nat.{ℕ, _^_, _≤_, _<_}
 use mathlib.Core.Path.{_≡_}
-use mathlib.Core.Bool.{true}
-use mathlib.Core.List.{List}
-use Rattle.settings.specs.Rules.{allowed}
+use mathlib.Core.Logic.{_↔_}
+use mathlib.Core.Bool.{true, false}
+use mathlib.Core.List.{List, [], _∷_}
+use lib.ListN.{length}
+use lib.IntN.{pos, negsuc}
+use Rattle.laws.specs.Promise.{Given}
+use Rattle.wire.specs.Frame.{frame, frameRoom}
+use Rattle.wire.specs.Reading.{Ended, good}
+use Rattle.wire.specs.Stream.{outside, framesOf, leftBy}
+use Rattle.wire.specs.Calls.{mostHeld, heldOf}
+use Rattle.wire.specs.Laws.{Writable}
+use Rattle.settings.specs.Columns.{count, idAt, widthAt}
+use Rattle.settings.specs.Rules.{allowed, allowedFor, numberAt, partnerNumber, changed, Nearest}
 use Rattle.settings.specs.declared.Table.{Table}
-use Rattle.board.specs.Parts.{serialFits, serialOf, sampleFits, readingsOf, boardAllowed}
-use Rattle.board.specs.Calls.{starting, storing}
+use Rattle.answers.specs.Parts.{mostSerial, serialFits, serialOf, noReadings}
+use Rattle.wire.specs.Numbers.{little}
+use Rattle.answers.specs.Answers.{Sent, silent, sent, error, said, get, set, frameAnswer}
+use Rattle.answers.specs.declared.Readings.{Readings}
+use Rattle.answers.specs.declared.Verdict.{Verdict}
+use Rattle.answers.specs.declared.Outcome.{Outcome}
+use Rattle.board.specs.Parts.{within, sampleFits, readingsOf, boardAllowed}
+use Rattle.board.specs.Calls.{starting, storing, endedIn, deciding, decidedBy, answering}
 use Rattle.board.specs.declared.Board.{Board}
 use Rattle.board.specs.declared.Sample.{Sample}
-use Rattle.board.specs.declared.Verdict.{Verdict}
+use Rattle.board.specs.declared.Judged.{Judged}
+use Rattle.board.specs.declared.Answered.{Answered}
 
--- 1. Every start gives an allowed board, an accepted and a refused one; the serial of an accepted start is the one that the board has.
+-- 1. Every start gives an allowed board, an accepted and a refused one; an accepted one holds what was asked for.
 abbrev pub StartIsAllowed : Type 0
 StartIsAllowed = (product version : ℕ) (serial : List ℕ) (table : Table) → boardAllowed (starting product version serial table .board) ≡ true
 
-abbrev pub SerialIsKept : Type 0
-SerialIsKept =
+pub record Started (product version : ℕ) (serial : List ℕ) (table : Table) (j : Judged) : Type 0 where
+  pub accepted : j .verdict ≡ Verdict.Accepted
+  pub product-is : j .board .identity .product ≡ product
+  pub version-is : j .board .identity .version ≡ version
+  pub serial-is : serialOf (j .board .identity) ≡ serial
+  pub table-is : j .board .table ≡ table
+  pub readings-are : j .board .readings ≡ noReadings
+  pub held-is : j .board .held ≡ heldOf outside
+
+abbrev pub StartHoldsIt : Type 0
+StartHoldsIt =
     (product version : ℕ) (serial : List ℕ) (table : Table) → serialFits serial ≡ true → allowed table ≡ true
-    → serialOf (starting product version serial table .board .identity) ≡ serial
+    → Started product version serial table (starting product version serial table)
 
 -- 2. Readings that fit are stored, and a board stays what it was in all else: allowed if it was.
 pub record Stored (board : Board) (given : Sample) : Type 0 where
@@ -34,3 +60,110 @@ StoreStores = (board : Board) (given : Sample) → boardAllowed board ≡ true �
 
 abbrev pub StoreKeepsAllowed : Type 0
 StoreKeepsAllowed = (board : Board) (given : Sample) → boardAllowed board ≡ true → boardAllowed (storing board given .board) ≡ true
+
+-- 3. A call keeps an allowed board allowed. (A table has its numbers in every value of the type, which `length` says.)
+abbrev pub AnswerKeepsAllowed : Type 0
+AnswerKeepsAllowed =
+    (board : Board) (piece : List ℕ) (room : ℕ) → length (board .table .numbers) ≡ count → boardAllowed board ≡ true
+    → boardAllowed (answering board piece room .answer .board) ≡ true
+
+-- 4. "On 1 to 10 the settings and readings stay", and under 11 and 12 too.
+pub record Kept (board after : Board) : Type 0 where
+  pub identity-same : after .identity ≡ board .identity
+  pub table-same : after .table ≡ board .table
+  pub readings-same : after .readings ≡ board .readings
+
+abbrev pub RefusalKeeps : Type 0
+RefusalKeeps =
+    (board : Board) (piece : List ℕ) (room number : ℕ) → answering board piece room .answer .outcome ≡ Outcome.Refused number
+    → Kept board (answering board piece room .answer .board)
+
+-- 5. Every reply is at most 75 bytes, and the other end reads in it the frame that was meant and no other; none where nothing is sent.
+abbrev pub meant : Sent → List Ended
+meant silent = []
+meant (sent command bytes) = good command bytes ∷ []
+meant error = good 4 (0xAA ∷ 0xAA ∷ []) ∷ []
+
+pub record Readable (reply : Sent) (bytes : List ℕ) : Type 0 where
+  pub short : length bytes ≤ frameRoom
+  pub frames-are : framesOf bytes ≡ meant reply
+  pub none-left : leftBy bytes ≡ outside
+
+abbrev pub ReplyIsRead : Type 0
+ReplyIsRead =
+    (board : Board) (piece : List ℕ) (room : ℕ) → boardAllowed board ≡ true → frameRoom ≤ room
+    → Readable (deciding board (endedIn board piece) .reply) (answering board piece room .written)
+
+-- 6. A whole frame, handed to an allowed board that is not inside one, is answered as such: all of it is taken and no frame is begun.
+abbrev pub atRest : Board → Type 0
+atRest board = board .held ≡ heldOf outside
+
+abbrev pub WholeIsAnswered : Type 0
+WholeIsAnswered =
+    (board : Board) (command : ℕ) (bytes : List ℕ) (room : ℕ) → boardAllowed board ≡ true → atRest board → Writable command bytes → frameRoom ≤ room
+    → answering board (frame command bytes) room
+    ≡ decidedBy board (board .held) (frameAnswer (board .readings) (board .table) (board .identity) command bytes) (length (frame command bytes))
+
+-- what such a call comes to: the board with this table, this outcome, this reply, and the whole request taken
+abbrev pub comesTo : Board → Table → Outcome → List ℕ → List ℕ → Given Answered
+comesTo board table outcome reply request =
+    record {
+      answer =
+          record {
+            board = record { identity = board .identity; table = table; readings = board .readings; held = board .held };
+            outcome = outcome;
+            len = length reply;
+            taken = length request;
+          };
+      written = reply;
+    }
+
+abbrev pub asks : ℕ → List ℕ
+asks k = frame get (said (idAt k) 0 [])
+
+abbrev pub sets : ℕ → ℕ → List ℕ
+sets k n = frame set (said (idAt k) 0 (little (widthAt k) n))
+
+-- 7. A good Get answers the number now held, and changes nothing.
+abbrev pub GetAnswersHeld : Type 0
+GetAnswersHeld =
+    (board : Board) (k room : ℕ) → boardAllowed board ≡ true → atRest board → k < count → frameRoom ≤ room
+    → answering board (asks k) room
+    ≡ comesTo board (board .table) Outcome.Answered (frame get (said (idAt k) 0 (little (widthAt k) (numberAt (board .table) k)))) (asks k)
+
+-- 8. A good Set answers what it stored and stores what it answered, that number alone: its reply is the request itself.
+abbrev pub SetStoresIt : Type 0
+SetStoresIt =
+    (board : Board) (k n room : ℕ) → boardAllowed board ≡ true → atRest board → k < count → frameRoom ≤ room
+    → allowedFor k n (partnerNumber (board .table) k) ≡ true
+    → answering board (sets k n) room ≡ comesTo board (changed (board .table) k n) Outcome.Answered (sets k n) (sets k n)
+
+-- 9. A Set of a number that is not allowed stores nothing, and answers flag 04 and the nearest allowed number.
+abbrev pub SetRefusedNamesNearest : Type 0
+SetRefusedNamesNearest =
+    (board : Board) (k n room : ℕ) → boardAllowed board ≡ true → atRest board → k < count → frameRoom ≤ room → n < 256 ^ widthAt k
+    → allowedFor k n (partnerNumber (board .table) k) ≡ false
+    → (m : ℕ) × Nearest k n (partnerNumber (board .table) k) m
+    × (answering board (sets k n) room
+    ≡ comesTo board (board .table) (Outcome.Refused 10) (frame set (said (idAt k) 4 (little (widthAt k) m))) (sets k n))
+
+-- 10. "A state handed in is allowed when its settings, identity and readings are and its held frame is one that bytes could have left": a
+-- board is allowed exactly when starts, readings and bytes give it. (Arrays have their lengths and numbers their widths in every value of
+-- the type.)
+pub data Given-by : Board → Type 0 where
+  a-start : (product version : ℕ) (serial : List ℕ) (table : Table) → length (table .numbers) ≡ count → Given-by (starting product version serial table .board)
+  a-store : {board : Board} (given : Sample) → Given-by board → Given-by (storing board given .board)
+  a-call : {board : Board} (piece : List ℕ) (room : ℕ) → Given-by board → Given-by (answering board piece room .answer .board)
+
+pub record Typed (board : Board) : Type 0 where
+  pub serial-long : length (board .identity .serial) ≡ mostSerial
+  pub numbers-long : length (board .table .numbers) ≡ count
+  pub chars-long : length (board .held .chars) ≡ mostHeld
+  pub voltage-fits : within (negsuc 0x7FFF) (pos 0x7FFF) (board .readings .voltage) ≡ true
+  pub current-fits : within (negsuc 0x7FFF) (pos 0x7FFF) (board .readings .current) ≡ true
+  pub fine-fits : within (negsuc 0x7FFFFFFF) (pos 0x7FFFFFFF) (board .readings .fine) ≡ true
+  pub consumed-fits : within (negsuc 0x7FFFFFFF) (pos 0x7FFFFFFF) (board .readings .consumed) ≡ true
+  pub charge-fits : within (pos 0) (pos 0xFFFF) (pos (board .readings .charge)) ≡ true
+
+abbrev pub AllowedIsGiven : Type 0
+AllowedIsGiven = (board : Board) → Typed board → (boardAllowed board ≡ true) ↔ Given-by board

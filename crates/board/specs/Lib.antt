@@ -1,6 +1,5 @@
--- Document 01: what a board holds, and what its calls answer. Read them in this order.
+-- Document 01: what a board holds, and what its calls answer. Read them in this order, after those of `answers`.
 pub mod Parts
-pub mod Values
-pub mod Replies
 pub mod Calls
+pub mod AsHeld
 pub mod Laws

@@ -1,36 +1,24 @@
-// A board: who it is, its settings, its readings and the unfinished frame of its line. Every call takes anything, and its promise fixes its
-// answer (specs/Calls.antt).
+// A board: who it is, its settings, its readings and the unfinished frame of its line. It decides, every setting, every time. Every call
+// takes anything, and its promise fixes its answer and every lent byte (specs/Calls.antt).
 ghost use mathlib.Core.Path.{_≡_};
-ghost use Rattle.board.specs.Calls.{starting, storing};
-ghost use Rattle.board.specs.Parts.{freshBoard, boardAllowed};
+ghost use lib.ListN.{length};
+ghost use Rattle.laws.specs.Promise.{Gives};
 ghost use Rattle.wire.specs.Calls as wire;
 ghost use Rattle.settings.specs.Columns.{factory};
+ghost use Rattle.board.specs.Parts.{freshBoard, boardAllowed};
+ghost use Rattle.board.specs.Calls.{starting, refusedStart, storing, answering, unanswered};
+ghost use Rattle.board.specs.declared.Answered.{Answered};
+use answers::Identity;
+use answers::Outcome;
+use answers::Readings;
+use answers::Verdict;
 use settings::Table;
 use wire::Event;
 use wire::Held;
 
+mod line;
 mod measured;
 mod numbers;
-mod replies;
-mod values;
-mod who;
-
-// Who a board is: product and version of two bytes, and a serial of 0 to 32 bytes; past its length the array is 0.
-pub struct Identity {
-    pub product: u16,
-    pub version: u16,
-    pub len: usize,
-    pub serial: [u8; 32],
-}
-
-// What a board measures, at the published widths: 0.01 V, 0.1 A, 0.001 A, 0.1 Ah, 0.01 %.
-pub struct Readings {
-    pub voltage: i16,
-    pub current: i16,
-    pub fine: i32,
-    pub consumed: i32,
-    pub charge: u16,
-}
 
 // Five readings as they are handed in, wider than their widths: the board stores them all or none.
 pub struct Sample {
@@ -49,16 +37,18 @@ pub struct Board {
     pub held: Held,
 }
 
-// Whether something was accepted, or document 01's number of the refusal.
-pub enum Verdict {
-    Accepted,
-    Refused(u8),
-}
-
 // A board, and what became of the request that gave it.
 pub struct Judged {
     pub board: Board,
     pub verdict: Verdict,
+}
+
+// What a call on a piece of input answers: the advanced board, the outcome, the reply's length, and how many bytes it took.
+pub struct Answered {
+    pub board: Board,
+    pub outcome: Outcome,
+    pub len: usize,
+    pub taken: usize,
 }
 
 impl Board {
@@ -67,15 +57,18 @@ impl Board {
     pub fn start(product: u16, version: u16, serial: &[u8], table: Table) -> Judged
         ensures { λ r. ⌜ r ≡ starting product version (now (serial .entry)) table ⌝ }
     {
-        if !(who::serial_fits(serial) & table.is_allowed()) {
-            return Judged {
-                board: fresh(who::nobody(), Table::factory()),
-                verdict: Verdict::Refused(numbers::NOT_ALLOWED),
-            };
+        if !table.is_allowed() {
+            return refused_start();
         }
-        Judged {
-            board: fresh(who::identity_of(product, version, serial), table),
-            verdict: Verdict::Accepted,
+        let named = Identity::named(product, version, serial);
+        let identity = named.identity;
+        let verdict = named.verdict;
+        match verdict {
+            Verdict::Accepted => Judged {
+                board: fresh(identity, table),
+                verdict: Verdict::Accepted,
+            },
+            Verdict::Refused(_) => refused_start(),
         }
     }
 
@@ -109,6 +102,20 @@ impl Board {
             verdict: Verdict::Accepted,
         }
     }
+
+    // Takes a piece of input up to the first byte that ends a frame, and answers that frame at the front of `reply`. 11 under 75 bytes of
+    // room, then 12 for a board that is not allowed; then nothing is taken or written.
+    pub fn answer(self, piece: &[u8], reply: &mut [u8]) -> Answered
+        ensures { λ r. ⌜ Gives Answered (answering self (now (piece .entry)) (length (now (reply .entry)))) (now (reply .entry)) r (now (reply .exit)) ⌝ }
+    {
+        if reply.len() < numbers::REPLY_ROOM {
+            return unanswered(self, numbers::SHORT_BUFFER);
+        }
+        if !is_allowed(self) {
+            return unanswered(self, numbers::NOT_ALLOWED);
+        }
+        line::heard(self, piece, reply)
+    }
 }
 
 // A board that has just been started: readings 0 and no frame.
@@ -118,8 +125,32 @@ fn fresh(identity: Identity, table: Table) -> Board
     Board {
         identity,
         table,
-        readings: measured::nothing(),
+        readings: Readings::nothing(),
         held: Held::outside(),
+    }
+}
+
+// A refused start: product and version 0, an empty serial and the factory table.
+fn refused_start() -> Judged
+    ensures { λ r. ⌜ r ≡ refusedStart ⌝ }
+{
+    let named = Identity::named(0, 0, &[]);
+    let identity = named.identity;
+    Judged {
+        board: fresh(identity, Table::factory()),
+        verdict: Verdict::Refused(numbers::NOT_ALLOWED),
+    }
+}
+
+// A refused call: the board as it was, counts and lengths 0.
+fn unanswered(board: Board, number: u8) -> Answered
+    ensures { λ r. ⌜ r ≡ unanswered board number .answer ⌝ }
+{
+    Answered {
+        board,
+        outcome: Outcome::Refused(number),
+        len: 0,
+        taken: 0,
     }
 }
 
@@ -130,7 +161,7 @@ fn is_allowed(board: Board) -> bool
     let identity = board.identity;
     let table = board.table;
     let held = board.held;
-    who::is_identity(identity) & table.is_allowed() & is_held(held)
+    identity.is_allowed() & table.is_allowed() & is_held(held)
 }
 
 // An unfinished frame that bytes can leave: the stream refuses every other.

@@ -2,23 +2,10 @@
 ghost use mathlib.Core.Path.{_≡_};
 ghost use mathlib.Core.Bool.{true};
 ghost use lib.IntN.{pos, negsuc, natAbs};
-ghost use Rattle.board.specs.Parts.{within, noReadings, sampleFits, readingsOf};
-use crate::Readings;
+ghost use Rattle.board.specs.Parts.{within, sampleFits, readingsOf};
 use crate::Sample;
 use crate::numbers;
-
-// No readings: all 0.
-pub(crate) fn nothing() -> Readings
-    ensures { λ r. ⌜ r ≡ noReadings ⌝ }
-{
-    Readings {
-        voltage: 0,
-        current: 0,
-        fine: 0,
-        consumed: 0,
-        charge: 0,
-    }
-}
+use answers::Readings;
 
 // A number within two ends.
 fn is_within(low: i64, x: i64, high: i64) -> bool

@@ -5,7 +5,7 @@ use mathlib.Core.Bool.{Bool, true, false}
 use Prim.Native.Nat.{ℕ, _≤_, _<_}
 use native.Mathlib.Omega.{arith}
 use borrow.Author.Tests.{lt-ltb, le-ltb, ltb-true, ltb-false, eqb-true, eqb-false}
-use lib.ListN.{length}
+use lib.ListN.{length, length-set}
 use lib.Seq.{getD-set-same, getD-set-other}
 use lib.Dec.{ltb, eqb}
 use Rattle.laws.proofs.Bools.{and-left, and-right, both, or-second}
@@ -13,7 +13,7 @@ use Rattle.laws.proofs.Lists.{upTo-at, upTo-all}
 use Rattle.settings.specs.Columns.{count, partnerAt, roleAt}
 use Rattle.settings.specs.Rules.{inRange, agrees, allowedFor, allowed, numberAt, partnerNumber, changed, nearestOf}
 use Rattle.settings.specs.Calls.{partnerFits, setTo, numberNotAllowed, notAllowed}
-use Rattle.settings.specs.Laws.{SetKeepsAllowed, SetChangesOne, SetStores, RefusedNamesNearest, PairsHaveAnOrder}
+use Rattle.settings.specs.Laws.{SetKeepsAllowed, RefusedKeeps, SetKeepsCount, SetChangesOne, SetStores, RefusedNamesNearest, PairsHaveAnOrder}
 use Rattle.settings.specs.declared.columns.Role.{Role}
 use Rattle.settings.specs.declared.Table.{Table}
 use Rattle.settings.specs.declared.Answer.{Answer}
@@ -122,6 +122,27 @@ set-allowed t k n long ok = by (ltb k count) (allowedFor k n (partnerNumber t k)
     by true true p q = rw (set-accepted t k n ok (ltb-true k count p) q) (changed-allowed t k n ok (ltb-true k count p) long q)
     by true false p q = rw (set-refused t k n ok (ltb-true k count p) q) ok
     by false r p q = rw (set-past t k n ok (ltb-false k count p)) ok
+
+pub refused-keeps : RefusedKeeps
+refused-keeps t k n number nearest = by (allowed t) (ltb k count) (allowedFor k n (partnerNumber t k)) refl refl refl
+  where
+    by : (o s r : Bool) → allowed t ≡ o → ltb k count ≡ s → allowedFor k n (partnerNumber t k) ≡ r
+        → setTo t k n .answer ≡ Answer.Refused number nearest → setTo t k n .table ≡ t
+    by false s r o p q e = rw (set-stray t k n o)
+    by true true true o p q e =
+        let is : Answer.Accepted ≡ Answer.Refused number nearest = rw (set-accepted t k n o (ltb-true k count p) q) at e in
+        let z : _≡_ {A = ℕ} 0 1 = cc in absurd (omega arith)
+    by true true false o p q e = rw (set-refused t k n o (ltb-true k count p) q)
+    by true false r o p q e = rw (set-past t k n o (ltb-false k count p))
+
+pub set-count : SetKeepsCount
+set-count t k n = by (allowed t) (ltb k count) (allowedFor k n (partnerNumber t k)) refl refl refl
+  where
+    by : (o s r : Bool) → allowed t ≡ o → ltb k count ≡ s → allowedFor k n (partnerNumber t k) ≡ r → length (setTo t k n .table .numbers) ≡ length (t .numbers)
+    by false s r o p q = rw (set-stray t k n o)
+    by true true true o p q = rw (set-accepted t k n o (ltb-true k count p) q) (length-set (t .numbers) k n)
+    by true true false o p q = rw (set-refused t k n o (ltb-true k count p) q)
+    by true false r o p q = rw (set-past t k n o (ltb-false k count p))
 
 pub set-one : SetChangesOne
 set-one t k n j apart = by (allowed t) (ltb k count) (allowedFor k n (partnerNumber t k)) refl refl refl

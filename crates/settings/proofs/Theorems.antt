@@ -1,11 +1,11 @@
 -- The statements of specs/Laws.antt, proved. Assumes nothing.
 use mathlib.Core.Path.{refl}
 use Rattle.settings.specs.Rules.{inRange, lowAgrees, highAgrees, agrees, allowedFor, allowed}
-use Rattle.settings.specs.Laws.{NearestIsFound, NearestIsOne, SetStores, RefusedNamesNearest, SetKeepsAllowed, SetChangesOne, RowsHold, IdsAreCount, FactoryIsAllowed, FindIsFound, FoundHasId, PairsHaveAnOrder}
+use Rattle.settings.specs.Laws.{NearestIsFound, NearestIsOne, SetStores, RefusedNamesNearest, SetKeepsAllowed, RefusedKeeps, SetKeepsCount, SetChangesOne, AllowedHasRoom, RowsHold, IdsAreCount, FactoryIsAllowed, FindIsFound, FoundHasId, PairsHaveAnOrder}
 use Rattle.settings.proofs.Nearness.{nearest-one}
-use Rattle.settings.proofs.Windows.{nearest-found}
+use Rattle.settings.proofs.Windows.{nearest-found, allowed-room}
 use Rattle.settings.proofs.Rows.{row-holds, find-found, found-id}
-use Rattle.settings.proofs.Tables.{set-stores, refused-names, set-allowed, set-one, pairs-order}
+use Rattle.settings.proofs.Tables.{set-stores, refused-names, set-allowed, refused-keeps, set-count, set-one, pairs-order}
 
 pub nearest-is-found : NearestIsFound
 nearest-is-found = nearest-found
@@ -22,8 +22,17 @@ refused-names-nearest = refused-names
 pub set-keeps-allowed : SetKeepsAllowed
 set-keeps-allowed = set-allowed
 
+pub refused-keeps-it : RefusedKeeps
+refused-keeps-it = refused-keeps
+
+pub set-keeps-count : SetKeepsCount
+set-keeps-count = set-count
+
 pub set-changes-one : SetChangesOne
 set-changes-one = set-one
+
+pub allowed-has-room : AllowedHasRoom
+allowed-has-room = allowed-room
 
 pub rows-hold : RowsHold
 rows-hold = row-holds

@@ -2,17 +2,18 @@
 use mathlib.Core.Path.{_≡_, refl, sym, ap, _∙_}
 use mathlib.Core.Logic.{⊎-elim}
 use mathlib.Core.Bool.{Bool, true, _&&_, and-true}
-use Prim.Native.Nat.{ℕ, _≤_, _<_, min, max, zero-le}
+use Prim.Native.Nat.{ℕ, _^_, _≤_, _<_, min, max, zero-le}
 use native.Mathlib.Omega.{arith}
 use borrow.Author.Tests.{le-leb, leb-true, eq-eqb, eqb-true}
 use lib.Dec.{leb, eqb}
 use Rattle.laws.proofs.Bools.{and-left, and-right, both, same-test, or-cases}
-use Rattle.settings.specs.Columns.{count, lowAt, highAt, zeroAt, partnerAt, roleAt}
+use Rattle.settings.specs.Columns.{count, widthAt, lowAt, highAt, zeroAt, partnerAt, roleAt}
 use Rattle.settings.specs.Rules.{inWindow, inRange, agrees, allowedFor, Nearest, nearestOf}
 use Rattle.settings.specs.Calls.{partnerFits}
+use Rattle.settings.specs.Laws.{AllowedHasRoom}
 use Rattle.settings.specs.declared.columns.Role.{Role}
 use Rattle.settings.proofs.Nearness.{window-zero, window-row, window-cases, seek-nearest}
-use Rattle.settings.proofs.Rows.{low-high, high-small}
+use Rattle.settings.proofs.Rows.{low-high, high-small, row-holds}
 use Rattle.settings.proofs.Pairs.{agrees-alone, agrees-self, alone-none, same-range}
 
 module _ (z : Bool) (low high p n : ℕ) where
@@ -74,12 +75,18 @@ module _ (k partner : ℕ) (h : k < count) (fit : partnerFits k partner ≡ true
   allowed-some =
       ⊎-elim (λ a. (lowAt k, lower-end (eqb-true _ _ a))) (λ b. (partner, as-partner b)) (or-cases (eqb (partnerAt k) k) _ fit)
 
--- what is allowed is a 16-bit number
-pub allowed-small : (k m partner : ℕ) → k < count → allowedFor k m partner ≡ true → m < 65536
+-- what is allowed is at most the upper end, so it has room in its width
+allowed-most : (k m partner : ℕ) → allowedFor k m partner ≡ true → m ≤ highAt k
 unfolding allowedFor inRange
-allowed-small k m partner h e =
-    ⊎-elim (λ c. let is : m ≡ 0 = c .1 in omega arith) (λ c. let a : m ≤ highAt k = c .1 in let b : highAt k < 65536 = high-small k h in omega arith)
+allowed-most k m partner e =
+    ⊎-elim (λ c. let is : m ≡ 0 = c .1 in omega arith) (λ c. c .1)
     (window-cases (zeroAt k) (lowAt k) (highAt k) m (and-left _ (agrees (roleAt k) m partner) e))
+
+pub allowed-room : AllowedHasRoom
+allowed-room k m partner h e =
+    let most : m ≤ highAt k = allowed-most k m partner e in
+    let room : highAt k < 256 ^ widthAt k = row-holds k h .width-holds in
+    omega arith
 
 -- "one always exists": the search finds it
 pub nearest-found : (k wished partner : ℕ) → k < count → partnerFits k partner ≡ true → wished < 65536
@@ -87,5 +94,6 @@ pub nearest-found : (k wished partner : ℕ) → k < count → partnerFits k par
 unfolding nearestOf
 nearest-found k wished partner h fit small =
     let some = allowed-some k partner h fit in
-    let below : some .0 < 65536 = allowed-small k (some .0) partner h (some .1) in
+    let most : some .0 ≤ highAt k = allowed-most k (some .0) partner (some .1) in
+    let below : highAt k < 65536 = high-small k h in
     seek-nearest (λ n. allowedFor k n partner) wished 0 65536 (λ m e. zero-le) (some .0) (some .1) (omega arith)

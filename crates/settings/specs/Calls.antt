@@ -5,6 +5,7 @@ use lib.Dec.{ltb, eqb}
 use Rattle.laws.specs.Lists.{before}
 use Rattle.settings.specs.Columns.{count, ids, idAt, widthAt, partnerAt}
 use Rattle.settings.specs.Rules.{inRange, allowedFor, allowed, numberAt, partnerNumber, changed, nearestOf}
+use Rattle.settings.specs.declared.Setting.{Setting}
 use Rattle.settings.specs.declared.Found.{Found}
 use Rattle.settings.specs.declared.Table.{Table}
 use Rattle.settings.specs.declared.Number.{Number}
@@ -22,8 +23,11 @@ abbrev pub notAllowed : ℕ
 notAllowed = 12
 
 -- the setting at a place of the table, and the setting of an id
+abbrev pub settingAt : ℕ → Setting
+settingAt k = record { index = k; id = idAt k; width = widthAt k }
+
 unfoldable pub placing : ℕ → Found
-placing k = cond (ltb k count) (Found.At (record { index = k; id = idAt k; width = widthAt k })) Found.Nothing
+placing k = cond (ltb k count) (Found.At (settingAt k)) Found.Nothing
 
 -- the place of an id: where it stands first, or past the table
 unfoldable pub placeOf : ℕ → ℕ

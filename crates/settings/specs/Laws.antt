@@ -7,8 +7,10 @@ use mathlib.Core.Bool.{true, false}
 use lib.ListN.{length}
 use Rattle.settings.specs.Columns.{count, ids, idAt, widthAt, lowAt, highAt, factoryAt, factory, partnerAt, roleAt}
 use Rattle.settings.specs.Rules.{inRange, agrees, allowedFor, allowed, numberAt, partnerNumber, Nearest, nearestOf}
-use Rattle.settings.specs.Calls.{placeOf, partnerFits, setTo, numberNotAllowed}
+use Rattle.settings.specs.Calls.{settingAt, finding, partnerFits, setTo, numberNotAllowed}
 use Rattle.settings.specs.declared.columns.Role.{Role}
+use Rattle.settings.specs.declared.Setting.{Setting}
+use Rattle.settings.specs.declared.Found.{Found}
 use Rattle.settings.specs.declared.Table.{Table}
 use Rattle.settings.specs.declared.Answer.{Answer}
 
@@ -36,6 +38,12 @@ abbrev pub SetKeepsAllowed : Type 0
 SetKeepsAllowed =
     (t : Table) (k n : ℕ) → length (t .numbers) ≡ count → allowed t ≡ true → allowed (setTo t k n .table) ≡ true
 
+abbrev pub RefusedKeeps : Type 0
+RefusedKeeps = (t : Table) (k n number nearest : ℕ) → setTo t k n .answer ≡ Answer.Refused number nearest → setTo t k n .table ≡ t
+
+abbrev pub SetKeepsCount : Type 0
+SetKeepsCount = (t : Table) (k n : ℕ) → length (setTo t k n .table .numbers) ≡ length (t .numbers)
+
 abbrev pub SetChangesOne : Type 0
 SetChangesOne = (t : Table) (k n j : ℕ) → j ≢ k → numberAt (setTo t k n .table) j ≡ numberAt t j
 
@@ -49,15 +57,22 @@ opposite Role.HighFirst = Role.HighSecond
 opposite Role.HighSecond = Role.HighFirst
 
 pub record Row (k : ℕ) : Type 0 where
+  pub id-holds : idAt k < 256 ^ 2
   pub ascends : suc k < count → idAt k < idAt (suc k)
   pub partner-is : partnerAt k < count
   pub partner-back : partnerAt (partnerAt k) ≡ k
   pub parts-opposite : roleAt (partnerAt k) ≡ opposite (roleAt k)
   pub alone-none : partnerAt k ≡ k → roleAt k ≡ Role.Alone
   pub range-some : lowAt k ≤ highAt k
+  pub width-some : 1 ≤ widthAt k
+  pub width-most : widthAt k ≤ 2
   pub width-holds : highAt k < 256 ^ widthAt k
   pub factory-in : inRange k (factoryAt k) ≡ true
   pub factory-agrees : agrees (roleAt k) (factoryAt k) (factoryAt (partnerAt k)) ≡ true
+
+-- an allowed number has room in its setting's width
+abbrev pub AllowedHasRoom : Type 0
+AllowedHasRoom = (k n partner : ℕ) → k < count → allowedFor k n partner ≡ true → n < 256 ^ widthAt k
 
 abbrev pub RowsHold : Type 0
 RowsHold = (k : ℕ) → k < count → Row k
@@ -68,12 +83,12 @@ IdsAreCount = length ids ≡ count
 abbrev pub FactoryIsAllowed : Type 0
 FactoryIsAllowed = allowed factory ≡ true
 
--- 4. A look-up finds each setting at its place, and what it finds has the id.
+-- 4. A look-up finds each setting by its id, and what it finds is a setting of the table with that id.
 abbrev pub FindIsFound : Type 0
-FindIsFound = (k : ℕ) → k < count → placeOf (idAt k) ≡ k
+FindIsFound = (k : ℕ) → k < count → finding (idAt k) ≡ Found.At (settingAt k)
 
 abbrev pub FoundHasId : Type 0
-FoundHasId = (id : ℕ) → placeOf id < count → idAt (placeOf id) ≡ id
+FoundHasId = (id : ℕ) (s : Setting) → finding id ≡ Found.At s → (s .index < count) × (s ≡ settingAt (s .index)) × (s .id ≡ id)
 
 -- 5. For the order of a restore, between two allowed tables: the setting's new number agrees with the partner's present one, or else
 -- the partner's new number agrees with the setting's present one; and once one of the two is set, the other's new number agrees.

@@ -12,11 +12,11 @@ use Rattle.laws.specs.Lists.{every}
 use Rattle.laws.proofs.Lists.{every-append, take-again}
 use Rattle.wire.specs.Frame.{colon, newline}
 use Rattle.wire.specs.Reading.{Ended}
-use Rattle.wire.specs.Stream.{Unfinished, outside, inside, next, endedBy, framesFrom, leftFrom, leftBy}
+use Rattle.wire.specs.Stream.{Unfinished, outside, inside, next, endedBy, framesFrom, framesOf, leftFrom, leftBy}
 use Rattle.wire.specs.Calls.{allowed, stays, heldOf, unfinished}
 use Rattle.wire.specs.Laws.{AllowedIsLeft}
 use Rattle.wire.specs.declared.Held.{Held}
-use Rattle.wire.proofs.Streams.{stay-left}
+use Rattle.wire.proofs.Streams.{stay-left, stay-frames}
 use Rattle.wire.proofs.Helds.{allowed-inside, allowed-outside, allowed-stays, held-same, unfinished-inside, unfinished-outside, unfinished-held, body-capped, broken-capped}
 
 -- Inside a frame neither a newline nor a colon is among the characters.
@@ -49,20 +49,29 @@ proper-allowed (inside chars) e = allowed-inside chars e
 pub left-allowed : (bytes : List ℕ) → allowed (heldOf (leftBy bytes)) ≡ true
 left-allowed bytes = proper-allowed (leftBy bytes) (left-proper outside bytes refl)
 
--- Every allowed state is left by some bytes: by none, or by a colon and the characters held.
-
-left-some : (held : Held) → length (held .chars) ≡ 74 → allowed held ≡ true → (bytes : List ℕ) × (heldOf (leftBy bytes) ≡ held)
-left-some held long ok = by (held .inside) refl
+-- and what more bytes make of an allowed state is allowed
+pub heard-allowed : (held : Held) → allowed held ≡ true → (bytes : List ℕ) → allowed (heldOf (leftFrom (unfinished held) bytes)) ≡ true
+heard-allowed held ok bytes = proper-allowed (leftFrom (unfinished held) bytes) (left-proper (unfinished held) bytes (by (held .inside) refl))
   where
-    by : (t : Bool) → held .inside ≡ t → (bytes : List ℕ) × (heldOf (leftBy bytes) ≡ held)
+    by : (t : Bool) → held .inside ≡ t → proper (unfinished held) ≡ true
+    by true e = rw (unfinished-inside held e) (allowed-stays held ok)
+    by false e = rw (unfinished-outside held e)
+
+-- Every allowed state is left by some bytes that end no frame: by none, or by a colon and the characters held.
+
+pub left-quietly : (held : Held) → length (held .chars) ≡ 74 → allowed held ≡ true → (bytes : List ℕ) × (heldOf (leftBy bytes) ≡ held) × (framesOf bytes ≡ [])
+left-quietly held long ok = by (held .inside) refl
+  where
+    by : (t : Bool) → held .inside ≡ t → (bytes : List ℕ) × (heldOf (leftBy bytes) ≡ held) × (framesOf bytes ≡ [])
     by true e = (
       colon ∷ take (held .len) (held .chars),
       ap heldOf (stay-left [] (take (held .len) (held .chars)) (allowed-stays held ok) ∙ sym (unfinished-inside held e)) ∙ held-same held ok long,
+      stay-frames [] (take (held .len) (held .chars)) (allowed-stays held ok),
     )
-    by false e = ([], ap heldOf (sym (unfinished-outside held e)) ∙ held-same held ok long)
+    by false e = ([], ap heldOf (sym (unfinished-outside held e)) ∙ held-same held ok long, refl)
 
 pub allowed-left : AllowedIsLeft
-allowed-left held long = (left-some held long, λ some. subst (λ (h : Held). allowed h ≡ true) (some .1) (left-allowed (some .0)))
+allowed-left held long = (λ ok. let some = left-quietly held long ok in (some .0, some .1), λ some. subst (λ (h : Held). allowed h ≡ true) (some .1) (left-allowed (some .0)))
 
 -- What is kept of an unfinished frame reads on as the whole of it does.
 

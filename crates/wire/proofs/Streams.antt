@@ -139,3 +139,10 @@ whole-frames chars rest e =
 pub whole-left : (chars rest : List ℕ) → every stays chars ≡ true → leftFrom outside ((colon ∷ chars ++ newline ∷ []) ++ rest) ≡ leftFrom outside rest
 whole-left chars rest e =
     rw (append-assoc chars (newline ∷ []) rest, left-append (inside []) chars (newline ∷ rest), stay-left [] chars e)
+
+pub whole-taken : (chars rest : List ℕ) → every stays chars ≡ true
+    → taken outside ((colon ∷ chars ++ newline ∷ []) ++ rest) ≡ length (colon ∷ chars ++ newline ∷ [])
+whole-taken chars rest e =
+    let ended : ends (leftFrom (inside []) chars) newline ≡ true = rw (stay-left [] chars e) in
+    rw (append-assoc chars (newline ∷ []) rest) (quiet-then outside (colon ∷ chars) newline rest (stay-frames [] chars e) ended)
+    ∙ sym (length-append (colon ∷ chars) (newline ∷ []))

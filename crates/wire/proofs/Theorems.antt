@@ -1,6 +1,7 @@
 -- The statements of specs/Laws.antt, proved. Assumes nothing.
-use Rattle.wire.specs.Laws.{WrittenIsRead, WrittenIsHeard, ReadIsWritten, AnyCutting, AllIsTaken, CuttingChangesNothing, FirstEndIsFirst, AllowedIsLeft}
-use Rattle.wire.proofs.RoundTrip.{frame-says, frame-heard, slice-written}
+use Rattle.wire.specs.Laws.{WrittenIsRead, WrittenIsHeard, ReadIsWritten, HeardIsWritable, AnyCutting, AllIsTaken, CuttingChangesNothing, FirstEndIsFirst, AllowedIsLeft, LittleIsRead, ComplementIsRead}
+use Rattle.wire.proofs.RoundTrip.{frame-says, frame-heard, slice-written, heard-writable}
+use Rattle.wire.proofs.Signs.{little-read, complement-read}
 use Rattle.wire.proofs.Cuts
 use Rattle.wire.proofs.Reached
 
@@ -12,6 +13,9 @@ written-is-heard = frame-heard
 
 pub read-is-written : ReadIsWritten
 read-is-written = slice-written
+
+pub heard-is-writable : HeardIsWritable
+heard-is-writable = heard-writable
 
 pub any-cutting : AnyCutting
 any-cutting = Cuts.any-cutting
@@ -27,3 +31,9 @@ first-end-is-first = Cuts.first-end
 
 pub allowed-is-left : AllowedIsLeft
 allowed-is-left = Reached.allowed-left
+
+pub little-is-read : LittleIsRead
+little-is-read = little-read
+
+pub complement-is-read : ComplementIsRead
+complement-is-read = complement-read

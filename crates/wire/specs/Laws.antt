@@ -1,18 +1,21 @@
 -- What is proved of the definitions, as statements to hold against the papers. Each is proved under its name in proofs/Theorems.antt.
 -- Assumes nothing.
-use Prim.Native.Nat.{ℕ, suc, _≤_, _<_}
+use Prim.Native.Nat.{ℕ, suc, _*_, _^_, _≤_, _<_}
 use mathlib.Core.Path.{_≡_}
 use mathlib.Core.Bool.{true, cond}
 use mathlib.Core.Logic.{_↔_}
 use mathlib.Core.List.{List, [], _∷_, _++_}
 use lib.ListN.{length, take}
 use lib.Dec.{ltb, leb, eqb}
+use lib.IntN.{ℤ}
+use lib.Signed.{mag}
 use Rattle.laws.specs.Lists.{every}
 use Rattle.laws.specs.Promise.{Given}
 use Rattle.laws.specs.Cutting.{Step, Offer, calls, ready}
+use Rattle.wire.specs.Numbers.{little, fromLittle, complement, signed}
 use Rattle.wire.specs.Frame.{mostNibble, mostData, frameRoom, frame}
 use Rattle.wire.specs.Reading.{Ended, good, refused}
-use Rattle.wire.specs.Stream.{Unfinished, framesFrom, framesOf, leftBy, firstEnd}
+use Rattle.wire.specs.Stream.{Unfinished, outside, framesFrom, framesOf, leftBy, firstEnd, taken}
 use Rattle.wire.specs.Calls.{writing, writtenAs, reading, readAs, mostHeld, heldOf, allowed, hearing}
 use Rattle.wire.specs.declared.Event.{Event}
 use Rattle.wire.specs.declared.Held.{Held}
@@ -33,12 +36,27 @@ WrittenIsHeard =
     (command : ℕ) (bytes : List ℕ) → command ≤ mostNibble → length bytes ≤ mostData → Bytes bytes → (rest : List ℕ)
     → (framesOf (frame command bytes ++ rest) ≡ good command bytes ∷ framesOf rest)
     × (leftBy (frame command bytes ++ rest) ≡ leftBy rest)
+    × (taken outside (frame command bytes ++ rest) ≡ length (frame command bytes))
 
 -- 2. Demand 2: "a frame read whole is byte for byte the one the writer makes for them".
 abbrev pub ReadIsWritten : Type 0
 ReadIsWritten =
     (slice : List ℕ) (room : ℕ) (command : ℕ) (bytes : List ℕ) → reading slice room ≡ readAs (good command bytes)
     → (out : ℕ) → frameRoom ≤ out → writing command bytes out ≡ writtenAs slice
+
+-- what is heard on the stream is within what the writer takes
+pub record Writable (command : ℕ) (bytes : List ℕ) : Type 0 where
+  pub nibble : command ≤ mostNibble
+  pub few : length bytes ≤ mostData
+  pub small : Bytes bytes
+
+pub data Writables : List Ended → Type 0 where
+  nothing : Writables []
+  broken : {number : ℕ} {rest : List Ended} → Writables rest → Writables (refused number ∷ rest)
+  whole : {command : ℕ} {bytes : List ℕ} {rest : List Ended} → Writable command bytes → Writables rest → Writables (good command bytes ∷ rest)
+
+abbrev pub HeardIsWritable : Type 0
+HeardIsWritable = (u : Unfinished) (bytes : List ℕ) → Writables (framesFrom u bytes)
 
 -- 3. The stream in any cutting. What a call on the stream comes to: a frame with its data, of the length that is said; a frame's refusal (1
 -- to 4); or no frame (under 11 and 12 too, which are the call's).
@@ -96,3 +114,11 @@ FirstEndIsFirst = (u : Unfinished) (piece : List ℕ) → FirstAt u piece
 abbrev pub AllowedIsLeft : Type 0
 AllowedIsLeft =
     (held : Held) → length (held .chars) ≡ mostHeld → (allowed held ≡ true) ↔ ((bytes : List ℕ) × (heldOf (leftBy bytes) ≡ held))
+
+-- 5. A number written in so many bytes is read back from them, and so is a whole number in two's complement: a negative one has the
+-- magnitude that it exceeds -1 by.
+abbrev pub LittleIsRead : Type 0
+LittleIsRead = (width n : ℕ) → n < 256 ^ width → fromLittle (little width n) ≡ n
+
+abbrev pub ComplementIsRead : Type 0
+ComplementIsRead = (width : ℕ) (x : ℤ) → 1 ≤ width → 2 * mag x < 256 ^ width → signed width (complement width x) ≡ x

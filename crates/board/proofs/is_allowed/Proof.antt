@@ -3,21 +3,19 @@ use Rattle.board.specs.Parts.{boardAllowed}
 use Rattle.board.proofs.is_allowed.Statement.{statement}
 use Rattle.board.proofs.is_allowed.Tie as tie
 
-is-identity-requires : tie.Need-is-identity-requires
-is-identity-requires c κs = tt
-
 is-allowed-requires : tie.Need-is-allowed-requires
 is-allowed-requires c κs = tt
+
+is-allowed-requires-2 : tie.Need-is-allowed-requires-2
+is-allowed-requires-2 c κs = tt
 
 is-held-requires : tie.Need-is-held-requires
 is-held-requires c κs = tt
 
 returns : tie.Need-returns
 unfolding boardAllowed
-returns c = rw (c .before .before .is-identity .ensures, c .before .is-allowed .ensures, c .is-held .ensures)
+returns c = rw (c .before .before .is-allowed .ensures, c .before .is-allowed2 .ensures, c .is-held .ensures)
 
 pub is-allowed-spec : {M : Type 1} → statement M
 is-allowed-spec =
-    tie.close
-    (tie.spec
-    is-identity-requires is-allowed-requires is-held-requires returns)
+    tie.close (tie.spec is-allowed-requires is-allowed-requires-2 is-held-requires returns)

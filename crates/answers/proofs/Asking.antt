@@ -1,0 +1,64 @@
+-- A good Get answers the number held, a good Set stores what it answers, and one that is not allowed names the nearest. Assumes nothing.
+use mathlib.Core.Path.{_≡_, refl, sym, ap, _∙_}
+use mathlib.Core.Bool.{true, false}
+use mathlib.Core.List.{List, []}
+use Prim.Native.Nat.{ℕ, zero, suc, _^_, _≤_, _<_}
+use native.Mathlib.Omega.{arith}
+use borrow.Author.Tests.{leb-true}
+use lib.ListN.{length}
+use Rattle.wire.proofs.Theorems.{little-is-read}
+use Rattle.settings.specs.Columns.{count, idAt, widthAt}
+use Rattle.settings.specs.Rules.{allowed, allowedFor, partnerNumber}
+use Rattle.settings.specs.Calls.{settingAt, finding}
+use Rattle.settings.specs.declared.Table.{Table}
+use Rattle.settings.specs.declared.Found.{Found}
+use Rattle.settings.proofs.Theorems.{rows-hold, find-is-found, refused-names-nearest, allowed-has-room}
+use Rattle.settings.proofs.Tables.{set-accepted}
+use Rattle.wire.specs.Numbers.{little, fromLittle}
+use Rattle.answers.specs.Answers.{said, get, set, getsFound, gets, setsSetting, sets, frameAnswer}
+use Rattle.answers.specs.Laws.{GetAnswersHeld, SetStoresIt, SetRefusedNamesNearest}
+use Rattle.answers.specs.declared.Identity.{Identity}
+use Rattle.answers.specs.declared.Readings.{Readings}
+use Rattle.answers.proofs.Bytes.{length-little}
+use Rattle.answers.proofs.Deciding.{gets-is, sets-is, sets-right}
+
+id-back : (k : ℕ) → k < count → idAt k ≡ fromLittle (little 2 (idAt k))
+id-back k h = sym (little-is-read 2 (idAt k) (rows-hold k h .id-holds))
+
+pub get-held : GetAnswersHeld
+unfolding frameAnswer
+get-held readings table identity k h = sym (gets-is readings table identity (said (idAt k) 0 []) refl refl (id-back k h) (find-is-found k h))
+
+-- a Set of a setting in its own width
+module _ (readings : Readings) (table : Table) (identity : Identity) (k n : ℕ) (h : k < count) where
+  set-is : frameAnswer readings table identity set (said (idAt k) 0 (little (widthAt k) n)) ≡ setsSetting readings table (settingAt k) (little (widthAt k) n)
+  unfolding frameAnswer
+  set-is =
+      let many : 3 ≤ length (said (idAt k) 0 (little (widthAt k) n)) = omega arith in
+      sym (sets-is readings table identity (said (idAt k) 0 (little (widthAt k) n)) many refl (id-back k h) (find-is-found k h))
+
+  wide : length (little (widthAt k) n) ≡ widthAt k
+  wide = length-little (widthAt k) n
+
+pub set-stores : SetStoresIt
+set-stores readings table identity k n ok h fits =
+    let is : n ≡ fromLittle (little (widthAt k) n) = sym (little-is-read (widthAt k) n (allowed-has-room k n (partnerNumber table k) h fits)) in
+    set-is readings table identity k n h
+    ∙ sym (sets-right readings (settingAt k) table (little (widthAt k) n) (wide readings table identity k n h) is (sym (set-accepted table k n ok h fits)))
+
+pub set-names : SetRefusedNamesNearest
+set-names readings table identity k n ok h small bad =
+    let is : n ≡ fromLittle (little (widthAt k) n) = sym (little-is-read (widthAt k) n small) in
+    let narrow : widthAt k ≤ 2 = rows-hold k h .width-most in
+    let refused = refused-names-nearest table k n ok h (short (widthAt k) n narrow small) bad in (
+      refused .0,
+      refused .2,
+      set-is readings table identity k n h
+          ∙ sym (sets-right readings (settingAt k) table (little (widthAt k) n) (wide readings table identity k n h) is (sym (refused .1))),
+    )
+  where
+    short : (w m : ℕ) → w ≤ 2 → m < 256 ^ w → m < 2 ^ 16
+    short zero m few less = omega arith
+    short (suc zero) m few less = omega arith
+    short (suc (suc zero)) m few less = less
+    short (suc (suc (suc w))) m few less = absurd (omega arith)

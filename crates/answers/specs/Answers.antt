@@ -1,0 +1,172 @@
+-- The answer to a whole frame, from identity, readings, table, command and data. Document 01, "Numbers of refusal", rows 5 to 10 in their
+-- order, and the two paragraphs below them. Assumes nothing.
+use Prim.Native.Nat.{ℕ}
+use mathlib.Core.Bool.{cond, _&&_}
+use mathlib.Core.List.{List, [], _∷_, _++_}
+use mathlib.Core.Option.{Option, none, some}
+use lib.ListN.{length, take, drop, getD}
+use lib.Dec.{eqb, ltb, leb}
+use Rattle.settings.specs.Calls.{finding, setTo}
+use Rattle.settings.specs.Rules.{numberAt}
+use Rattle.settings.specs.declared.Table.{Table}
+use Rattle.settings.specs.declared.Setting.{Setting}
+use Rattle.settings.specs.declared.Found.{Found}
+use Rattle.settings.specs.declared.Answer.{Answer}
+use Rattle.answers.specs.Parts.{noReadings}
+use Rattle.wire.specs.Numbers.{little, fromLittle}
+use Rattle.answers.specs.Values.{readOnly}
+use Rattle.answers.specs.declared.Identity.{Identity}
+use Rattle.answers.specs.declared.Readings.{Readings}
+use Rattle.answers.specs.declared.Outcome.{Outcome}
+
+-- what is sent in reply: nothing, a command with its data, or the error frame
+pub data Sent : Type 0 where
+  silent : Sent
+  sent : ℕ → List ℕ → Sent
+  error : Sent
+
+-- what a board decides: the outcome, the reply, and the settings and readings afterwards
+pub record Decision : Type 0 where
+  pub outcome : Outcome
+  pub reply : Sent
+  pub table : Table
+  pub readings : Readings
+
+-- commands
+abbrev pub ping : ℕ
+ping = 1
+
+abbrev pub appVersion : ℕ
+appVersion = 3
+
+abbrev pub productId : ℕ
+productId = 4
+
+abbrev pub restart : ℕ
+restart = 6
+
+abbrev pub get : ℕ
+get = 7
+
+abbrev pub set : ℕ
+set = 8
+
+abbrev pub async : ℕ
+async = 0xA
+
+-- an id, a flag and a value
+abbrev pub said : ℕ → ℕ → List ℕ → List ℕ
+said id flag value = little 2 id ++ flag ∷ value
+
+-- the number that a setting holds, in its width
+abbrev pub heldBytes : Table → Setting → List ℕ
+heldBytes table s = little (s .width) (numberAt table (s .index))
+
+module _ (readings : Readings) (table : Table) where
+  -- "On 1 to 10 the settings and readings stay."
+  abbrev pub staying : Outcome → Sent → Decision
+  staying outcome reply = record { outcome = outcome; reply = reply; table = table; readings = readings }
+
+  -- 5: "response 3, one data byte: the command"
+  abbrev pub unknownCommand : ℕ → Decision
+  unknownCommand command = staying (Outcome.Refused 5) (sent 3 (command ∷ []))
+
+  -- 6: "error frame"
+  abbrev pub malformed : Decision
+  malformed = staying (Outcome.Refused 6) error
+
+  -- 7: "same command, id, flag 01, no value"
+  abbrev pub unknownId : ℕ → ℕ → Decision
+  unknownId command id = staying (Outcome.Refused 7) (sent command (said id 1 []))
+
+  -- 8: "Set, id, flag 02, no value"
+  abbrev pub notSupported : ℕ → Decision
+  notSupported id = staying (Outcome.Refused 8) (sent set (said id 2 []))
+
+  -- 9: "Set, id, flag 04, value now held"
+  abbrev pub wrongWidth : Setting → Decision
+  wrongWidth s = staying (Outcome.Refused 9) (sent set (said (s .id) 4 (heldBytes table s)))
+
+  -- 10: "Set, id, flag 04, nearest allowed number"
+  abbrev pub refusedTo : Setting → ℕ → ℕ → Decision
+  refusedTo s number nearest = staying (Outcome.Refused number) (sent set (said (s .id) 4 (little (s .width) nearest)))
+
+  -- "A good Get or Set answers its own code, id, flag 00, value."
+  abbrev pub good : ℕ → ℕ → List ℕ → Decision
+  good command id value = staying Outcome.Answered (sent command (said id 0 value))
+
+  -- "Ping (1) answers response 5, App version (3) response 1, each with the version; Product id (4) answers response 1 with the product."
+  -- 6 with data
+  unfoldable pub tells : ℕ → ℕ → List ℕ → Decision
+  tells response number bytes = cond (eqb (length bytes) 0) (staying Outcome.Answered (sent response (little 2 number))) malformed
+
+  -- "Restart (6) gives no reply, keeps the settings, sets all readings to 0 and is reported." 6 with data
+  unfoldable pub restarts : List ℕ → Decision
+  restarts bytes =
+      cond (eqb (length bytes) 0) (record { outcome = Outcome.Restarted; reply = silent; table = table; readings = noReadings }) malformed
+
+  -- a Get of an id that is no setting, and of any id
+  abbrev pub getsOther : ℕ → Option (List ℕ) → Decision
+  getsOther id (some value) = good get id value
+  getsOther id none = unknownId get id
+
+  abbrev pub getsFound : Identity → ℕ → Found → Decision
+  getsFound identity id (Found.At s) = good get (s .id) (heldBytes table s)
+  getsFound identity id Found.Nothing = getsOther id (readOnly identity readings id)
+
+  -- 6: "Get with other than 3 data bytes; [..] request flags not 0"
+  unfoldable pub gets : Identity → List ℕ → Decision
+  gets identity bytes =
+      cond (eqb (length bytes) 3)
+      (cond (eqb (getD bytes 2 0) 0) (getsFound identity (fromLittle (take 2 bytes)) (finding (fromLittle (take 2 bytes)))) malformed)
+      malformed
+
+  -- a Set of an id that is no setting
+  abbrev pub setsOther : ℕ → Option (List ℕ) → Decision
+  setsOther id (some value) = notSupported id
+  setsOther id none = unknownId set id
+
+-- A Set of a setting: what the table makes of the number, and the answer that goes with it.
+abbrev pub stored : Readings → Setting → ℕ → Table → Answer → Decision
+stored readings s n table Answer.Accepted = good readings table set (s .id) (little (s .width) n)
+stored readings s n table (Answer.Refused number nearest) = refusedTo readings table s number nearest
+
+unfoldable pub setsSetting : Readings → Table → Setting → List ℕ → Decision
+setsSetting readings table s value =
+    cond (eqb (length value) (s .width))
+    (let change = setTo table (s .index) (fromLittle value) in stored readings s (fromLittle value) (change .table) (change .answer))
+    (wrongWidth readings table s)
+
+module _ (readings : Readings) (table : Table) where
+  abbrev pub setsFound : Identity → ℕ → List ℕ → Found → Decision
+  setsFound identity id value (Found.At s) = setsSetting readings table s value
+  setsFound identity id value Found.Nothing = setsOther readings table id (readOnly identity readings id)
+
+  -- 6: "Set with under 3; request flags not 0"
+  unfoldable pub sets : Identity → List ℕ → Decision
+  sets identity bytes =
+      cond (ltb (length bytes) 3) (malformed readings table)
+      (cond (eqb (getD bytes 2 0) 0) (setsFound identity (fromLittle (take 2 bytes)) (drop 3 bytes) (finding (fromLittle (take 2 bytes)))) (malformed readings table))
+
+  -- the answer to a whole frame. "Command A (Async) with a good sum is ignored: no reply, no number."
+  unfoldable pub frameAnswer : Identity → ℕ → List ℕ → Decision
+  frameAnswer identity command bytes =
+      cond (eqb command ping) (tells readings table 5 (identity .version) bytes)
+      (cond (eqb command appVersion) (tells readings table 1 (identity .version) bytes)
+      (cond (eqb command productId) (tells readings table 1 (identity .product) bytes)
+      (cond (eqb command restart) (restarts readings table bytes)
+      (cond (eqb command get) (gets readings table identity bytes)
+      (cond (eqb command set) (sets identity bytes)
+      (cond (eqb command async) (staying readings table Outcome.Ignored silent)
+      (unknownCommand readings table command)))))))
+
+-- What a frame makes of a table: a complete, valid Set makes of it what the table makes of its number, and any other frame nothing.
+abbrev pub makesFound : Table → List ℕ → Found → Table
+makesFound table value (Found.At s) = cond (eqb (length value) (s .width)) (setTo table (s .index) (fromLittle value) .table) table
+makesFound table value Found.Nothing = table
+
+unfoldable pub makes : Table → ℕ → List ℕ → Table
+makes table command bytes =
+    cond (eqb command set && (leb 3 (length bytes) && eqb (getD bytes 2 0) 0))
+    (makesFound table (drop 3 bytes) (finding (fromLittle (take 2 bytes))))
+    table

@@ -1,0 +1,63 @@
+-- Values, replies and decisions as the program holds them: bytes at the front of an array, zeros behind them. Assumes nothing.
+use Prim.Native.Nat.{ℕ, _+_, _≤_, _<_}
+use mathlib.Core.Bool.{true, false}
+use mathlib.Core.List.{List, [], _∷_, _++_}
+use mathlib.Core.Option.{Option, none, some}
+use lib.ListN.{length, replicate}
+use Rattle.laws.specs.Promise.{overlaid}
+use Rattle.settings.specs.Columns.{count}
+use Rattle.settings.specs.declared.Table.{Table}
+use Rattle.settings.specs.declared.Setting.{Setting}
+use Rattle.answers.specs.Parts.{noSerial}
+use Rattle.wire.specs.Numbers.{little}
+use Rattle.answers.specs.Answers.{Sent, silent, sent, error, Decision}
+use Rattle.answers.specs.declared.values.Value.{Value}
+use Rattle.answers.specs.declared.values.Looked.{Looked}
+use Rattle.answers.specs.declared.Readings.{Readings}
+use Rattle.answers.specs.declared.Outcome.{Outcome}
+use Rattle.answers.specs.declared.Reply.{Reply}
+use Rattle.answers.specs.declared.Sends.{Sends}
+use Rattle.answers.specs.declared.Decided.{Decided}
+
+unfoldable pub valueOf : List ℕ → Value
+valueOf bytes = record { len = length bytes; bytes = overlaid bytes noSerial }
+
+-- what an id stands for among the read-only ones
+unfoldable pub lookedOf : Option (List ℕ) → Looked
+lookedOf (some bytes) = record { known = true; value = valueOf bytes }
+lookedOf none = record { known = false; value = valueOf [] }
+
+unfoldable pub noData : List ℕ
+noData = replicate 35 0
+
+unfoldable pub replyOf : ℕ → List ℕ → Reply
+replyOf command bytes = record { command = command; len = length bytes; bytes = overlaid bytes noData }
+
+-- an id, a flag and a value that is held
+unfoldable pub saidOf : ℕ → ℕ → ℕ → Value → Reply
+saidOf command id flag value =
+    record { command = command; len = value .len + 3; bytes = little 2 id ++ flag ∷ value .bytes }
+
+abbrev pub sendsOf : Sent → Sends
+sendsOf silent = Sends.Nothing
+sendsOf (sent command bytes) = Sends.Frame
+sendsOf error = Sends.Error
+
+abbrev pub replyIn : Sent → Reply
+replyIn silent = replyOf 0 []
+replyIn (sent command bytes) = replyOf command bytes
+replyIn error = replyOf 0 []
+
+unfoldable pub replying : Readings → Table → Outcome → Reply → Decided
+replying readings table outcome reply =
+    record { outcome = outcome; sends = Sends.Frame; reply = reply; table = table; readings = readings }
+
+unfoldable pub decidedOf : Decision → Decided
+decidedOf d =
+    record { outcome = d .outcome; sends = sendsOf (d .reply); reply = replyIn (d .reply); table = d .table; readings = d .readings }
+
+-- a setting that a look-up can find: within the table, one byte wide or two
+pub record Settled (s : Setting) : Type 0 where
+  pub within : s .index < count
+  pub wide : 1 ≤ s .width
+  pub narrow : s .width ≤ 2

@@ -1,0 +1,84 @@
+// A Get: the value that an id stands for.
+ghost use mathlib.Core.Path.{_≡_};
+ghost use mathlib.Core.Bool.{true};
+ghost use Rattle.answers.specs.Parts.{identityAllowed};
+ghost use Rattle.answers.specs.Values.{readOnly};
+ghost use Rattle.answers.specs.Answers as answers;
+ghost use Rattle.answers.specs.AsHeld.{decidedOf, valueOf, Settled};
+use crate::Decided;
+use crate::Identity;
+use crate::Outcome;
+use crate::Readings;
+use crate::decisions;
+use crate::numbers;
+use crate::values;
+use crate::values::Value;
+use settings::Found;
+use settings::Setting;
+use settings::Table;
+
+// The number that a setting holds, in its width.
+pub(crate) fn held(table: Table, setting: Setting) -> Value
+    requires { ⌜ Settled setting ⌝ }
+    ensures { λ r. ⌜ r ≡ valueOf (answers.heldBytes table setting) ⌝ }
+{
+    let held = table.numbers;
+    let index = setting.index;
+    values::wide(setting.width, held[index])
+}
+
+// A Get of a setting.
+fn get_setting(readings: Readings, table: Table, setting: Setting) -> Decided
+    requires { ⌜ Settled setting ⌝ }
+    ensures { λ r. ⌜ r ≡ decidedOf (answers.good readings table answers.get (setting .id) (answers.heldBytes table setting)) ⌝ }
+{
+    decisions::says(
+        readings,
+        table,
+        Outcome::Answered,
+        numbers::GET,
+        setting.id,
+        numbers::GOOD,
+        held(table, setting),
+    )
+}
+
+// A Get of any other id.
+fn get_other(identity: Identity, readings: Readings, table: Table, id: u16) -> Decided
+    requires { ⌜ identityAllowed identity ≡ true ⌝ }
+    ensures { λ r. ⌜ r ≡ decidedOf (answers.getsOther readings table id (readOnly identity readings id)) ⌝ }
+{
+    let looked = values::read_only(identity, readings, id);
+    if !looked.known {
+        return decisions::unknown_id(readings, table, numbers::GET, id);
+    }
+    let value = looked.value;
+    decisions::says(
+        readings,
+        table,
+        Outcome::Answered,
+        numbers::GET,
+        id,
+        numbers::GOOD,
+        value,
+    )
+}
+
+// A Get: an id and flags 0, and no more.
+pub(crate) fn gets(identity: Identity, readings: Readings, table: Table, bytes: &[u8]) -> Decided
+    requires { ⌜ identityAllowed identity ≡ true ⌝ }
+    ensures { λ r. ⌜ r ≡ decidedOf (answers.gets readings table identity (now (bytes .entry))) ⌝ }
+{
+    if bytes.len() != numbers::FRONT {
+        return decisions::malformed(readings, table);
+    }
+    if bytes[2] != 0 {
+        return decisions::malformed(readings, table);
+    }
+    let id = values::number_of(&bytes[..2]);
+    let found = settings::find(id);
+    match found {
+        Found::At(setting) => get_setting(readings, table, setting),
+        Found::Nothing => get_other(identity, readings, table, id),
+    }
+}

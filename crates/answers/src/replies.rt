@@ -1,0 +1,80 @@
+// The data of a reply.
+ghost use mathlib.Core.Path.{_≡_};
+ghost use mathlib.Core.List.{[], _∷_, _++_};
+ghost use Prim.Native.Nat.{_≤_};
+ghost use lib.ListN.{take};
+ghost use Rattle.wire.specs.Numbers.{little};
+ghost use Rattle.answers.specs.AsHeld.{replyOf, saidOf};
+use crate::Reply;
+use crate::numbers::MOST_DATA;
+use crate::numbers::MOST_SERIAL;
+use crate::values::Value;
+
+// No reply.
+pub(crate) fn none() -> Reply
+    ensures { λ r. ⌜ r ≡ replyOf 0 [] ⌝ }
+{
+    Reply {
+        command: 0,
+        len: 0,
+        bytes: [0u8; MOST_DATA],
+    }
+}
+
+// A reply of one byte: the command that is not known.
+pub(crate) fn one(command: u8, byte: u8) -> Reply
+    ensures { λ r. ⌜ r ≡ replyOf command (byte ∷ []) ⌝ }
+{
+    let mut bytes = [0u8; MOST_DATA];
+    bytes[0] = byte;
+    Reply {
+        command,
+        len: 1,
+        bytes,
+    }
+}
+
+// A reply of one number: a version or a product.
+pub(crate) fn number(command: u8, n: u16) -> Reply
+    ensures { λ r. ⌜ r ≡ replyOf command (little 2 n) ⌝ }
+{
+    let mut bytes = [0u8; MOST_DATA];
+    bytes[0] = (n % 256) as u8;
+    bytes[1] = (n / 256 % 256) as u8;
+    Reply {
+        command,
+        len: 2,
+        bytes,
+    }
+}
+
+// Three bytes at the front, and 32 behind them.
+fn joined(front: [u8; MOST_DATA], rest: [u8; MOST_SERIAL]) -> [u8; MOST_DATA]
+    ensures { λ r. ⌜ r ≡ take 3 front ++ rest ⌝ }
+{
+    let mut bytes = front;
+    let mut i = 0;
+    while i < MOST_SERIAL {
+        bytes[i + 3] = rest[i];
+        i += 1;
+    }
+    bytes
+}
+
+// A reply of an id, a flag and a value.
+pub(crate) fn saying(command: u8, id: u16, flag: u8, value: Value) -> Reply
+    requires { ⌜ value .len ≤ 32 ⌝ }
+    ensures { λ r. ⌜ r ≡ saidOf command id flag value ⌝ }
+{
+    let mut front = [0u8; MOST_DATA];
+    front[0] = (id % 256) as u8;
+    front[1] = (id / 256 % 256) as u8;
+    front[2] = flag;
+    let len = value.len;
+    let rest = value.bytes;
+    Reply {
+        command,
+        len: len + 3,
+        bytes: joined(front, rest),
+    }
+}

@@ -1,0 +1,117 @@
+// A Set: the table decides.
+ghost use mathlib.Core.Path.{_≡_};
+ghost use mathlib.Core.Bool.{true};
+ghost use Rattle.answers.specs.Parts.{identityAllowed};
+ghost use Rattle.answers.specs.Values.{readOnly};
+ghost use Rattle.answers.specs.Answers as answers;
+ghost use Rattle.answers.specs.AsHeld.{decidedOf, Settled};
+use crate::Decided;
+use crate::Identity;
+use crate::Outcome;
+use crate::Readings;
+use crate::decisions;
+use crate::gets;
+use crate::numbers;
+use crate::values;
+use settings::Answer;
+use settings::Found;
+use settings::Setting;
+use settings::Table;
+
+// What the table made of a number, answered.
+fn stored(
+    readings: Readings,
+    table: Table,
+    setting: Setting,
+    number: u16,
+    answer: Answer,
+) -> Decided
+    requires { ⌜ Settled setting ⌝ }
+    ensures { λ r. ⌜ r ≡ decidedOf (answers.stored readings setting number table answer) ⌝ }
+{
+    match answer {
+        Answer::Accepted => decisions::says(
+            readings,
+            table,
+            Outcome::Answered,
+            numbers::SET,
+            setting.id,
+            numbers::GOOD,
+            values::wide(setting.width, number),
+        ),
+        Answer::Refused {
+            number: refusal,
+            nearest,
+        } => decisions::says(
+            readings,
+            table,
+            Outcome::Refused(refusal),
+            numbers::SET,
+            setting.id,
+            numbers::FLAG_PARAMETER,
+            values::wide(setting.width, nearest),
+        ),
+    }
+}
+
+// A Set of a setting: 9 for another width than its own; else what the table makes of the number.
+fn set_setting(readings: Readings, table: Table, setting: Setting, value: &[u8]) -> Decided
+    requires { ⌜ Settled setting ⌝ }
+    ensures { λ r. ⌜ r ≡ decidedOf (answers.setsSetting readings table setting (now (value .entry))) ⌝ }
+{
+    if value.len() != setting.width {
+        return decisions::says(
+            readings,
+            table,
+            Outcome::Refused(numbers::WRONG_WIDTH),
+            numbers::SET,
+            setting.id,
+            numbers::FLAG_PARAMETER,
+            gets::held(table, setting),
+        );
+    }
+    let number = values::number_of(value);
+    let change = table.set(setting.index, number);
+    let after = change.table;
+    let answer = change.answer;
+    stored(readings, after, setting, number, answer)
+}
+
+// A Set of any other id: 8 for a read-only one, else 7.
+fn set_other(identity: Identity, readings: Readings, table: Table, id: u16) -> Decided
+    requires { ⌜ identityAllowed identity ≡ true ⌝ }
+    ensures { λ r. ⌜ r ≡ decidedOf (answers.setsOther readings table id (readOnly identity readings id)) ⌝ }
+{
+    let looked = values::read_only(identity, readings, id);
+    if !looked.known {
+        return decisions::unknown_id(readings, table, numbers::SET, id);
+    }
+    decisions::says(
+        readings,
+        table,
+        Outcome::Refused(numbers::READ_ONLY),
+        numbers::SET,
+        id,
+        numbers::FLAG_NOT_SUPPORTED,
+        values::nothing(),
+    )
+}
+
+// A Set: an id, flags 0 and a value.
+pub(crate) fn sets(identity: Identity, readings: Readings, table: Table, bytes: &[u8]) -> Decided
+    requires { ⌜ identityAllowed identity ≡ true ⌝ }
+    ensures { λ r. ⌜ r ≡ decidedOf (answers.sets readings table identity (now (bytes .entry))) ⌝ }
+{
+    if bytes.len() < numbers::FRONT {
+        return decisions::malformed(readings, table);
+    }
+    if bytes[2] != 0 {
+        return decisions::malformed(readings, table);
+    }
+    let id = values::number_of(&bytes[..2]);
+    let found = settings::find(id);
+    match found {
+        Found::At(setting) => set_setting(readings, table, setting, &bytes[numbers::FRONT..]),
+        Found::Nothing => set_other(identity, readings, table, id),
+    }
+}

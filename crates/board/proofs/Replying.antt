@@ -1,0 +1,133 @@
+-- What the other end reads in a reply, and what a board makes of a whole frame. Assumes nothing.
+use mathlib.Core.Path.{_≡_, refl, sym, ap, subst, _∙_}
+use mathlib.Core.Bool.{true, false}
+use mathlib.Core.List.{List, [], _∷_, _++_, append-nil}
+use Prim.Native.Nat.{ℕ, _≤_, _<_, _^_}
+use native.Mathlib.Omega.{arith}
+use borrow.Author.Tests.{leb-true}
+use lib.ListN.{length, take}
+use lib.Seq.{take-length}
+use Rattle.wire.specs.Digits.{digit}
+use Rattle.wire.specs.Frame.{check, body, frame}
+use Rattle.wire.specs.Reading.{Ended, good, refused}
+use Rattle.wire.specs.Stream.{Unfinished, outside, framesFrom, framesOf, leftFrom, leftBy, taken}
+use Rattle.wire.specs.Calls as wire
+use Rattle.wire.specs.Laws.{Bytes, Writable, Writables, nothing, broken, whole}
+use Rattle.wire.proofs.Frames.{length-frame}
+use Rattle.wire.proofs.Reached.{unfinished-kept}
+use Rattle.wire.proofs.Theorems.{written-is-heard, heard-is-writable}
+use Rattle.settings.specs.Columns.{count, idAt, widthAt}
+use Rattle.settings.proofs.Theorems.{rows-hold}
+use Rattle.wire.specs.Numbers.{little}
+use Rattle.answers.specs.Answers.{Sent, silent, sent, error, Decision, said, get, set, frameAnswer}
+use Rattle.answers.specs.Laws.{Fits, a-frame, an-error}
+use Rattle.answers.specs.Laws as fitting
+use Rattle.answers.proofs.Theorems.{replies-fit, get-answers-held, set-stores-it, set-refused-names-nearest}
+use Rattle.answers.proofs.Bytes.{length-little, bytes-little}
+use Rattle.answers.proofs.Fitting.{writable-said}
+use Rattle.board.specs.Parts.{boardAllowed}
+use Rattle.board.specs.Calls.{errorFrame, replyBytes, endedIn, deciding, decidedBy, heardBy, answering}
+use Rattle.board.specs.Laws.{meant, Readable, ReplyIsRead, atRest, WholeIsAnswered, asks, GetAnswersHeld, sets, SetStoresIt, SetRefusedNamesNearest}
+use Rattle.board.specs.declared.Board.{Board}
+use Rattle.board.proofs.Lines.{identity-allowed, table-allowed, answering-heard}
+
+-- the bytes of a frame that the writer takes: that frame, and no other
+record Alone (command : ℕ) (bytes : List ℕ) : Type 0 where
+  frames-are : framesOf (frame command bytes) ≡ good command bytes ∷ []
+  none-left : leftBy (frame command bytes) ≡ outside
+  all-taken : taken outside (frame command bytes) ≡ length (frame command bytes)
+
+alone : (command : ℕ) (bytes : List ℕ) → Writable command bytes → Alone command bytes
+alone command bytes w =
+    let heard = written-is-heard command bytes (w .nibble) (w .few) (w .small) [] in
+    let same : frame command bytes ++ [] ≡ frame command bytes = append-nil (frame command bytes) in
+    record { frames-are = rw same at (heard .0); none-left = rw same at (heard .1); all-taken = rw same at (heard .2) }
+
+-- the error frame is the one of command 4 with AA AA
+error-frame : errorFrame ≡ frame 4 (0xAA ∷ 0xAA ∷ [])
+unfolding frame body check digit
+error-frame = refl
+
+frame-readable : (command : ℕ) (bytes : List ℕ) → Writable command bytes → Readable (sent command bytes) (frame command bytes)
+frame-readable command bytes w =
+    let one : Alone command bytes = alone command bytes w in
+    let few : length bytes ≤ 35 = w .few in
+    record { short = rw (length-frame command bytes) (omega arith); frames-are = one .frames-are; none-left = one .none-left }
+
+readable : (s : Sent) → Fits s → Readable s (replyBytes s)
+readable silent f = record { short = leb-true 0 75 refl; frames-are = refl; none-left = refl }
+readable (sent command bytes) (a-frame w) = frame-readable command bytes w
+readable error f =
+    let w : Writable 4 (0xAA ∷ 0xAA ∷ []) = record { nibble = leb-true 4 15 refl; few = leb-true 2 35 refl; small = record { below = refl } } in
+    let one : Alone 4 (0xAA ∷ 0xAA ∷ []) = alone 4 (0xAA ∷ 0xAA ∷ []) w in
+    record { short = leb-true 9 75 refl; frames-are = ap framesOf error-frame ∙ one .frames-are; none-left = ap leftBy error-frame ∙ one .none-left }
+
+decided-fits : (board : Board) → boardAllowed board ≡ true → (fs : List Ended) → Writables fs → Fits (deciding board fs .reply)
+unfolding deciding
+decided-fits board ok [] w = fitting.nothing
+decided-fits board ok (good command bytes ∷ rest) (whole w others) =
+    let low : command ≤ 15 = w .nibble in
+    replies-fit (board .readings) (board .table) (board .identity) command bytes (identity-allowed board ok) (omega arith)
+decided-fits board ok (refused number ∷ rest) w = an-error
+
+heard-readable : (board : Board) (piece : List ℕ) → boardAllowed board ≡ true → Readable (deciding board (endedIn board piece) .reply) (heardBy board piece .written)
+unfolding heardBy decidedBy
+heard-readable board piece ok =
+    let u = wire.unfinished (board .held) in
+    readable _ (decided-fits board ok (endedIn board piece) (heard-is-writable u (take (taken u piece) piece)))
+
+pub reply-read : ReplyIsRead
+reply-read board piece room ok h = rw (answering-heard board piece room h ok) (heard-readable board piece ok)
+
+-- a whole frame at a board that is at rest
+module _ (board : Board) (command : ℕ) (bytes : List ℕ) (rest : atRest board) (w : Writable command bytes) where
+  at-outside : wire.unfinished (board .held) ≡ outside
+  at-outside = ap wire.unfinished rest ∙ unfinished-kept outside
+
+  whole-heard : heardBy board (frame command bytes)
+      ≡ decidedBy board (board .held) (frameAnswer (board .readings) (board .table) (board .identity) command bytes) (length (frame command bytes))
+  unfolding heardBy deciding
+  whole-heard =
+      let one : Alone command bytes = alone command bytes w in
+      rw (at-outside, one .all-taken, take-length, one .frames-are, one .none-left, rest)
+
+pub whole-answered : WholeIsAnswered
+whole-answered board command bytes room ok rest w h = answering-heard board (frame command bytes) room h ok ∙ whole-heard board command bytes rest w
+
+-- a Get and a Set of a setting
+module _ (board : Board) (k : ℕ) (h : k < count) (rest : atRest board) (ok : boardAllowed board ≡ true) (room : ℕ) (enough : 75 ≤ room) where
+  settled : widthAt k ≤ 2
+  settled = rows-hold k h .width-most
+
+  get-writable : Writable get (said (idAt k) 0 [])
+  get-writable = writable-said get (idAt k) 0 [] (leb-true 7 15 refl) (leb-true 1 256 refl) (leb-true 0 32 refl) refl
+
+  set-writable : (n : ℕ) → Writable set (said (idAt k) 0 (little (widthAt k) n))
+  set-writable n =
+      let few : widthAt k ≤ 2 = settled in
+      writable-said set (idAt k) 0 (little (widthAt k) n) (leb-true 8 15 refl) (leb-true 1 256 refl)
+      (rw (length-little (widthAt k) n) (omega arith)) (bytes-little (widthAt k) n)
+
+  set-whole : (n : ℕ) (d : Decision) → frameAnswer (board .readings) (board .table) (board .identity) set (said (idAt k) 0 (little (widthAt k) n)) ≡ d
+      → answering board (sets k n) room ≡ decidedBy board (board .held) d (length (sets k n))
+  set-whole n d e = whole-answered board set (said (idAt k) 0 (little (widthAt k) n)) room ok rest (set-writable n) enough ∙ rw e
+
+  get-whole : (d : Decision) → frameAnswer (board .readings) (board .table) (board .identity) get (said (idAt k) 0 []) ≡ d
+      → answering board (asks k) room ≡ decidedBy board (board .held) d (length (asks k))
+  get-whole d e = whole-answered board get (said (idAt k) 0 []) room ok rest get-writable enough ∙ rw e
+
+pub get-held : GetAnswersHeld
+unfolding decidedBy
+get-held board k room ok rest h enough =
+    get-whole board k h rest ok room enough _ (get-answers-held (board .readings) (board .table) (board .identity) k h)
+
+pub set-stores : SetStoresIt
+unfolding decidedBy
+set-stores board k n room ok rest h enough fits =
+    set-whole board k h rest ok room enough n _ (set-stores-it (board .readings) (board .table) (board .identity) k n (table-allowed board ok) h fits)
+
+pub set-names : SetRefusedNamesNearest
+unfolding decidedBy
+set-names board k n room ok rest h enough small bad =
+    let refused = set-refused-names-nearest (board .readings) (board .table) (board .identity) k n (table-allowed board ok) h small bad in
+    (refused .0, refused .1, set-whole board k h rest ok room enough n _ (refused .2))

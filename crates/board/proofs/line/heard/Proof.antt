@@ -1,0 +1,87 @@
+-- `board::line::heard` meets its contract. Assumes nothing.
+use mathlib.Core.Path.{_≡_}
+use native.Mathlib.Omega.{arith}
+use borrow.Author.Needs.{needs}
+use Prim.Native.Nat.{_≤_}
+use lib.ListN.{length, length-take}
+use Rattle.board.proofs.Lines.{parts-allowed, heard-nothing, heard-refused, framed-few, heard-frame}
+use Rattle.board.proofs.line.heard.Statement.{statement}
+use Rattle.board.proofs.line.heard.Tie as tie
+
+long : (c : tie.After-known-told) → length (c .before .before .before .before .before .hear .last .1 .1 .0) ≡ 35
+long c = search needs
+
+few : (c : tie.After-known-told) → c .before .event .given .0 .1 .0 ≤ 35
+few c =
+    let c5 = c .before .before .before .before .before in
+    framed-few _ _ (c5 .before .before .before .before .before .before .before .before .pre .1) (c5 .hear .ensures .answered) _ _ (c .before .event .given .1)
+
+slice-aggregate-hear : tie.Need-slice-aggregate-hear
+slice-aggregate-hear c = search needs
+
+hear-requires : tie.Need-hear-requires
+hear-requires c κs = tt
+
+enum-told : tie.Need-enum-told
+enum-told c = search needs
+
+enum-known-event : tie.Need-enum-known-event
+enum-known-event c = search needs
+
+array-share-prefix-bytes : tie.Need-array-share-prefix-bytes
+array-share-prefix-bytes c = omega (arith, long c, few c)
+
+slice-aggregate-framed : tie.Need-slice-aggregate-framed
+slice-aggregate-framed c = rw length-take (omega (arith, long (c .before), few (c .before)))
+
+framed-requires : tie.Need-framed-requires
+framed-requires c κs =
+    let s = c .before .before .before .before .before .before .before .before .before .before .before .before .before .before .before in
+    (s .pre .0, parts-allowed _ (s .pre .1))
+
+enum-known-event-2 : tie.Need-enum-known-event-2
+enum-known-event-2 c = search needs
+
+put-error-requires : tie.Need-put-error-requires
+put-error-requires c κs = c .before .before .before .before .before .before .before .before .before .before .before .before .before .before .pre .0
+
+returns : tie.Need-returns
+returns c = heard-nothing _ _ (c .before .before .before .before .before .before .before .before .before .before .before .before .pre .1) (c .before .before .before .before .hear .ensures .answered) (c .enum-told .given .1)
+
+same-length : tie.Need-same-length
+same-length c = search needs
+
+returns-2 : tie.Need-returns-2
+returns-2 c =
+    let c5 = c .before .before .before .before .before in
+    let c10 = c5 .before .before .before .before .before in
+    let s = c10 .before .before .before .before .before .before .before .before in
+    heard-frame _ _ (s .pre .1) (c10 .hear .ensures .answered) _ _ (c5 .before .event .given .1) _ (c10 .hear .ensures .left) (c .before .before .framed .ensures)
+
+same-length-2 : tie.Need-same-length-2
+same-length-2 c = search needs
+
+returns-3 : tie.Need-returns-3
+returns-3 c =
+    let c5 = c .before .before .before .before .before in
+    let c9 = c5 .before .before .before .before in
+    heard-refused _ _ (c9 .before .before .before .before .before .before .before .before .pre .1) (c9 .hear .ensures .answered) _ (c5 .event2 .given .1) (c .before .before .put-error .ensures)
+
+pub heard-spec : {M : Type 1} → statement M
+heard-spec =
+    tie.close
+    (tie.spec
+    slice-aggregate-hear
+    hear-requires
+    enum-told
+    enum-known-event
+    array-share-prefix-bytes
+    slice-aggregate-framed
+    framed-requires
+    enum-known-event-2
+    put-error-requires
+    returns
+    same-length
+    returns-2
+    same-length-2
+    returns-3)
