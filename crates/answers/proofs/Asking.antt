@@ -1,21 +1,18 @@
 -- A good Get answers the number held, a good Set stores what it answers, and one that is not allowed names the nearest. Assumes nothing.
-use mathlib.Core.Path.{_≡_, refl, sym, ap, _∙_}
-use mathlib.Core.Bool.{true, false}
-use mathlib.Core.List.{List, []}
+use mathlib.Core.Path.{_≡_, refl, sym, _∙_}
+use mathlib.Core.List.{[]}
 use Prim.Native.Nat.{ℕ, zero, suc, _^_, _≤_, _<_}
 use native.Mathlib.Omega.{arith}
-use borrow.Author.Tests.{leb-true}
 use lib.ListN.{length}
 use Rattle.wire.proofs.Theorems.{little-is-read}
 use Rattle.settings.specs.Columns.{count, idAt, widthAt}
-use Rattle.settings.specs.Rules.{allowed, allowedFor, partnerNumber}
-use Rattle.settings.specs.Calls.{settingAt, finding}
+use Rattle.settings.specs.Rules.{partnerNumber}
+use Rattle.settings.specs.Calls.{settingAt}
 use Rattle.settings.specs.declared.Table.{Table}
-use Rattle.settings.specs.declared.Found.{Found}
 use Rattle.settings.proofs.Theorems.{rows-hold, find-is-found, refused-names-nearest, allowed-has-room}
 use Rattle.settings.proofs.Tables.{set-accepted}
 use Rattle.wire.specs.Numbers.{little, fromLittle}
-use Rattle.answers.specs.Answers.{said, get, set, getsFound, gets, setsSetting, sets, frameAnswer}
+use Rattle.answers.specs.Answers.{said, set, setsSetting, frameAnswer}
 use Rattle.answers.specs.Laws.{GetAnswersHeld, SetStoresIt, SetRefusedNamesNearest}
 use Rattle.answers.specs.declared.Identity.{Identity}
 use Rattle.answers.specs.declared.Readings.{Readings}

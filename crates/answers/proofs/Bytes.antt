@@ -10,7 +10,7 @@ use borrow.Author.Tests.{lt-ltb, ltb-true, leb-true}
 use lib.Dec.{leb, ltb, eqb}
 use lib.ListN.{length, getD, take, length-append, length-take}
 use Rattle.laws.specs.Lists.{every}
-use Rattle.laws.proofs.Bools.{and-left, and-right, both}
+use Rattle.laws.proofs.Bools.{and-left, and-right, both, pick}
 use Rattle.laws.proofs.Lists.{every-append}
 use Rattle.answers.specs.Parts.{printed, serialOf, identityAllowed}
 use Rattle.wire.specs.Numbers.{little, fromLittle}
@@ -55,10 +55,6 @@ pub looked-short : (o : Option (List ℕ)) → Small o → lookedOf o .value .le
 unfolding lookedOf valueOf
 looked-short none small-none = leb-true 0 32 refl
 looked-short (some v) (small-some short bytes) = short
-
-pub pick : {A : Type 0} (p : A → Type 0) (b : Bool) {x y : A} → p x → p y → p (cond b x y)
-pick p true h k = h
-pick p false h k = k
 
 printed-bytes : (l : List ℕ) → every printed l ≡ true → every byte l ≡ true
 printed-bytes [] e = refl

@@ -9,7 +9,7 @@ use borrow.Author.Tests.{lt-ltb, leb-true}
 use lib.Dec.{eqb, ltb}
 use lib.ListN.{length, take, drop, getD}
 use Rattle.laws.specs.Lists.{every}
-use Rattle.laws.proofs.Bools.{both}
+use Rattle.laws.proofs.Bools.{both, pick}
 use Rattle.wire.specs.Laws.{Writable}
 use Rattle.settings.specs.Calls.{finding, setTo}
 use Rattle.settings.specs.declared.Table.{Table}
@@ -19,12 +19,12 @@ use Rattle.settings.specs.declared.Answer.{Answer}
 use Rattle.answers.specs.Parts.{identityAllowed}
 use Rattle.wire.specs.Numbers.{little, fromLittle}
 use Rattle.answers.specs.Values.{readOnly}
-use Rattle.answers.specs.Answers.{silent, sent, error, Decision, said, get, set, ping, appVersion, productId, restart, async, tells, restarts, getsOther, getsFound, gets, setsOther, stored, setsSetting, setsFound, sets, frameAnswer}
+use Rattle.answers.specs.Answers.{sent, Decision, said, get, set, ping, appVersion, productId, restart, async, tells, restarts, getsOther, getsFound, gets, setsOther, stored, setsSetting, setsFound, sets, frameAnswer}
 use Rattle.answers.specs.AsHeld.{Settled}
 use Rattle.answers.specs.Laws.{Fits, nothing, a-frame, an-error, RepliesFit}
 use Rattle.answers.specs.declared.Identity.{Identity}
 use Rattle.answers.specs.declared.Readings.{Readings}
-use Rattle.answers.proofs.Bytes.{byte, length-little, bytes-little, Small, small-some, small-read, pick}
+use Rattle.answers.proofs.Bytes.{byte, length-little, bytes-little, Small, small-some, small-read}
 use Rattle.answers.proofs.Found.{found-settled}
 
 abbrev Replies : Decision → Type 0

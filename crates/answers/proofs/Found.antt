@@ -1,7 +1,7 @@
 -- What a look-up among the settings finds. Assumes nothing.
-use mathlib.Core.Path.{_≡_, sym, ap, _∙_}
+use mathlib.Core.Path.{_≡_, ap}
 use Prim.Native.Nat.{ℕ}
-use Rattle.settings.specs.Calls.{settingAt, finding}
+use Rattle.settings.specs.Calls.{finding}
 use Rattle.settings.specs.declared.Setting.{Setting}
 use Rattle.settings.specs.declared.Found.{Found}
 use Rattle.settings.proofs.Theorems.{rows-hold, found-has-id}

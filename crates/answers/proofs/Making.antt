@@ -1,13 +1,14 @@
 -- What a frame makes of a table, and what refusals leave. Assumes nothing.
-use mathlib.Core.Path.{_≡_, refl, sym, ap, _∙_}
-use mathlib.Core.Bool.{Bool, true, false, cond, _&&_}
+use mathlib.Core.Path.{_≡_, refl, sym, _∙_}
+use mathlib.Core.Bool.{Bool, true, false, _&&_}
 use mathlib.Core.List.{List}
 use mathlib.Core.Option.{Option, none, some}
-use Prim.Native.Nat.{ℕ, _≤_, _<_}
+use Prim.Native.Nat.{ℕ}
 use native.Mathlib.Omega.{arith}
 use borrow.Author.Tests.{ltb-true, ltb-false, eqb-true, lt-leb, le-leb}
 use lib.Dec.{eqb, ltb, leb}
 use lib.ListN.{length, take, drop, getD}
+use Rattle.laws.proofs.Bools.{pick}
 use Rattle.settings.specs.Columns.{count}
 use Rattle.settings.specs.Rules.{allowed}
 use Rattle.settings.specs.Calls.{finding, setTo}
@@ -24,7 +25,6 @@ use Rattle.answers.specs.Laws.{Stays, RefusedStays, AnswerMakes, MakesKe
 use Rattle.answers.specs.declared.Identity.{Identity}
 use Rattle.answers.specs.declared.Readings.{Readings}
 use Rattle.answers.specs.declared.Outcome.{Outcome}
-use Rattle.answers.proofs.Bytes.{pick}
 
 module _ (readings : Readings) (table : Table) (identity : Identity) where
   -- commands other than a Set keep the table

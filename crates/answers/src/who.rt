@@ -1,42 +1,29 @@
 // Identities.
 ghost use mathlib.Core.Path.{_≡_};
-ghost use mathlib.Core.Bool.{true};
-ghost use lib.Dec.{eqb};
+ghost use mathlib.Core.Bool.{_&&_};
+ghost use lib.Dec.{leb};
 ghost use lib.ListN.{length};
 ghost use Prim.Native.Nat.{_≤_};
 ghost use Rattle.laws.specs.Lists.{every};
-ghost use Rattle.answers.specs.Parts.{printed, serialFits, identityOf, identityAllowed, noIdentity};
+ghost use Rattle.answers.specs.Parts.{serialFits, identityOf, identityAllowed, noIdentity};
 use crate::Identity;
 use crate::numbers;
 
-// A byte that a serial may have.
-fn is_printed(b: u8) -> bool
-    ensures { λ r. ⌜ r ≡ printed b ⌝ }
+// A byte from one end to another.
+fn is_within(low: u8, b: u8, high: u8) -> bool
+    ensures { λ r. ⌜ r ≡ (leb low b && leb b high) ⌝ }
 {
-    (numbers::FIRST_PRINTED <= b) & (b <= numbers::LAST_PRINTED)
+    (low <= b) & (b <= high)
 }
 
-// Every byte may stand in a serial.
-fn all_printed(bytes: &[u8]) -> bool
-    ensures { λ r. ⌜ r ≡ every printed (now (bytes .entry)) ⌝ }
+// Every byte is: those of a serial, and the zeros behind it.
+fn all_within(bytes: &[u8], low: u8, high: u8) -> bool
+    ensures { λ r. ⌜ r ≡ every (λ b. leb low b && leb b high) (now (bytes .entry)) ⌝ }
 {
     let mut all = true;
     let mut i = 0;
     while i < bytes.len() {
-        all = all & is_printed(bytes[i]);
-        i += 1;
-    }
-    all
-}
-
-// Every byte is 0.
-fn all_zero(bytes: &[u8]) -> bool
-    ensures { λ r. ⌜ r ≡ every (eqb 0) (now (bytes .entry)) ⌝ }
-{
-    let mut all = true;
-    let mut i = 0;
-    while i < bytes.len() {
-        all = all & (0 == bytes[i]);
+        all = all & is_within(low, bytes[i], high);
         i += 1;
     }
     all
@@ -46,7 +33,8 @@ fn all_zero(bytes: &[u8]) -> bool
 pub(crate) fn serial_fits(serial: &[u8]) -> bool
     ensures { λ r. ⌜ r ≡ serialFits (now (serial .entry)) ⌝ }
 {
-    (serial.len() <= numbers::MOST_SERIAL) & all_printed(serial)
+    (serial.len() <= numbers::MOST_SERIAL)
+        & all_within(serial, numbers::FIRST_PRINTED, numbers::LAST_PRINTED)
 }
 
 // The identity of a product, a version and a serial.
@@ -89,5 +77,10 @@ pub(crate) fn is_identity(identity: Identity) -> bool
     if numbers::MOST_SERIAL < len {
         return false;
     }
-    all_printed(&serial[..len]) & all_zero(&serial[len..])
+    all_within(
+        &serial[..len],
+        numbers::FIRST_PRINTED,
+        numbers::LAST_PRINTED,
+    )
+        & all_within(&serial[len..], 0, 0)
 }

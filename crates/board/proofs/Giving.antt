@@ -1,27 +1,27 @@
 -- A board is allowed exactly when a start, readings and bytes give it. Assumes nothing.
-use mathlib.Core.Path.{_≡_, refl, sym, ap, subst, _∙_}
+use mathlib.Core.Path.{_≡_, refl, ap, subst, _∙_}
 use mathlib.Core.Bool.{Bool, true, false, _&&_}
 use mathlib.Core.List.{List, []}
 use Prim.Native.Nat.{ℕ}
 use borrow.Author.Tests.{leb-true}
-use lib.ListN.{length, take}
+use lib.ListN.{length}
 use lib.Seq.{take-length}
 use lib.IntN.{pos}
 use Rattle.laws.specs.Promise.{Given}
 use Rattle.laws.proofs.Bools.{both}
-use Rattle.wire.specs.Stream.{outside, framesOf, leftBy, taken}
+use Rattle.wire.specs.Stream.{outside, framesOf, leftBy}
 use Rattle.wire.specs.Calls as wire
 use Rattle.wire.proofs.Reached.{left-quietly, unfinished-kept}
 use Rattle.wire.proofs.Streams.{quiet-all}
-use Rattle.settings.specs.Columns.{count, factory}
+use Rattle.settings.specs.Columns.{count}
 use Rattle.settings.specs.Rules.{allowed}
 use Rattle.settings.specs.declared.Table.{Table}
-use Rattle.answers.specs.Parts.{serialFits, serialOf, identityOf, noReadings}
+use Rattle.answers.specs.Parts.{serialFits, serialOf}
 use Rattle.answers.specs.declared.Identity.{Identity}
 use Rattle.answers.proofs.Serials.{identity-back, serial-fits-back}
 use Rattle.board.specs.Parts.{freshBoard, sampleFits, readingsOf, boardAllowed}
-use Rattle.board.specs.Calls.{refusedStart, starting, withReadings, storing, endedIn, deciding, decidedBy, heardBy, answering}
-use Rattle.board.specs.Laws.{atRest, Given-by, a-start, a-store, a-call, Typed, AllowedIsGiven}
+use Rattle.board.specs.Calls.{refusedStart, starting, storing, endedIn, deciding, decidedBy, heardBy, answering}
+use Rattle.board.specs.Laws.{Given-by, a-start, a-store, a-call, Typed, AllowedIsGiven}
 use Rattle.board.specs.declared.Board.{Board}
 use Rattle.board.specs.declared.Sample.{Sample}
 use Rattle.board.specs.declared.Answered.{Answered}

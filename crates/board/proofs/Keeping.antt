@@ -1,5 +1,5 @@
 -- What a call keeps: an allowed board stays allowed, and a refusal leaves settings and readings as they were. Assumes nothing.
-use mathlib.Core.Path.{_≡_, refl, sym, ap, subst, _∙_}
+use mathlib.Core.Path.{_≡_, refl}
 use mathlib.Core.Bool.{Bool, true, false}
 use mathlib.Core.List.{List, [], _∷_}
 use Prim.Native.Nat.{ℕ, _≤_, _<_}
@@ -15,7 +15,6 @@ use Rattle.wire.specs.Calls as wire
 use Rattle.wire.proofs.Reached.{heard-allowed}
 use Rattle.settings.specs.Columns.{count}
 use Rattle.settings.specs.Rules.{allowed}
-use Rattle.answers.specs.Answers.{Decision, frameAnswer}
 use Rattle.answers.specs.Laws.{Stays}
 use Rattle.answers.specs.declared.Outcome.{Outcome}
 use Rattle.answers.proofs.Theorems.{answer-makes-it, makes-keeps-allowed, refused-stays-it}

@@ -1,6 +1,6 @@
 -- A piece of input heard by a board, by what happened on its line. Assumes nothing.
 use mathlib.Core.Path.{_≡_, refl, sym, ap, subst, _∙_}
-use mathlib.Core.Bool.{Bool, true, false, not, _&&_}
+use mathlib.Core.Bool.{true, false, _&&_}
 use mathlib.Core.List.{List, [], _∷_}
 use Prim.Native.Nat.{ℕ, _≤_, _<_}
 use native.Mathlib.Omega.{arith}
@@ -8,11 +8,11 @@ use borrow.Author.Tests.{leb-true, lt-ltb, le-ltb}
 use lib.ListN.{length, take}
 use Rattle.laws.specs.Promise.{Given, Gives, overlaid}
 use Rattle.laws.proofs.Promise.{gives-none}
-use Rattle.laws.proofs.Bools.{and-left, and-right, both}
+use Rattle.laws.proofs.Bools.{and-left, and-right}
 use Rattle.wire.specs.Reading.{Ended, good, refused}
 use Rattle.wire.specs.Stream.{taken}
 use Rattle.wire.specs.Calls as wire
-use Rattle.wire.specs.Laws.{Writable, Writables, nothing, broken, whole}
+use Rattle.wire.specs.Laws.{Writables, whole}
 use Rattle.wire.specs.declared.Event.{Event}
 use Rattle.wire.specs.declared.Held.{Held}
 use Rattle.wire.specs.declared.Heard.{Heard}

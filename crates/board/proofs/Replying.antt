@@ -1,8 +1,8 @@
 -- What the other end reads in a reply, and what a board makes of a whole frame. Assumes nothing.
-use mathlib.Core.Path.{_≡_, refl, sym, ap, subst, _∙_}
-use mathlib.Core.Bool.{true, false}
+use mathlib.Core.Path.{_≡_, refl, ap, _∙_}
+use mathlib.Core.Bool.{true}
 use mathlib.Core.List.{List, [], _∷_, _++_, append-nil}
-use Prim.Native.Nat.{ℕ, _≤_, _<_, _^_}
+use Prim.Native.Nat.{ℕ, _≤_, _<_}
 use native.Mathlib.Omega.{arith}
 use borrow.Author.Tests.{leb-true}
 use lib.ListN.{length, take}
@@ -10,9 +10,9 @@ use lib.Seq.{take-length}
 use Rattle.wire.specs.Digits.{digit}
 use Rattle.wire.specs.Frame.{check, body, frame}
 use Rattle.wire.specs.Reading.{Ended, good, refused}
-use Rattle.wire.specs.Stream.{Unfinished, outside, framesFrom, framesOf, leftFrom, leftBy, taken}
+use Rattle.wire.specs.Stream.{outside, framesOf, leftBy, taken}
 use Rattle.wire.specs.Calls as wire
-use Rattle.wire.specs.Laws.{Bytes, Writable, Writables, nothing, broken, whole}
+use Rattle.wire.specs.Laws.{Writable, Writables, nothing, whole}
 use Rattle.wire.proofs.Frames.{length-frame}
 use Rattle.wire.proofs.Reached.{unfinished-kept}
 use Rattle.wire.proofs.Theorems.{written-is-heard, heard-is-writable}
@@ -27,7 +27,7 @@ use Rattle.answers.proofs.Bytes.{length-little, bytes-little}
 use Rattle.answers.proofs.Fitting.{writable-said}
 use Rattle.board.specs.Parts.{boardAllowed}
 use Rattle.board.specs.Calls.{errorFrame, replyBytes, endedIn, deciding, decidedBy, heardBy, answering}
-use Rattle.board.specs.Laws.{meant, Readable, ReplyIsRead, atRest, WholeIsAnswered, asks, GetAnswersHeld, sets, SetStoresIt, SetRefusedNamesNearest}
+use Rattle.board.specs.Laws.{Readable, ReplyIsRead, atRest, WholeIsAnswered, asks, GetAnswersHeld, sets, SetStoresIt, SetRefusedNamesNearest}
 use Rattle.board.specs.declared.Board.{Board}
 use Rattle.board.proofs.Lines.{identity-allowed, table-allowed, answering-heard}
 

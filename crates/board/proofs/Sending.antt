@@ -1,6 +1,6 @@
 -- What is sent of a decision, as it is held, is the bytes of its reply. Assumes nothing.
 use mathlib.Core.Path.{_≡_, refl, sym, ap, _∙_}
-use mathlib.Core.List.{List, []}
+use mathlib.Core.List.{List}
 use Prim.Native.Nat.{ℕ, _≤_}
 use native.Mathlib.Omega.{arith}
 use borrow.Author.Tests.{leb-true}
@@ -15,7 +15,7 @@ use Rattle.answers.specs.Answers.{Sent, silent, sent, error, Decision}
 use Rattle.answers.specs.AsHeld.{replyOf, sendsOf, replyIn, decidedOf}
 use Rattle.answers.specs.Laws.{Fits, nothing, a-frame, an-error}
 use Rattle.answers.specs.declared.Decided.{Decided}
-use Rattle.board.specs.Calls.{errorFrame, replyBytes, decidedBy}
+use Rattle.board.specs.Calls.{replyBytes, decidedBy}
 use Rattle.board.specs.AsHeld.{whole, sentBy}
 use Rattle.board.specs.declared.Board.{Board}
 use Rattle.board.specs.declared.Answered.{Answered}

@@ -19,7 +19,6 @@ use Rattle.settings.specs.declared.Table.{Table}
 use Rattle.answers.specs.Parts.{mostSerial, serialFits, serialOf, noReadings}
 use Rattle.wire.specs.Numbers.{little}
 use Rattle.answers.specs.Answers.{Sent, silent, sent, error, said, get, set, frameAnswer}
-use Rattle.answers.specs.declared.Readings.{Readings}
 use Rattle.answers.specs.declared.Verdict.{Verdict}
 use Rattle.answers.specs.declared.Outcome.{Outcome}
 use Rattle.board.specs.Parts.{within, sampleFits, readingsOf, boardAllowed}

@@ -1,7 +1,7 @@
 -- What a test that is known tells of its parts. Assumes nothing.
 use mathlib.Core.Path.{_≡_, refl, sym}
 use mathlib.Core.Logic.{_⊎_, inl, inr}
-use mathlib.Core.Bool.{Bool, true, false, _&&_, _||_, false≢true}
+use mathlib.Core.Bool.{Bool, true, false, cond, _&&_, _||_, false≢true}
 
 pub and-left : (a b : Bool) → (a && b) ≡ true → a ≡ true
 and-left true b e = refl
@@ -38,3 +38,8 @@ pub same-test : (a b : Bool) → (a ≡ true → b ≡ true) → (b ≡ true →
 same-test true b f g = sym (f refl)
 same-test false true f g = g refl
 same-test false false f g = refl
+
+-- what holds of both holds of the one that a test decides on
+pub pick : {A : Type 0} (p : A → Type 0) (b : Bool) {x y : A} → p x → p y → p (cond b x y)
+pick p true h k = h
+pick p false h k = k

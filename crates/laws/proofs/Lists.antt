@@ -8,10 +8,10 @@ use Prim.Native.Nat.{ℕ, zero, suc, _+_, _%_, _≤_, _<_, _-_, min}
 use native.Mathlib.Numerals.{add-one}
 use native.Mathlib.Omega.{arith}
 use lib.ListN.{length, getD, take, drop, set, replicate, length-drop, drop-of-length-le}
-use lib.Dec.{eqb}
-use borrow.Author.Tests.{eqb-true}
+use lib.Dec.{eqb, leb}
+use borrow.Author.Tests.{eqb-true, eq-eqb, leb-true, le-leb}
 use lib.Seq.{drop-cons, sets, take-nil, take-all}
-use Rattle.laws.proofs.Bools.{and-left, and-right}
+use Rattle.laws.proofs.Bools.{and-left, and-right, both, same-test}
 use Rattle.laws.specs.Lists.{every, before, sumOf, upTo}
 
 module _ (l : List ℕ) (i : ℕ) (h : i < length l) where
@@ -150,3 +150,14 @@ upTo-all (suc n) p h = rw (upTo-all n p (λ k less. h k (omega arith)), h n (ome
 -- a list from a place to its end
 pub part-to-end : (l : List ℕ) (n i : ℕ) → length l ≡ n → take (n - i) (drop i l) ≡ drop i l
 part-to-end l n i e = take-all (n - i) (drop i l) (rw length-drop (omega arith))
+
+-- from 0 to 0 is 0
+zero-only : (b : ℕ) → (leb 0 b && leb b 0) ≡ eqb 0 b
+zero-only b =
+    same-test (leb 0 b && leb b 0) (eqb 0 b)
+    (λ e. let none : b ≤ 0 = leb-true b 0 (and-right (leb 0 b) (leb b 0) e) in let is : 0 ≡ b = omega arith in eq-eqb 0 b is)
+    (λ e. let is : 0 ≡ b = eqb-true 0 b e in both (leb 0 b) (leb b 0) (le-leb 0 b (omega arith)) (le-leb b 0 (omega arith)))
+
+pub zero-within : (l : List ℕ) → every (λ b. leb 0 b && leb b 0) l ≡ every (eqb 0) l
+zero-within [] = refl
+zero-within (b ∷ l) = ap₂ (λ (s t : Bool). s && t) (zero-only b) (zero-within l)

@@ -9,7 +9,7 @@ use Rattle.laws.proofs.Lists.{upTo-at, before-first}
 use Rattle.settings.specs.Columns.{count, ids, idAt, widthAt, lowAt, highAt, factoryAt, partnerAt, roleAt}
 use Rattle.settings.specs.Rules.{inRange, agrees, lowAgrees, highAgrees}
 use Rattle.settings.specs.Calls.{settingAt, placing, placeOf, finding}
-use Rattle.settings.specs.Laws.{Row, FindIsFound, FoundHasId}
+use Rattle.settings.specs.Laws.{Row, PlaceIsFound, FindIsFound, FoundHasId}
 use Rattle.settings.specs.declared.Setting.{Setting}
 use Rattle.settings.specs.declared.Found.{Found}
 use Rattle.settings.proofs.Pairs.{parts-opposite, alone-none}
@@ -54,9 +54,13 @@ placed-id : (id : ℕ) → placeOf id < count → idAt (placeOf id) ≡ id
 unfolding placeOf
 placed-id id h = eqb-true _ _ (before-first (λ x. eqb x id) ids .some h)
 
+pub place-found : PlaceIsFound
+unfolding placing
+place-found k h = rw (lt-ltb k count h)
+
 pub find-found : FindIsFound
-unfolding finding placing
-find-found k h = rw (placed k h, lt-ltb k count h)
+unfolding finding
+find-found k h = rw (placed k h) (place-found k h)
 
 pub found-id : FoundHasId
 unfolding finding placing

@@ -9,6 +9,7 @@ use Rattle.settings.specs.declared.Change.{Change}
 use mathlib.Core.Bool.{Bool}
 use Rattle.settings.proofs.find.Reads as find
 use Rattle.settings.proofs.at.Reads as at
+use Rattle.settings.proofs.in_range.Reads as in-range
 use Rattle.settings.proofs.nearest.Reads as nearest
 use Rattle.settings.proofs.Table.factory.Reads as factory
 use Rattle.settings.proofs.Table.is_allowed.Reads as is-allowed
@@ -37,3 +38,7 @@ number-same t index r r′ met met′ = equal-same met met′
 pub set-same : (t : Table) (index n : ℕ) (r r′ : Change) → set.Post tt (t, (index, (n, tt))) r (t, (index, (n, tt)))
     → set.Post tt (t, (index, (n, tt))) r′ (t, (index, (n, tt))) → r ≡ r′
 set-same t index n r r′ met met′ = equal-same met met′
+
+pub in-range-same : (index number : ℕ) (r r′ : Bool) → in-range.Post tt (index, (number, tt)) r (index, (number, tt))
+    → in-range.Post tt (index, (number, tt)) r′ (index, (number, tt)) → r ≡ r′
+in-range-same index number r r′ met met′ = equal-same met met′

@@ -1,10 +1,10 @@
 -- The statements of specs/Laws.antt, proved. Assumes nothing.
 use mathlib.Core.Path.{refl}
 use Rattle.settings.specs.Rules.{inRange, lowAgrees, highAgrees, agrees, allowedFor, allowed}
-use Rattle.settings.specs.Laws.{NearestIsFound, NearestIsOne, SetStores, RefusedNamesNearest, SetKeepsAllowed, RefusedKeeps, SetKeepsCount, SetChangesOne, AllowedHasRoom, RowsHold, IdsAreCount, FactoryIsAllowed, FindIsFound, FoundHasId, PairsHaveAnOrder}
+use Rattle.settings.specs.Laws.{NearestIsFound, NearestIsOne, SetStores, RefusedNamesNearest, SetKeepsAllowed, RefusedKeeps, SetKeepsCount, SetChangesOne, RangeHasRoom, AllowedHasRoom, RowsHold, IdsAreCount, FactoryIsAllowed, PlaceIsFound, FindIsFound, FoundHasId, PairsHaveAnOrder}
 use Rattle.settings.proofs.Nearness.{nearest-one}
-use Rattle.settings.proofs.Windows.{nearest-found, allowed-room}
-use Rattle.settings.proofs.Rows.{row-holds, find-found, found-id}
+use Rattle.settings.proofs.Windows.{nearest-found, range-room, allowed-room}
+use Rattle.settings.proofs.Rows.{row-holds, place-found, find-found, found-id}
 use Rattle.settings.proofs.Tables.{set-stores, refused-names, set-allowed, refused-keeps, set-count, set-one, pairs-order}
 
 pub nearest-is-found : NearestIsFound
@@ -31,6 +31,9 @@ set-keeps-count = set-count
 pub set-changes-one : SetChangesOne
 set-changes-one = set-one
 
+pub range-has-room : RangeHasRoom
+range-has-room = range-room
+
 pub allowed-has-room : AllowedHasRoom
 allowed-has-room = allowed-room
 
@@ -43,6 +46,9 @@ factory-is-allowed = refl
 
 pub ids-are-count : IdsAreCount
 ids-are-count = refl
+
+pub place-is-found : PlaceIsFound
+place-is-found = place-found
 
 pub find-is-found : FindIsFound
 find-is-found = find-found

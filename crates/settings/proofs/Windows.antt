@@ -10,7 +10,7 @@ use Rattle.laws.proofs.Bools.{and-left, and-right, both, same-test, or-cases}
 use Rattle.settings.specs.Columns.{count, widthAt, lowAt, highAt, zeroAt, partnerAt, roleAt}
 use Rattle.settings.specs.Rules.{inWindow, inRange, agrees, allowedFor, Nearest, nearestOf}
 use Rattle.settings.specs.Calls.{partnerFits}
-use Rattle.settings.specs.Laws.{AllowedHasRoom}
+use Rattle.settings.specs.Laws.{RangeHasRoom, AllowedHasRoom}
 use Rattle.settings.specs.declared.columns.Role.{Role}
 use Rattle.settings.proofs.Nearness.{window-zero, window-row, window-cases, seek-nearest}
 use Rattle.settings.proofs.Rows.{low-high, high-small, row-holds}
@@ -75,18 +75,24 @@ module _ (k partner : ℕ) (h : k < count) (fit : partnerFits k partner ≡ true
   allowed-some =
       ⊎-elim (λ a. (lowAt k, lower-end (eqb-true _ _ a))) (λ b. (partner, as-partner b)) (or-cases (eqb (partnerAt k) k) _ fit)
 
--- what is allowed is at most the upper end, so it has room in its width
-allowed-most : (k m partner : ℕ) → allowedFor k m partner ≡ true → m ≤ highAt k
-unfolding allowedFor inRange
-allowed-most k m partner e =
-    ⊎-elim (λ c. let is : m ≡ 0 = c .1 in omega arith) (λ c. c .1)
-    (window-cases (zeroAt k) (lowAt k) (highAt k) m (and-left _ (agrees (roleAt k) m partner) e))
+-- what is in range is at most the upper end, so it has room in its width
+range-most : (k m : ℕ) → inRange k m ≡ true → m ≤ highAt k
+unfolding inRange
+range-most k m e = ⊎-elim (λ c. let is : m ≡ 0 = c .1 in omega arith) (λ c. c .1) (window-cases (zeroAt k) (lowAt k) (highAt k) m e)
 
-pub allowed-room : AllowedHasRoom
-allowed-room k m partner h e =
-    let most : m ≤ highAt k = allowed-most k m partner e in
+allowed-most : (k m partner : ℕ) → allowedFor k m partner ≡ true → m ≤ highAt k
+unfolding allowedFor
+allowed-most k m partner e = range-most k m (and-left (inRange k m) (agrees (roleAt k) m partner) e)
+
+pub range-room : RangeHasRoom
+range-room k m h e =
+    let most : m ≤ highAt k = range-most k m e in
     let room : highAt k < 256 ^ widthAt k = row-holds k h .width-holds in
     omega arith
+
+pub allowed-room : AllowedHasRoom
+unfolding allowedFor
+allowed-room k m partner h e = range-room k m h (and-left (inRange k m) (agrees (roleAt k) m partner) e)
 
 -- "one always exists": the search finds it
 pub nearest-found : (k wished partner : ℕ) → k < count → partnerFits k partner ≡ true → wished < 65536

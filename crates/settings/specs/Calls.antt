@@ -36,6 +36,10 @@ placeOf id = before (λ x. eqb x id) ids
 unfoldable pub finding : ℕ → Found
 finding id = placing (placeOf id)
 
+-- "outside own range", for any place
+unfoldable pub ranging : ℕ → ℕ → Bool
+ranging k n = ltb k count && inRange k n
+
 -- a setting's number; 12 for a table that is not allowed or a place past it
 unfoldable pub holding : Table → ℕ → Number
 holding t k = cond (allowed t && ltb k count) (Number.Is (numberAt t k)) (Number.Refused notAllowed)

@@ -7,7 +7,7 @@ use mathlib.Core.Bool.{true, false}
 use lib.ListN.{length}
 use Rattle.settings.specs.Columns.{count, ids, idAt, widthAt, lowAt, highAt, factoryAt, factory, partnerAt, roleAt}
 use Rattle.settings.specs.Rules.{inRange, agrees, allowedFor, allowed, numberAt, partnerNumber, Nearest, nearestOf}
-use Rattle.settings.specs.Calls.{settingAt, finding, partnerFits, setTo, numberNotAllowed}
+use Rattle.settings.specs.Calls.{settingAt, placing, finding, partnerFits, setTo, numberNotAllowed}
 use Rattle.settings.specs.declared.columns.Role.{Role}
 use Rattle.settings.specs.declared.Setting.{Setting}
 use Rattle.settings.specs.declared.Found.{Found}
@@ -70,7 +70,10 @@ pub record Row (k : ℕ) : Type 0 where
   pub factory-in : inRange k (factoryAt k) ≡ true
   pub factory-agrees : agrees (roleAt k) (factoryAt k) (factoryAt (partnerAt k)) ≡ true
 
--- an allowed number has room in its setting's width
+-- a number in its setting's own range, so an allowed one too, has room in the setting's width
+abbrev pub RangeHasRoom : Type 0
+RangeHasRoom = (k n : ℕ) → k < count → inRange k n ≡ true → n < 256 ^ widthAt k
+
 abbrev pub AllowedHasRoom : Type 0
 AllowedHasRoom = (k n partner : ℕ) → k < count → allowedFor k n partner ≡ true → n < 256 ^ widthAt k
 
@@ -83,7 +86,10 @@ IdsAreCount = length ids ≡ count
 abbrev pub FactoryIsAllowed : Type 0
 FactoryIsAllowed = allowed factory ≡ true
 
--- 4. A look-up finds each setting by its id, and what it finds is a setting of the table with that id.
+-- 4. A look-up finds each setting at its place and by its id, and what it finds is a setting of the table with that id.
+abbrev pub PlaceIsFound : Type 0
+PlaceIsFound = (k : ℕ) → k < count → placing k ≡ Found.At (settingAt k)
+
 abbrev pub FindIsFound : Type 0
 FindIsFound = (k : ℕ) → k < count → finding (idAt k) ≡ Found.At (settingAt k)
 

@@ -3,7 +3,7 @@
 ghost use mathlib.Core.Path.{_≡_};
 ghost use Rattle.settings.specs.Columns.{factory};
 ghost use Rattle.settings.specs.Rules.{allowed};
-ghost use Rattle.settings.specs.Calls.{finding, placing, holding, setTo, nearing};
+ghost use Rattle.settings.specs.Calls.{finding, placing, ranging, holding, setTo, nearing};
 ghost use Rattle.settings.specs.declared.Answer.{Answer};
 
 mod columns;
@@ -75,6 +75,16 @@ pub fn at(index: usize) -> Found
         id: columns::id_of(index),
         width: columns::width_of(index),
     })
+}
+
+// Whether a number is in the own range of the setting at a place; of none past the table.
+pub fn in_range(index: usize, number: u16) -> bool
+    ensures { λ r. ⌜ r ≡ ranging index number ⌝ }
+{
+    if COUNT <= index {
+        return false;
+    }
+    rules::in_range(index, number)
 }
 
 // The nearest allowed number for a setting, given its partner's number: 7 for an id that is no setting, 12 for a partner outside its

@@ -14,9 +14,9 @@ use Rattle.laws.proofs.Lists.{every-at, every-take, every-append, sum-append}
 use Rattle.wire.specs.Digits.{digit, nibble, isDigit}
 use Rattle.wire.specs.Frame.{colon, newline, mostChars, total, check, digitsOf, body, frame}
 use Rattle.wire.specs.Reading.{Ended, good, refused, bytesOf, commandOf, payloadOf, dataOf, badCount, sumsUp, bodySays, brokenSays}
-use Rattle.wire.specs.Stream.{Unfinished, outside, inside, next, framesFrom, leftFrom, taken}
+use Rattle.wire.specs.Stream.{outside, inside, next, framesFrom, leftFrom, taken}
 use Rattle.wire.specs.Calls.{stays, between, wellEnclosed, reading, readAs, writing, writtenAs}
-use Rattle.wire.specs.Laws.{Bytes, Writable, Writables, nothing, broken, whole, HeardIsWritable}
+use Rattle.wire.specs.Laws.{Bytes, Writables, nothing, broken, whole, HeardIsWritable}
 use Rattle.wire.specs.declared.Read.{Read}
 use Rattle.wire.proofs.Nibbles.{nibble-digit, digit-nibble, digit-isDigit, digit-stays, nibble-at}
 use Rattle.wire.proofs.Bytes.{length-bytesOf, length-data, odd-count}

@@ -1,15 +1,17 @@
 -- What each public call answers, for every input. Document 01, "Numbers of refusal": "The order is 11, 12, then 1 to 10 as listed."
 -- Assumes nothing.
-use Prim.Native.Nat.{ℕ, zero, _-_, min}
+use Prim.Native.Nat.{ℕ, zero, _-_, _/_, _%_, min}
 use mathlib.Core.Bool.{Bool, true, false, cond, not, _&&_, _||_}
 use mathlib.Core.List.{List, [], _∷_, _++_}
 use lib.ListN.{length, take, drop, getD, replicate}
 use lib.Dec.{ltb, leb, eqb}
 use Rattle.laws.specs.Lists.{every}
 use Rattle.laws.specs.Promise.{Given}
+use Rattle.wire.specs.Digits.{digit}
 use Rattle.wire.specs.Frame.{colon, newline, frame, mostNibble, mostData, frameRoom}
 use Rattle.wire.specs.Reading.{Ended, good, refused, bodySays}
 use Rattle.wire.specs.Stream.{Unfinished, outside, inside, endsFrame, framesFrom, leftFrom, taken}
+use Rattle.wire.specs.declared.Pair.{Pair}
 use Rattle.wire.specs.declared.Written.{Written}
 use Rattle.wire.specs.declared.Read.{Read}
 use Rattle.wire.specs.declared.Event.{Event}
@@ -23,6 +25,10 @@ shortBuffer = 11
 -- 12: "a handed-in number, state or table is not allowed"
 abbrev pub notAllowed : ℕ
 notAllowed = 12
+
+-- "data bytes as two digits each": both digits of a byte, the high nibble first
+abbrev pub pairOf : ℕ → Pair
+pairOf b = record { high = digit (b / 16); low = digit (b % 16) }
 
 -- The frame writer. "The frame writer refuses 11 (75 bytes), then 12 for a nibble over 15 or data over 35 bytes."
 

@@ -1,17 +1,14 @@
 // Hex digits, made and read here alone. Document 01, Frames: "`0`-`9`, `A`-`F` only."
-ghost use Prim.Native.Nat.{_+_, _*_, _/_, _%_, _<_};
+ghost use Prim.Native.Nat.{_+_, _*_, _<_};
 ghost use mathlib.Core.Path.{_≡_};
 ghost use Rattle.wire.specs.Digits.{digit, nibble};
+ghost use Rattle.wire.specs.Calls.{pairOf};
+use crate::Pair;
 
 const TEN: u8 = 10;
 
-const NO_NIBBLE: u8 = 16;
-
-// A byte as two digits.
-pub(crate) struct Pair {
-    pub(crate) high: u8,
-    pub(crate) low: u8,
-}
+// No nibble: what a character that is no digit stands for.
+pub(crate) const NO_NIBBLE: u8 = 16;
 
 // The character of a nibble.
 pub(crate) fn digit_of(n: u8) -> u8
@@ -42,7 +39,7 @@ pub(crate) fn nibble_of(c: u8) -> u8
 
 // Both digits of a byte, the high nibble first.
 pub(crate) fn pair_of(byte: u8) -> Pair
-    ensures { λ r. ⌜ (r .high ≡ digit (byte / 16)) × (r .low ≡ digit (byte % 16)) ⌝ }
+    ensures { λ r. ⌜ r ≡ pairOf byte ⌝ }
 {
     Pair {
         high: digit_of(byte / 16),

@@ -1,7 +1,9 @@
 // Frames and the stream of document 01, for both ends of the line: a frame written, a frame read whole, and the stream read piece by
 // piece. Every call takes anything, and its promise fixes its answer and every lent byte (specs/Calls.antt).
+ghost use Rattle.laws.specs.Lists.{every};
 ghost use Rattle.laws.specs.Promise.{Gives};
-ghost use Rattle.wire.specs.Calls.{writing, reading, hearing, heldOf};
+ghost use Rattle.wire.specs.Digits.{isDigit};
+ghost use Rattle.wire.specs.Calls.{pairOf, writing, reading, hearing, heldOf};
 ghost use Rattle.wire.specs.Stream.{outside};
 ghost use Rattle.wire.specs.declared.Written.{Written};
 ghost use Rattle.wire.specs.declared.Read.{Read};
@@ -14,6 +16,12 @@ mod numbers;
 mod reader;
 mod stream;
 mod writer;
+
+// A byte as two digits.
+pub struct Pair {
+    pub high: u8,
+    pub low: u8,
+}
 
 // What the frame writer answers: the frame's length, or document 01's number of the refusal.
 pub enum Written {
@@ -47,6 +55,20 @@ pub struct Heard {
     pub held: Held,
     pub event: Event,
     pub taken: usize,
+}
+
+// Both digits of a byte, the high nibble first.
+pub fn pair_of(byte: u8) -> Pair
+    ensures { λ r. ⌜ r ≡ pairOf byte ⌝ }
+{
+    digits::pair_of(byte)
+}
+
+// Whether every character is a digit.
+pub fn all_digits(chars: &[u8]) -> bool
+    ensures { λ r. ⌜ r ≡ every isDigit (now (chars .entry)) ⌝ }
+{
+    reader::all_digits(chars)
 }
 
 // Writes the frame of a command and its data to the front of `out`. Refuses 11 under 75 bytes of room, then 12 for a nibble over 15 or

@@ -27,13 +27,13 @@ pub(crate) fn well_enclosed(frame: &[u8]) -> bool
 }
 
 // Every character is a digit. There is no early way out, so that the compiler may look at many at a time.
-fn all_digits(chars: &[u8]) -> bool
+pub(crate) fn all_digits(chars: &[u8]) -> bool
     ensures { λ r. ⌜ r ≡ every isDigit (now (chars .entry)) ⌝ }
 {
     let mut all = true;
     let mut i = 0;
     while i < chars.len() {
-        all = all & (digits::nibble_of(chars[i]) < 16);
+        all = all & (digits::nibble_of(chars[i]) < digits::NO_NIBBLE);
         i += 1;
     }
     all

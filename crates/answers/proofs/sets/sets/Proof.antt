@@ -1,8 +1,8 @@
 -- `answers::sets::sets` meets its contract. Assumes nothing.
-use mathlib.Core.Path.{_≡_, refl, ap, sym, _∙_}
+use mathlib.Core.Path.{refl, ap, sym, _∙_}
 use native.Mathlib.Omega.{arith}
 use borrow.Author.Needs.{needs}
-use lib.ListN.{length, length-take, drop}
+use lib.ListN.{length-take}
 use Rattle.laws.proofs.Lists.{part-to-end}
 use Rattle.answers.specs.AsHeld.{decidedOf}
 use Rattle.answers.proofs.Found.{found-settled}

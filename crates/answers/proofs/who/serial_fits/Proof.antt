@@ -3,15 +3,15 @@ use Rattle.answers.specs.Parts.{serialFits}
 use Rattle.answers.proofs.who.serial_fits.Statement.{statement}
 use Rattle.answers.proofs.who.serial_fits.Tie as tie
 
-all-printed-requires : tie.Need-all-printed-requires
-all-printed-requires c κs = tt
+all-within-requires : tie.Need-all-within-requires
+all-within-requires c κs = tt
 
 returns : tie.Need-returns
 unfolding serialFits
-returns c = rw (c .all-printed .ensures)
+returns c = rw (c .all-within .ensures)
 
 pub serial-fits-spec : {M : Type 1} → statement M
 serial-fits-spec =
     tie.close
     (tie.spec
-    all-printed-requires returns)
+    all-within-requires returns)

@@ -1,6 +1,5 @@
 -- `board::line::framed` meets its contract. Assumes nothing.
 use mathlib.Core.Path.{_≡_, ap, sym, _∙_}
-use mathlib.Core.Bool.{true, _&&_}
 use Prim.Native.Nat.{_<_}
 use borrow.Author.Needs.{needs}
 use denote.Ref.{now}
@@ -9,7 +8,6 @@ use Rattle.answers.specs.Parts.{identityAllowed}
 use Rattle.answers.specs.AsHeld.{decidedOf}
 use Rattle.answers.specs.Answers.{Decision, frameAnswer}
 use Rattle.answers.specs.Laws.{Fits}
-use Rattle.answers.specs.declared.Decided.{Decided}
 use Rattle.answers.proofs.Deciding.{answer-given}
 use Rattle.answers.proofs.Fitting.{replies-fit}
 use Rattle.board.proofs.Sending.{Sendable, sendable, decided-is}

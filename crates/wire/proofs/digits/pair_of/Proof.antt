@@ -10,7 +10,7 @@ digit-of-requires-2 : tie.Need-digit-of-requires-2
 digit-of-requires-2 c κs = search needs
 
 returns : tie.Need-returns
-returns c = (c .before .digit-of .ensures, c .digit-of2 .ensures)
+returns c = rw (c .before .digit-of .ensures, c .digit-of2 .ensures)
 
 pub pair-of-spec : {M : Type 1} → statement M
 pair-of-spec = tie.close (tie.spec digit-of-requires digit-of-requires-2 returns)

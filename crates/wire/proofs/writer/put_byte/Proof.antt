@@ -20,7 +20,7 @@ same-length : tie.Need-same-length
 same-length c = search needs
 
 returns : tie.Need-returns
-returns c = rw (c .pair-of .ensures .0, c .pair-of .ensures .1, add-one)
+returns c = rw (c .pair-of .ensures, add-one)
 
 pub put-byte-spec : {M : Type 1} → statement M
 put-byte-spec =

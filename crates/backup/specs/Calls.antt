@@ -1,0 +1,35 @@
+-- What each public call answers, for every input. Assumes nothing.
+use Prim.Native.Nat.{ℕ}
+use mathlib.Core.Bool.{cond, not}
+use mathlib.Core.List.{List, []}
+use lib.ListN.{length}
+use lib.Dec.{ltb}
+use Rattle.laws.specs.Promise.{Given}
+use Rattle.settings.specs.Columns.{factory}
+use Rattle.settings.specs.Rules.{allowed}
+use Rattle.settings.specs.declared.Table.{Table}
+use Rattle.backup.specs.Text.{textOf, Says, good, refused, textSays}
+use Rattle.backup.specs.declared.Written.{Written}
+use Rattle.backup.specs.declared.Verdict.{Verdict}
+use Rattle.backup.specs.declared.Backup.{Backup}
+
+-- "Writing needs 512 bytes of room." 11 under that, then 12 for a table that is not allowed
+abbrev pub textRoom : ℕ
+textRoom = 512
+
+abbrev pub unwritten : ℕ → Given Written
+unwritten number = record { answer = Written.Refused number; written = [] }
+
+abbrev pub writtenAs : List ℕ → Given Written
+writtenAs bytes = record { answer = Written.Text (length bytes); written = bytes }
+
+unfoldable pub writing : Table → ℕ → Given Written
+writing table room = cond (ltb room textRoom) (unwritten 11) (cond (not (allowed table)) (unwritten 12) (writtenAs (textOf table)))
+
+-- "A refusal returns its number, the line, the header being 1 (0 for 17 and 18) and the factory table."
+abbrev pub readAs : Says → Backup
+readAs (good table) = record { table = table; verdict = Verdict.Accepted }
+readAs (refused number line) = record { table = factory; verdict = Verdict.Refused number line }
+
+unfoldable pub reading : List ℕ → Backup
+reading text = readAs (textSays text)

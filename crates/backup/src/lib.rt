@@ -1,0 +1,60 @@
+// The backup text: a table written as lines, and a text read back, line by line. Every call takes anything, and its promise fixes its
+// answer and every lent byte (specs/Calls.antt).
+ghost use mathlib.Core.Path.{_≡_};
+ghost use lib.ListN.{length};
+ghost use Rattle.laws.specs.Promise.{Gives};
+ghost use Rattle.backup.specs.Calls.{writing, reading};
+ghost use Rattle.backup.specs.declared.Written.{Written};
+use settings::Table;
+
+mod decimals;
+mod line;
+mod numbers;
+mod reader;
+mod writer;
+
+// What the writer answers: the text's length, or document 01's number of the refusal.
+pub enum Written {
+    Text(usize),
+    Refused(u8),
+}
+
+// What the reader answers: accepted, or the number of the refusal and the line, the header being 1 (0 for 17 and 18).
+pub enum Verdict {
+    Accepted,
+    Refused { number: u8, line: usize },
+}
+
+// A text read: its table, or the factory table where it is refused.
+pub struct Backup {
+    pub table: Table,
+    pub verdict: Verdict,
+}
+
+// Writes a table as text to the front of `out`. Refuses 11 under 512 bytes of room, then 12 for a table that is not allowed; then nothing
+// is written.
+pub fn write(table: Table, out: &mut [u8]) -> Written
+    ensures { λ r. ⌜ Gives Written (writing table (length (now (out .entry)))) (now (out .entry)) r (now (out .exit)) ⌝ }
+{
+    if out.len() < numbers::TEXT_ROOM {
+        return Written::Refused(numbers::SHORT_BUFFER);
+    }
+    if !table.is_allowed() {
+        return Written::Refused(numbers::NOT_ALLOWED);
+    }
+    let held = table.numbers;
+    Written::Text(writer::put_text(held, out))
+}
+
+// Reads a text: 13 for another first line, then line by line 14, 15, 16, then 18, then 17.
+pub fn read(text: &[u8]) -> Backup
+    ensures { λ r. ⌜ r ≡ reading (now (text .entry)) ⌝ }
+{
+    if text.len() < numbers::HEADER_LEN {
+        return reader::refused(numbers::OTHER_HEADER, 1);
+    }
+    if !reader::is_header(&text[..numbers::HEADER_LEN]) {
+        return reader::refused(numbers::OTHER_HEADER, 1);
+    }
+    reader::read_lines(&text[numbers::HEADER_LEN..])
+}

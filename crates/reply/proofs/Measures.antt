@@ -1,0 +1,79 @@
+-- A reading that a board sends is shown as its whole number, divided once. Assumes nothing.
+use mathlib.Core.Path.{_≡_, refl, sym, ap, _∙_}
+use mathlib.Core.Bool.{true}
+use mathlib.Core.List.{List}
+use mathlib.Core.Option.{Option, some, Option·none-ne-some, Option·some-injective}
+use Prim.Native.Nat.{ℕ, _*_, _^_, _<_}
+use native.Mathlib.Omega.{arith}
+use borrow.Author.Tests.{leb-true, eqb-true}
+use lib.IntN.{ℤ, pos, negsuc}
+use lib.Signed.{mag}
+use lib.Dec.{eqb}
+use Rattle.reply.proofs.Choices.{choose}
+use Rattle.wire.specs.Numbers.{little, fromLittle, complement, signed}
+use Rattle.wire.proofs.Theorems.{little-is-read, complement-is-read}
+use Rattle.reply.specs.Units.{inVolts, inAmperes, inFineAmperes, inAmpHours, inPercent, over}
+use Rattle.reply.specs.Calls.{showing}
+use Rattle.answers.specs.Values.{readOnly}
+use Rattle.answers.specs.declared.Readings.{Readings}
+use Rattle.reply.specs.declared.Shown.{Shown}
+use Rattle.reply.specs.Laws.{NarrowIsShown, WideIsShown, PlainIsShown, measured, BoardIsShown}
+
+-- a whole number in two's complement is within the width
+narrow-within : (x : ℤ) → 2 * mag x < 256 ^ 2 → complement 2 x < 256 ^ 2
+narrow-within (pos n) h = omega arith
+narrow-within (negsuc n) h = omega arith
+
+wide-within : (x : ℤ) → 2 * mag x < 256 ^ 4 → complement 4 x < 256 ^ 4
+wide-within (pos n) h = omega arith
+wide-within (negsuc n) h = omega arith
+
+narrow-back : (x : ℤ) → 2 * mag x < 256 ^ 2 → signed 2 (fromLittle (little 2 (complement 2 x))) ≡ x
+narrow-back x h = ap (signed 2) (little-is-read 2 (complement 2 x) (narrow-within x h)) ∙ complement-is-read 2 x (leb-true 1 2 refl) h
+
+wide-back : (x : ℤ) → 2 * mag x < 256 ^ 4 → signed 4 (fromLittle (little 4 (complement 4 x))) ≡ x
+wide-back x h = ap (signed 4) (little-is-read 4 (complement 4 x) (wide-within x h)) ∙ complement-is-read 4 x (leb-true 1 4 refl) h
+
+pub narrow-shown : NarrowIsShown
+unfolding showing inVolts inAmperes
+narrow-shown x h =
+    record {
+      volts-shown = ap (λ (z : ℤ). Shown.Volts (over z 100)) (narrow-back x h);
+      amperes-shown = ap (λ (z : ℤ). Shown.Amperes (over z 10)) (narrow-back x h);
+    }
+
+pub wide-shown : WideIsShown
+unfolding showing inFineAmperes inAmpHours
+wide-shown x h =
+    record {
+      fine-shown = ap (λ (z : ℤ). Shown.Amperes (over z 1000)) (wide-back x h);
+      amp-hours-shown = ap (λ (z : ℤ). Shown.AmpHours (over z 10)) (wide-back x h);
+    }
+
+pub plain-shown : PlainIsShown
+unfolding showing inPercent
+plain-shown n h = ap (λ (m : ℕ). Shown.Percent (over (pos m) 100)) (little-is-read 2 n h)
+
+-- what a board answers to a Get, where it answers with a value, is shown as it was measured
+abbrev Seen : Readings → ℕ → Option (List ℕ) → Type 0
+Seen readings id found = (value : List ℕ) → found ≡ some value → showing id value ≡ measured readings id
+
+seen-at : (readings : Readings) (id k : ℕ) (sent : List ℕ) → id ≡ k → showing k sent ≡ measured readings k → Seen readings id (some sent)
+seen-at readings id k sent is h value e =
+    ap (λ (i : ℕ). showing i value) is ∙ ap (showing k) (sym (Option·some-injective sent value e)) ∙ h ∙ ap (measured readings) (sym is)
+
+pub board-shown : BoardIsShown
+unfolding readOnly showing
+board-shown identity readings within id =
+    let p : Option (List ℕ) → Type 0 = Seen readings id in
+    let at : (k : ℕ) (sent : List ℕ) → showing k sent ≡ measured readings k → eqb id k ≡ true → p (some sent) =
+    λ k sent h e. seen-at readings id k sent (eqb-true _ _ e) h in
+    choose p (eqb id 0x0100) (at 0x0100 _ refl)
+    (λ e1. choose p (eqb id 0x010A) (at 0x010A _ refl)
+    (λ e2. choose p (eqb id 0xEEF9) (at 0xEEF9 _ refl)
+    (λ e3. choose p (eqb id 0xED8D) (at 0xED8D _ (narrow-shown _ (within .voltage-within) .volts-shown))
+    (λ e4. choose p (eqb id 0xED8F) (at 0xED8F _ (narrow-shown _ (within .current-within) .amperes-shown))
+    (λ e5. choose p (eqb id 0xED8C) (at 0xED8C _ (wide-shown _ (within .fine-within) .fine-shown))
+    (λ e6. choose p (eqb id 0xEEFF) (at 0xEEFF _ (wide-shown _ (within .consumed-within) .amp-hours-shown))
+    (λ e7. choose p (eqb id 0x0FFF) (at 0x0FFF _ (plain-shown _ (within .charge-within)))
+    (λ e8. λ value e. absurd (Option·none-ne-some value e)))))))))

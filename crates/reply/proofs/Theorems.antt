@@ -1,0 +1,38 @@
+-- The statements of specs/Laws.antt, proved. Assumes nothing.
+use Rattle.reply.specs.Laws.{SaidIsRead, DoneIsRead, UnknownIsRead, ErrorIsRead, PingIsRead, ReadIsFrom, ReadIsSaid, NarrowIsShown, WideIsShown, PlainIsShown, BoardIsShown}
+use Rattle.reply.proofs.Hearing.{said-read, done-read, unknown-read, error-read, ping-read}
+use Rattle.reply.proofs.Origins.{read-from, read-said}
+use Rattle.reply.proofs.Measures.{narrow-shown, wide-shown, plain-shown, board-shown}
+
+pub said-is-read : SaidIsRead
+said-is-read = said-read
+
+pub done-is-read : DoneIsRead
+done-is-read = done-read
+
+pub unknown-is-read : UnknownIsRead
+unknown-is-read = unknown-read
+
+pub error-is-read : ErrorIsRead
+error-is-read = error-read
+
+pub ping-is-read : PingIsRead
+ping-is-read = ping-read
+
+pub read-is-from : ReadIsFrom
+read-is-from = read-from
+
+pub read-is-said : ReadIsSaid
+read-is-said = read-said
+
+pub narrow-is-shown : NarrowIsShown
+narrow-is-shown = narrow-shown
+
+pub wide-is-shown : WideIsShown
+wide-is-shown = wide-shown
+
+pub plain-is-shown : PlainIsShown
+plain-is-shown = plain-shown
+
+pub board-is-shown : BoardIsShown
+board-is-shown = board-shown

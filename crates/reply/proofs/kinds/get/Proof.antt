@@ -1,0 +1,31 @@
+-- `reply::kinds::get` meets its contract. Assumes nothing.
+use mathlib.Core.Path.{sym, _∙_}
+use Rattle.reply.specs.Replies.{telling}
+use borrow.Author.Needs.{needs}
+use Rattle.reply.proofs.kinds.get.Statement.{statement}
+use Rattle.reply.proofs.kinds.get.Tie as tie
+
+front-of-requires : tie.Need-front-of-requires
+front-of-requires c κs = search needs
+
+enum-known-status : tie.Need-enum-known-status
+enum-known-status c = search needs
+
+enum-told : tie.Need-enum-told
+enum-told c = search needs
+
+malformed-requires : tie.Need-malformed-requires
+malformed-requires c κs = search needs
+
+returns : tie.Need-returns
+unfolding telling
+returns c = rw (sym (c .before .before .before .front-of .ensures), c .before .status .given .1)
+
+returns-2 : tie.Need-returns-2
+unfolding telling
+returns-2 c = c .malformed .ensures ∙ sym (rw (sym (c .before .before .before .front-of .ensures), c .before .enum-told .given .1))
+
+pub get-spec : {M : Type 1} → statement M
+get-spec =
+    tie.close
+    (tie.spec front-of-requires enum-known-status enum-told malformed-requires returns returns-2)

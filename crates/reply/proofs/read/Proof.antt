@@ -1,0 +1,78 @@
+-- `reply::read` meets its contract. Assumes nothing.
+use mathlib.Core.Path.{sym, _∙_}
+use borrow.Author.Tests.{ne-eqb}
+use Rattle.reply.specs.Calls.{reading}
+use borrow.Author.Needs.{needs}
+use Rattle.reply.proofs.read.Statement.{statement}
+use Rattle.reply.proofs.read.Tie as tie
+
+unknown-requires : tie.Need-unknown-requires
+unknown-requires c κs = search needs
+
+error-requires : tie.Need-error-requires
+error-requires c κs = search needs
+
+ping-requires : tie.Need-ping-requires
+ping-requires c κs = search needs
+
+get-requires : tie.Need-get-requires
+get-requires c κs = search needs
+
+set-requires : tie.Need-set-requires
+set-requires c κs = search needs
+
+told-requires : tie.Need-told-requires
+told-requires c κs = search needs
+
+returns : tie.Need-returns
+unfolding reading
+returns c = rw (c .match .keys1)
+
+returns-2 : tie.Need-returns-2
+unfolding reading
+returns-2 c = c .unknown .ensures ∙ sym (rw (c .before .match .keys2))
+
+returns-3 : tie.Need-returns-3
+unfolding reading
+returns-3 c = c .error .ensures ∙ sym (rw (c .before .match .keys3))
+
+returns-4 : tie.Need-returns-4
+unfolding reading
+returns-4 c = c .ping .ensures ∙ sym (rw (c .before .match .keys4))
+
+returns-5 : tie.Need-returns-5
+unfolding reading
+returns-5 c = c .get .ensures ∙ sym (rw (c .before .match .keys5))
+
+returns-6 : tie.Need-returns-6
+unfolding reading
+returns-6 c = c .set .ensures ∙ sym (rw (c .before .match .keys6))
+
+returns-7 : tie.Need-returns-7
+unfolding reading
+returns-7 c = c .told .ensures ∙ sym (rw (c .before .match .keys7))
+
+returns-8 : tie.Need-returns-8
+unfolding reading
+returns-8 c =
+    let other = c .match .rest in
+    rw (ne-eqb _ _ (other .0 .0 .0 .0 .0 .0 .1), ne-eqb _ _ (other .0 .0 .0 .0 .0 .1), ne-eqb _ _ (other .0 .0 .0 .0 .1), ne-eqb _ _ (other .0 .0 .0 .1), ne-eqb _ _ (other .0 .0 .1), ne-eqb _ _ (other .0 .1), ne-eqb _ _ (other .1))
+
+pub read-spec : {M : Type 1} → statement M
+read-spec =
+    tie.close
+    (tie.spec
+    unknown-requires
+    error-requires
+    ping-requires
+    get-requires
+    set-requires
+    told-requires
+    returns
+    returns-2
+    returns-3
+    returns-4
+    returns-5
+    returns-6
+    returns-7
+    returns-8)

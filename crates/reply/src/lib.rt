@@ -1,0 +1,69 @@
+// What the box makes of a frame that it has read: the kind of reply, and a reading in its unit. Both calls take anything, and their
+// promises fix their answers (specs/Calls.antt).
+ghost use mathlib.Core.Path.{_≡_};
+ghost use Rattle.reply.specs.Calls.{reading, showing};
+
+mod bytes;
+mod kinds;
+mod numbers;
+mod units;
+
+// What a board says of a Get or a Set: flags 00, 01, 02 and 04.
+pub enum Status {
+    Good,
+    UnknownId,
+    NotSupported,
+    ParameterError,
+}
+
+// A reply, a kind for each code: 1, 3, 4, 5, 7, 8, A; or document 01's number of the refusal. The value of the last three kinds is the
+// rest of the data, behind the first three bytes; the payload of the first is all of it.
+pub enum Reply {
+    Done,
+    Unknown { command: u8 },
+    Error { code: u16 },
+    Ping { version: u16 },
+    Get { status: Status, id: u16 },
+    Set { status: Status, id: u16 },
+    Async { status: Status, id: u16 },
+    Refused(u8),
+}
+
+// A reading in its unit, or document 01's number of the refusal.
+pub enum Shown {
+    Volts(f64),
+    Amperes(f64),
+    AmpHours(f64),
+    Percent(f64),
+    Refused(u8),
+}
+
+// The reply that a frame of this command and these data is: 5 for a code that no reply has, then 6 for data that do not fit it.
+pub fn read(command: u8, bytes: &[u8]) -> Reply
+    ensures { λ r. ⌜ r ≡ reading command (now (bytes .entry)) ⌝ }
+{
+    match command {
+        numbers::DONE => Reply::Done,
+        numbers::UNKNOWN => kinds::unknown(bytes),
+        numbers::ERROR => kinds::error(bytes),
+        numbers::PING => kinds::ping(bytes),
+        numbers::GET => kinds::get(bytes),
+        numbers::SET => kinds::set(bytes),
+        numbers::ASYNC => kinds::told(bytes),
+        _ => Reply::Refused(numbers::UNKNOWN_CODE),
+    }
+}
+
+// The reading that a value of this id is: 7 for an id that is no reading, then 9 for a wrong width.
+pub fn show(id: u16, value: &[u8]) -> Shown
+    ensures { λ r. ⌜ r ≡ showing id (now (value .entry)) ⌝ }
+{
+    match id {
+        numbers::VOLTAGE => units::volts(value),
+        numbers::CURRENT => units::amperes(value),
+        numbers::FINE => units::fine_amperes(value),
+        numbers::CONSUMED => units::amp_hours(value),
+        numbers::CHARGE => units::percent(value),
+        _ => Shown::Refused(numbers::UNKNOWN_ID),
+    }
+}
