@@ -12,7 +12,7 @@ use Rattle.settings.specs.declared.Table.{Table}
 use Rattle.settings.proofs.Theorems.{rows-hold, find-is-found, refused-names-nearest, allowed-has-room}
 use Rattle.settings.proofs.Tables.{set-accepted}
 use Rattle.wire.specs.Numbers.{little, fromLittle}
-use Rattle.answers.specs.Answers.{said, set, setsSetting, frameAnswer}
+use Rattle.answers.specs.Answers.{said, setCode, setsSetting, frameAnswer}
 use Rattle.answers.specs.Laws.{GetAnswersHeld, SetStoresIt, SetRefusedNamesNearest}
 use Rattle.answers.specs.declared.Identity.{Identity}
 use Rattle.answers.specs.declared.Readings.{Readings}
@@ -28,7 +28,7 @@ get-held readings table identity k h = sym (gets-is readings table identity (sai
 
 -- a Set of a setting in its own width
 module _ (readings : Readings) (table : Table) (identity : Identity) (k n : ℕ) (h : k < count) where
-  set-is : frameAnswer readings table identity set (said (idAt k) 0 (little (widthAt k) n)) ≡ setsSetting readings table (settingAt k) (little (widthAt k) n)
+  set-is : frameAnswer readings table identity setCode (said (idAt k) 0 (little (widthAt k) n)) ≡ setsSetting readings table (settingAt k) (little (widthAt k) n)
   unfolding frameAnswer
   set-is =
       let many : 3 ≤ length (said (idAt k) 0 (little (widthAt k) n)) = omega arith in

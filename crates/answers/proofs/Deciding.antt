@@ -14,7 +14,7 @@ use Rattle.settings.specs.declared.Found.{Found}
 use Rattle.settings.specs.declared.Answer.{Answer}
 use Rattle.settings.specs.declared.Change.{Change}
 use Rattle.settings.specs.declared.Table.{Table}
-use Rattle.answers.specs.Answers.{silent, sent, staying, said, get, set, malformed, unknownId, notSupported, wrongWidth, getsOther, getsFound, gets, setsOther, stored, setsSetting, setsFound, sets, frameAnswer}
+use Rattle.answers.specs.Answers.{silent, sent, staying, said, getCode, setCode, malformed, unknownId, notSupported, wrongWidth, getsOther, getsFound, getAnswer, setsOther, stored, setsSetting, setsFound, setAnswer, frameAnswer}
 use Rattle.answers.specs.Parts.{identityAllowed}
 use Rattle.wire.specs.Numbers.{fromLittle}
 use Rattle.answers.specs.Calls.{answering, notAllowed}
@@ -37,18 +37,18 @@ module _ (readings : Readings) (table : Table) where
   says-is outcome command id flag v = ap (λ (reply : Reply). replying readings table outcome reply) (said-is command id flag v)
 
   -- a look-up among the read-only ids: its answer, by whether it found one
-  pub gets-none : (id : ℕ) (o : Option (List ℕ)) → lookedOf o .known ≡ false → unknownId readings table get id ≡ getsOther readings table id o
+  pub gets-none : (id : ℕ) (o : Option (List ℕ)) → lookedOf o .known ≡ false → unknownId readings table getCode id ≡ getsOther readings table id o
   unfolding lookedOf
   gets-none id none e = refl
   gets-none id (some v) e = absurd (false≢true (sym e))
 
   pub gets-some : (id : ℕ) (o : Option (List ℕ)) → lookedOf o .known ≡ true
-      → replying readings table Outcome.Answered (saidOf get id 0 (lookedOf o .value)) ≡ decidedOf (getsOther readings table id o)
+      → replying readings table Outcome.Answered (saidOf getCode id 0 (lookedOf o .value)) ≡ decidedOf (getsOther readings table id o)
   unfolding lookedOf
   gets-some id none e = absurd (false≢true e)
-  gets-some id (some v) e = says-is Outcome.Answered get id 0 v
+  gets-some id (some v) e = says-is Outcome.Answered getCode id 0 v
 
-  pub sets-none : (id : ℕ) (o : Option (List ℕ)) → lookedOf o .known ≡ false → unknownId readings table set id ≡ setsOther readings table id o
+  pub sets-none : (id : ℕ) (o : Option (List ℕ)) → lookedOf o .known ≡ false → unknownId readings table setCode id ≡ setsOther readings table id o
   unfolding lookedOf
   sets-none id none e = refl
   sets-none id (some v) e = absurd (false≢true (sym e))
@@ -79,30 +79,30 @@ module _ (readings : Readings) (s : Setting) where
 
 -- a Get and a Set, by their data and by what the id stands for
 module _ (readings : Readings) (table : Table) (identity : Identity) (bytes : List ℕ) where
-  pub gets-odd : length bytes ≢ 3 → malformed readings table ≡ gets readings table identity bytes
-  unfolding gets
+  pub gets-odd : length bytes ≢ 3 → malformed readings table ≡ getAnswer readings table identity bytes
+  unfolding getAnswer
   gets-odd h = rw (ne-eqb (length bytes) 3 h)
 
-  pub gets-flagged : length bytes ≡ 3 → getD bytes 2 0 ≢ 0 → malformed readings table ≡ gets readings table identity bytes
-  unfolding gets
+  pub gets-flagged : length bytes ≡ 3 → getD bytes 2 0 ≢ 0 → malformed readings table ≡ getAnswer readings table identity bytes
+  unfolding getAnswer
   gets-flagged h flags = rw (eq-eqb (length bytes) 3 h, ne-eqb (getD bytes 2 0) 0 flags)
 
   pub gets-is : length bytes ≡ 3 → getD bytes 2 0 ≡ 0 → {id : ℕ} → id ≡ fromLittle (take 2 bytes) → {f : Found} → finding id ≡ f
-      → getsFound readings table identity id f ≡ gets readings table identity bytes
-  unfolding gets
+      → getsFound readings table identity id f ≡ getAnswer readings table identity bytes
+  unfolding getAnswer
   gets-is h flags is e = rw (eq-eqb (length bytes) 3 h, eq-eqb (getD bytes 2 0) 0 flags, sym e, is)
 
-  pub sets-short : length bytes < 3 → malformed readings table ≡ sets readings table identity bytes
-  unfolding sets
+  pub sets-short : length bytes < 3 → malformed readings table ≡ setAnswer readings table identity bytes
+  unfolding setAnswer
   sets-short h = rw (lt-ltb (length bytes) 3 h)
 
-  pub sets-flagged : 3 ≤ length bytes → getD bytes 2 0 ≢ 0 → malformed readings table ≡ sets readings table identity bytes
-  unfolding sets
+  pub sets-flagged : 3 ≤ length bytes → getD bytes 2 0 ≢ 0 → malformed readings table ≡ setAnswer readings table identity bytes
+  unfolding setAnswer
   sets-flagged h flags = rw (le-ltb (length bytes) 3 h, ne-eqb (getD bytes 2 0) 0 flags)
 
   pub sets-is : 3 ≤ length bytes → getD bytes 2 0 ≡ 0 → {id : ℕ} → id ≡ fromLittle (take 2 bytes) → {f : Found} → finding id ≡ f
-      → setsFound readings table identity id (drop 3 bytes) f ≡ sets readings table identity bytes
-  unfolding sets
+      → setsFound readings table identity id (drop 3 bytes) f ≡ setAnswer readings table identity bytes
+  unfolding setAnswer
   sets-is h flags is e = rw (le-ltb (length bytes) 3 h, eq-eqb (getD bytes 2 0) 0 flags, sym e, is)
 
 -- the answer to a whole frame, and 12

@@ -19,7 +19,7 @@ use Rattle.settings.specs.declared.Answer.{Answer}
 use Rattle.answers.specs.Parts.{identityAllowed}
 use Rattle.wire.specs.Numbers.{little, fromLittle}
 use Rattle.answers.specs.Values.{readOnly}
-use Rattle.answers.specs.Answers.{sent, Decision, said, get, set, ping, appVersion, productId, restart, async, tells, restarts, getsOther, getsFound, gets, setsOther, stored, setsSetting, setsFound, sets, frameAnswer}
+use Rattle.answers.specs.Answers.{sent, Decision, said, getCode, setCode, pingCode, versionCode, productCode, restartCode, asyncCode, tells, restarts, getsOther, getsFound, getAnswer, setsOther, stored, setsSetting, setsFound, setAnswer, frameAnswer}
 use Rattle.answers.specs.AsHeld.{Settled}
 use Rattle.answers.specs.Laws.{Fits, nothing, a-frame, an-error, RepliesFit}
 use Rattle.answers.specs.declared.Identity.{Identity}
@@ -56,10 +56,10 @@ fits-number command s flag n settled nibble low =
     let narrow : s .width ≤ 2 = settled .narrow in
     fits-said command (s .id) flag (little (s .width) n) nibble low (rw (length-little (s .width) n) (omega arith)) (bytes-little (s .width) n)
 
-seven : get ≤ 15
+seven : getCode ≤ 15
 seven = leb-true 7 15 refl
 
-eight : set ≤ 15
+eight : setCode ≤ 15
 eight = leb-true 8 15 refl
 
 -- command by command
@@ -74,39 +74,39 @@ module _ (readings : Readings) (table : Table) where
   fits-restarts bytes = pick Replies (eqb (length bytes) 0) nothing an-error
 
   fits-gets-other : (id : ℕ) (o : Option (List ℕ)) → Small o → Replies (getsOther readings table id o)
-  fits-gets-other id none small = fits-none get id 1 seven (leb-true 2 256 refl)
-  fits-gets-other id (some v) (small-some few small) = fits-said get id 0 v seven (leb-true 1 256 refl) few small
+  fits-gets-other id none small = fits-none getCode id 1 seven (leb-true 2 256 refl)
+  fits-gets-other id (some v) (small-some few small) = fits-said getCode id 0 v seven (leb-true 1 256 refl) few small
 
   fits-sets-other : (id : ℕ) (o : Option (List ℕ)) → Replies (setsOther readings table id o)
-  fits-sets-other id none = fits-none set id 1 eight (leb-true 2 256 refl)
-  fits-sets-other id (some v) = fits-none set id 2 eight (leb-true 3 256 refl)
+  fits-sets-other id none = fits-none setCode id 1 eight (leb-true 2 256 refl)
+  fits-sets-other id (some v) = fits-none setCode id 2 eight (leb-true 3 256 refl)
 
   fits-gets-found : (identity : Identity) → identityAllowed identity ≡ true → (id : ℕ) (f : Found) → finding id ≡ f → Replies (getsFound readings table identity id f)
-  fits-gets-found identity ok id (Found.At s) e = fits-number get s 0 _ (found-settled id s e) seven (leb-true 1 256 refl)
+  fits-gets-found identity ok id (Found.At s) e = fits-number getCode s 0 _ (found-settled id s e) seven (leb-true 1 256 refl)
   fits-gets-found identity ok id Found.Nothing e = fits-gets-other id (readOnly identity readings id) (small-read identity ok readings id)
 
-  fits-gets : (identity : Identity) → identityAllowed identity ≡ true → (bytes : List ℕ) → Replies (gets readings table identity bytes)
-  unfolding gets
+  fits-gets : (identity : Identity) → identityAllowed identity ≡ true → (bytes : List ℕ) → Replies (getAnswer readings table identity bytes)
+  unfolding getAnswer
   fits-gets identity ok bytes =
       pick Replies (eqb (length bytes) 3) (pick Replies (eqb (getD bytes 2 0) 0) (fits-gets-found identity ok _ (finding (fromLittle (take 2 bytes))) refl) an-error) an-error
 
 fits-stored : (readings : Readings) (s : Setting) (n : ℕ) (table : Table) (a : Answer) → Settled s → Replies (stored readings s n table a)
-fits-stored readings s n table Answer.Accepted settled = fits-number set s 0 n settled eight (leb-true 1 256 refl)
-fits-stored readings s n table (Answer.Refused number nearest) settled = fits-number set s 4 nearest settled eight (leb-true 5 256 refl)
+fits-stored readings s n table Answer.Accepted settled = fits-number setCode s 0 n settled eight (leb-true 1 256 refl)
+fits-stored readings s n table (Answer.Refused number nearest) settled = fits-number setCode s 4 nearest settled eight (leb-true 5 256 refl)
 
 fits-sets-setting : (readings : Readings) (table : Table) (s : Setting) (value : List ℕ) → Settled s → Replies (setsSetting readings table s value)
 unfolding setsSetting
 fits-sets-setting readings table s value settled =
     pick Replies (eqb (length value) (s .width)) (fits-stored readings s _ _ (setTo table (s .index) (fromLittle value) .answer) settled)
-    (fits-number set s 4 _ settled eight (leb-true 5 256 refl))
+    (fits-number setCode s 4 _ settled eight (leb-true 5 256 refl))
 
 module _ (readings : Readings) (table : Table) where
   fits-sets-found : (identity : Identity) (id : ℕ) (value : List ℕ) (f : Found) → finding id ≡ f → Replies (setsFound readings table identity id value f)
   fits-sets-found identity id value (Found.At s) e = fits-sets-setting readings table s value (found-settled id s e)
   fits-sets-found identity id value Found.Nothing e = fits-sets-other readings table id (readOnly identity readings id)
 
-  fits-sets : (identity : Identity) (bytes : List ℕ) → Replies (sets readings table identity bytes)
-  unfolding sets
+  fits-sets : (identity : Identity) (bytes : List ℕ) → Replies (setAnswer readings table identity bytes)
+  unfolding setAnswer
   fits-sets identity bytes =
       pick Replies (ltb (length bytes) 3) an-error
       (pick Replies (eqb (getD bytes 2 0) 0) (fits-sets-found identity _ (drop 3 bytes) (finding (fromLittle (take 2 bytes))) refl) an-error)
@@ -114,11 +114,11 @@ module _ (readings : Readings) (table : Table) where
 pub replies-fit : RepliesFit
 unfolding frameAnswer
 replies-fit readings table identity command bytes ok low =
-    pick Replies (eqb command ping) (fits-tells readings table 5 (identity .version) bytes (leb-true 5 15 refl))
-    (pick Replies (eqb command appVersion) (fits-tells readings table 1 (identity .version) bytes (leb-true 1 15 refl))
-    (pick Replies (eqb command productId) (fits-tells readings table 1 (identity .product) bytes (leb-true 1 15 refl))
-    (pick Replies (eqb command restart) (fits-restarts readings table bytes)
-    (pick Replies (eqb command get) (fits-gets readings table identity ok bytes)
-    (pick Replies (eqb command set) (fits-sets readings table identity bytes)
-    (pick Replies (eqb command async) nothing
+    pick Replies (eqb command pingCode) (fits-tells readings table 5 (identity .version) bytes (leb-true 5 15 refl))
+    (pick Replies (eqb command versionCode) (fits-tells readings table 1 (identity .version) bytes (leb-true 1 15 refl))
+    (pick Replies (eqb command productCode) (fits-tells readings table 1 (identity .product) bytes (leb-true 1 15 refl))
+    (pick Replies (eqb command restartCode) (fits-restarts readings table bytes)
+    (pick Replies (eqb command getCode) (fits-gets readings table identity ok bytes)
+    (pick Replies (eqb command setCode) (fits-sets readings table identity bytes)
+    (pick Replies (eqb command asyncCode) nothing
     (fits 3 (command ∷ []) (leb-true 3 15 refl) (leb-true 1 35 refl) (both _ _ (lt-ltb command 256 low) refl))))))))

@@ -20,7 +20,7 @@ use Rattle.settings.specs.declared.Change.{Change}
 use Rattle.settings.proofs.Theorems.{set-keeps-allowed, set-keeps-count, refused-keeps-it}
 use Rattle.wire.specs.Numbers.{fromLittle}
 use Rattle.answers.specs.Values.{readOnly}
-use Rattle.answers.specs.Answers.{Sent, Decision, staying, ping, appVersion, productId, restart, get, set, async, tells, restarts, getsOther, getsFound, gets, setsOther, stored, setsSetting, setsFound, sets, frameAnswer, makesFound, makes}
+use Rattle.answers.specs.Answers.{Sent, Decision, staying, pingCode, versionCode, productCode, restartCode, getCode, setCode, asyncCode, tells, restarts, getsOther, getsFound, getAnswer, setsOther, stored, setsSetting, setsFound, setAnswer, frameAnswer, makesFound, makes}
 use Rattle.answers.specs.Laws.{Stays, RefusedStays, AnswerMakes, MakesKeepsAllowed}
 use Rattle.answers.specs.declared.Identity.{Identity}
 use Rattle.answers.specs.declared.Readings.{Readings}
@@ -47,20 +47,20 @@ module _ (readings : Readings) (table : Table) (identity : Identity) where
   unfolding restarts
   restarts-same bytes = pick Same (eqb (length bytes) 0) refl refl
 
-  gets-same : (bytes : List ℕ) → Same (gets readings table identity bytes)
-  unfolding gets
+  gets-same : (bytes : List ℕ) → Same (getAnswer readings table identity bytes)
+  unfolding getAnswer
   gets-same bytes =
       pick Same (eqb (length bytes) 3) (pick Same (eqb (getD bytes 2 0) 0) (gets-found-same _ (finding (fromLittle (take 2 bytes)))) refl) refl
 
-  others-same : (command : ℕ) (bytes : List ℕ) → eqb command set ≡ false → Same (frameAnswer readings table identity command bytes)
+  others-same : (command : ℕ) (bytes : List ℕ) → eqb command setCode ≡ false → Same (frameAnswer readings table identity command bytes)
   unfolding frameAnswer
   others-same command bytes e =
-      pick Same (eqb command ping) (tells-same 5 (identity .version) bytes)
-      (pick Same (eqb command appVersion) (tells-same 1 (identity .version) bytes)
-      (pick Same (eqb command productId) (tells-same 1 (identity .product) bytes)
-      (pick Same (eqb command restart) (restarts-same bytes)
-      (pick Same (eqb command get) (gets-same bytes)
-      (rw e (pick Same (eqb command async) refl refl))))))
+      pick Same (eqb command pingCode) (tells-same 5 (identity .version) bytes)
+      (pick Same (eqb command versionCode) (tells-same 1 (identity .version) bytes)
+      (pick Same (eqb command productCode) (tells-same 1 (identity .product) bytes)
+      (pick Same (eqb command restartCode) (restarts-same bytes)
+      (pick Same (eqb command getCode) (gets-same bytes)
+      (rw e (pick Same (eqb command asyncCode) refl refl))))))
 
   -- a Set makes of it what the table makes of its number
   stored-table : (s : Setting) (n : ℕ) (after : Table) (a : Answer) → stored readings s n after a .table ≡ after
@@ -85,20 +85,20 @@ module _ (readings : Readings) (table : Table) (identity : Identity) where
   found-table id value (Found.At s) = setting-table s value
   found-table id value Found.Nothing = other-table id (readOnly identity readings id)
 
-  sets-table : (bytes : List ℕ) → sets readings table identity bytes .table ≡ makes table set bytes
-  unfolding sets makes
+  sets-table : (bytes : List ℕ) → setAnswer readings table identity bytes .table ≡ makes table setCode bytes
+  unfolding setAnswer makes
   sets-table bytes = by (ltb (length bytes) 3) (eqb (getD bytes 2 0) 0) refl refl
     where
-      by : (short plain : Bool) → ltb (length bytes) 3 ≡ short → eqb (getD bytes 2 0) 0 ≡ plain → sets readings table identity bytes .table ≡ makes table set bytes
+      by : (short plain : Bool) → ltb (length bytes) 3 ≡ short → eqb (getD bytes 2 0) 0 ≡ plain → setAnswer readings table identity bytes .table ≡ makes table setCode bytes
       by true plain p q = rw (p, lt-leb 3 (length bytes) (ltb-true _ _ p))
       by false true p q = rw (p, q, le-leb 3 (length bytes) (ltb-false _ _ p)) (found-table (fromLittle (take 2 bytes)) (drop 3 bytes) (finding (fromLittle (take 2 bytes))))
       by false false p q = rw (p, q, le-leb 3 (length bytes) (ltb-false _ _ p))
 
-  a-set : (bytes : List ℕ) → frameAnswer readings table identity set bytes .table ≡ makes table set bytes
+  a-set : (bytes : List ℕ) → frameAnswer readings table identity setCode bytes .table ≡ makes table setCode bytes
   unfolding frameAnswer
   a-set bytes = sets-table bytes
 
-others-make : (table : Table) (command : ℕ) (bytes : List ℕ) → eqb command set ≡ false → makes table command bytes ≡ table
+others-make : (table : Table) (command : ℕ) (bytes : List ℕ) → eqb command setCode ≡ false → makes table command bytes ≡ table
 unfolding makes
 others-make table command bytes e = rw e
 
@@ -114,17 +114,17 @@ module _ (table : Table) (long : length (table .numbers) ≡ count) where
   found-count value Found.Nothing = long
 
 pub answer-makes : AnswerMakes
-answer-makes readings table identity command bytes = by (eqb command set) refl
+answer-makes readings table identity command bytes = by (eqb command setCode) refl
   where
-    by : (b : Bool) → eqb command set ≡ b → frameAnswer readings table identity command bytes .table ≡ makes table command bytes
-    by true e = let is : command ≡ set = eqb-true command set e in rw is (a-set readings table identity bytes)
+    by : (b : Bool) → eqb command setCode ≡ b → frameAnswer readings table identity command bytes .table ≡ makes table command bytes
+    by true e = let is : command ≡ setCode = eqb-true command setCode e in rw is (a-set readings table identity bytes)
     by false e = others-same readings table identity command bytes e ∙ sym (others-make table command bytes e)
 
 -- so it stays allowed, and as many
 pub makes-allowed : MakesKeepsAllowed
 unfolding makes
 makes-allowed table command bytes long =
-    let valid : Bool = eqb command set && (leb 3 (length bytes) && eqb (getD bytes 2 0) 0) in
+    let valid : Bool = eqb command setCode && (leb 3 (length bytes) && eqb (getD bytes 2 0) 0) in
     let found : Found = finding (fromLittle (take 2 bytes)) in (
       λ ok. pick (λ (t : Table). allowed t ≡ true) valid (found-allowed table long ok (drop 3 bytes) found) ok,
       pick (λ (t : Table). length (t .numbers) ≡ count) valid (found-count table long (drop 3 bytes) found) long,
@@ -154,8 +154,8 @@ module _ (readings : Readings) (table : Table) (identity : Identity) where
   leaves-gets-found id (Found.At s) = left
   leaves-gets-found id Found.Nothing = leaves-gets-other id (readOnly identity readings id)
 
-  leaves-gets : (bytes : List ℕ) → Leaves (gets readings table identity bytes)
-  unfolding gets
+  leaves-gets : (bytes : List ℕ) → Leaves (getAnswer readings table identity bytes)
+  unfolding getAnswer
   leaves-gets bytes =
       pick Leaves (eqb (length bytes) 3) (pick Leaves (eqb (getD bytes 2 0) 0) (leaves-gets-found _ (finding (fromLittle (take 2 bytes)))) left) left
 
@@ -179,8 +179,8 @@ module _ (readings : Readings) (table : Table) (identity : Identity) where
   leaves-sets-found id value (Found.At s) = leaves-setting s value
   leaves-sets-found id value Found.Nothing = leaves-sets-other id (readOnly identity readings id)
 
-  leaves-sets : (bytes : List ℕ) → Leaves (sets readings table identity bytes)
-  unfolding sets
+  leaves-sets : (bytes : List ℕ) → Leaves (setAnswer readings table identity bytes)
+  unfolding setAnswer
   leaves-sets bytes =
       pick Leaves (ltb (length bytes) 3) left
       (pick Leaves (eqb (getD bytes 2 0) 0) (leaves-sets-found _ (drop 3 bytes) (finding (fromLittle (take 2 bytes)))) left)
@@ -189,10 +189,10 @@ pub refused-stays : RefusedStays
 unfolding frameAnswer
 refused-stays readings table identity command bytes =
     let l = Leaves readings table identity in
-    pick l (eqb command ping) (leaves-tells readings table identity 5 (identity .version) bytes)
-    (pick l (eqb command appVersion) (leaves-tells readings table identity 1 (identity .version) bytes)
-    (pick l (eqb command productId) (leaves-tells readings table identity 1 (identity .product) bytes)
-    (pick l (eqb command restart) (leaves-restarts readings table identity bytes)
-    (pick l (eqb command get) (leaves-gets readings table identity bytes)
-    (pick l (eqb command set) (leaves-sets readings table identity bytes)
-    (pick l (eqb command async) (left readings table identity) (left readings table identity)))))))
+    pick l (eqb command pingCode) (leaves-tells readings table identity 5 (identity .version) bytes)
+    (pick l (eqb command versionCode) (leaves-tells readings table identity 1 (identity .version) bytes)
+    (pick l (eqb command productCode) (leaves-tells readings table identity 1 (identity .product) bytes)
+    (pick l (eqb command restartCode) (leaves-restarts readings table identity bytes)
+    (pick l (eqb command getCode) (leaves-gets readings table identity bytes)
+    (pick l (eqb command setCode) (leaves-sets readings table identity bytes)
+    (pick l (eqb command asyncCode) (left readings table identity) (left readings table identity)))))))

@@ -33,26 +33,26 @@ pub record Decision : Type 0 where
   pub readings : Readings
 
 -- commands
-abbrev pub ping : ℕ
-ping = 1
+abbrev pub pingCode : ℕ
+pingCode = 1
 
-abbrev pub appVersion : ℕ
-appVersion = 3
+abbrev pub versionCode : ℕ
+versionCode = 3
 
-abbrev pub productId : ℕ
-productId = 4
+abbrev pub productCode : ℕ
+productCode = 4
 
-abbrev pub restart : ℕ
-restart = 6
+abbrev pub restartCode : ℕ
+restartCode = 6
 
-abbrev pub get : ℕ
-get = 7
+abbrev pub getCode : ℕ
+getCode = 7
 
-abbrev pub set : ℕ
-set = 8
+abbrev pub setCode : ℕ
+setCode = 8
 
-abbrev pub async : ℕ
-async = 0xA
+abbrev pub asyncCode : ℕ
+asyncCode = 0xA
 
 -- an id, a flag and a value
 abbrev pub said : ℕ → ℕ → List ℕ → List ℕ
@@ -81,15 +81,15 @@ module _ (readings : Readings) (table : Table) where
 
   -- 8: "Set, id, flag 02, no value"
   abbrev pub notSupported : ℕ → Decision
-  notSupported id = staying (Outcome.Refused 8) (sent set (said id 2 []))
+  notSupported id = staying (Outcome.Refused 8) (sent setCode (said id 2 []))
 
   -- 9: "Set, id, flag 04, value now held"
   abbrev pub wrongWidth : Setting → Decision
-  wrongWidth s = staying (Outcome.Refused 9) (sent set (said (s .id) 4 (heldBytes table s)))
+  wrongWidth s = staying (Outcome.Refused 9) (sent setCode (said (s .id) 4 (heldBytes table s)))
 
   -- 10: "Set, id, flag 04, nearest allowed number"
   abbrev pub refusedTo : Setting → ℕ → ℕ → Decision
-  refusedTo s number nearest = staying (Outcome.Refused number) (sent set (said (s .id) 4 (little (s .width) nearest)))
+  refusedTo s number nearest = staying (Outcome.Refused number) (sent setCode (said (s .id) 4 (little (s .width) nearest)))
 
   -- "A good Get or Set answers its own code, id, flag 00, value."
   abbrev pub good : ℕ → ℕ → List ℕ → Decision
@@ -107,16 +107,16 @@ module _ (readings : Readings) (table : Table) where
 
   -- a Get of an id that is no setting, and of any id
   abbrev pub getsOther : ℕ → Option (List ℕ) → Decision
-  getsOther id (some value) = good get id value
-  getsOther id none = unknownId get id
+  getsOther id (some value) = good getCode id value
+  getsOther id none = unknownId getCode id
 
   abbrev pub getsFound : Identity → ℕ → Found → Decision
-  getsFound identity id (Found.At s) = good get (s .id) (heldBytes table s)
+  getsFound identity id (Found.At s) = good getCode (s .id) (heldBytes table s)
   getsFound identity id Found.Nothing = getsOther id (readOnly identity readings id)
 
   -- 6: "Get with other than 3 data bytes; [..] request flags not 0"
-  unfoldable pub gets : Identity → List ℕ → Decision
-  gets identity bytes =
+  unfoldable pub getAnswer : Identity → List ℕ → Decision
+  getAnswer identity bytes =
       cond (eqb (length bytes) 3)
       (cond (eqb (getD bytes 2 0) 0) (getsFound identity (fromLittle (take 2 bytes)) (finding (fromLittle (take 2 bytes)))) malformed)
       malformed
@@ -124,11 +124,11 @@ module _ (readings : Readings) (table : Table) where
   -- a Set of an id that is no setting
   abbrev pub setsOther : ℕ → Option (List ℕ) → Decision
   setsOther id (some value) = notSupported id
-  setsOther id none = unknownId set id
+  setsOther id none = unknownId setCode id
 
 -- A Set of a setting: what the table makes of the number, and the answer that goes with it.
 abbrev pub stored : Readings → Setting → ℕ → Table → Answer → Decision
-stored readings s n table Answer.Accepted = good readings table set (s .id) (little (s .width) n)
+stored readings s n table Answer.Accepted = good readings table setCode (s .id) (little (s .width) n)
 stored readings s n table (Answer.Refused number nearest) = refusedTo readings table s number nearest
 
 unfoldable pub setsSetting : Readings → Table → Setting → List ℕ → Decision
@@ -143,21 +143,21 @@ module _ (readings : Readings) (table : Table) where
   setsFound identity id value Found.Nothing = setsOther readings table id (readOnly identity readings id)
 
   -- 6: "Set with under 3; request flags not 0"
-  unfoldable pub sets : Identity → List ℕ → Decision
-  sets identity bytes =
+  unfoldable pub setAnswer : Identity → List ℕ → Decision
+  setAnswer identity bytes =
       cond (ltb (length bytes) 3) (malformed readings table)
       (cond (eqb (getD bytes 2 0) 0) (setsFound identity (fromLittle (take 2 bytes)) (drop 3 bytes) (finding (fromLittle (take 2 bytes)))) (malformed readings table))
 
   -- the answer to a whole frame. "Command A (Async) with a good sum is ignored: no reply, no number."
   unfoldable pub frameAnswer : Identity → ℕ → List ℕ → Decision
   frameAnswer identity command bytes =
-      cond (eqb command ping) (tells readings table 5 (identity .version) bytes)
-      (cond (eqb command appVersion) (tells readings table 1 (identity .version) bytes)
-      (cond (eqb command productId) (tells readings table 1 (identity .product) bytes)
-      (cond (eqb command restart) (restarts readings table bytes)
-      (cond (eqb command get) (gets readings table identity bytes)
-      (cond (eqb command set) (sets identity bytes)
-      (cond (eqb command async) (staying readings table Outcome.Ignored silent)
+      cond (eqb command pingCode) (tells readings table 5 (identity .version) bytes)
+      (cond (eqb command versionCode) (tells readings table 1 (identity .version) bytes)
+      (cond (eqb command productCode) (tells readings table 1 (identity .product) bytes)
+      (cond (eqb command restartCode) (restarts readings table bytes)
+      (cond (eqb command getCode) (getAnswer readings table identity bytes)
+      (cond (eqb command setCode) (setAnswer identity bytes)
+      (cond (eqb command asyncCode) (staying readings table Outcome.Ignored silent)
       (unknownCommand readings table command)))))))
 
 -- What a frame makes of a table: a complete, valid Set makes of it what the table makes of its number, and any other frame nothing.
@@ -167,6 +167,6 @@ makesFound table value Found.Nothing = table
 
 unfoldable pub makes : Table → ℕ → List ℕ → Table
 makes table command bytes =
-    cond (eqb command set && (leb 3 (length bytes) && eqb (getD bytes 2 0) 0))
+    cond (eqb command setCode && (leb 3 (length bytes) && eqb (getD bytes 2 0) 0))
     (makesFound table (drop 3 bytes) (finding (fromLittle (take 2 bytes))))
     table

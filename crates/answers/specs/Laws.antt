@@ -11,7 +11,7 @@ use Rattle.settings.specs.Rules.{allowed, allowedFor, numberAt, partnerNumber, 
 use Rattle.settings.specs.declared.Table.{Table}
 use Rattle.answers.specs.Parts.{identityOf, serialOf, identityAllowed}
 use Rattle.wire.specs.Numbers.{little}
-use Rattle.answers.specs.Answers.{Sent, silent, sent, error, Decision, staying, said, get, set, frameAnswer, makes}
+use Rattle.answers.specs.Answers.{Sent, silent, sent, error, Decision, staying, said, getCode, setCode, frameAnswer, makes}
 use Rattle.answers.specs.Calls.{naming}
 use Rattle.answers.specs.declared.Identity.{Identity}
 use Rattle.answers.specs.declared.Readings.{Readings}
@@ -61,18 +61,18 @@ MakesKeepsAllowed =
 abbrev pub GetAnswersHeld : Type 0
 GetAnswersHeld =
     (readings : Readings) (table : Table) (identity : Identity) (k : ℕ) → k < count
-    → frameAnswer readings table identity get (said (idAt k) 0 []) ≡ staying readings table Outcome.Answered (sent get (said (idAt k) 0 (little (widthAt k) (numberAt table k))))
+    → frameAnswer readings table identity getCode (said (idAt k) 0 []) ≡ staying readings table Outcome.Answered (sent getCode (said (idAt k) 0 (little (widthAt k) (numberAt table k))))
 
 -- 6. A good Set answers what it stored and stores what it answered, that setting alone; one that is not allowed stores nothing, and answers
 -- flag 04 and the nearest allowed number.
 abbrev pub SetStoresIt : Type 0
 SetStoresIt =
     (readings : Readings) (table : Table) (identity : Identity) (k n : ℕ) → allowed table ≡ true → k < count → allowedFor k n (partnerNumber table k) ≡ true
-    → frameAnswer readings table identity set (said (idAt k) 0 (little (widthAt k) n)) ≡ staying readings (changed table k n) Outcome.Answered (sent set (said (idAt k) 0 (little (widthAt k) n)))
+    → frameAnswer readings table identity setCode (said (idAt k) 0 (little (widthAt k) n)) ≡ staying readings (changed table k n) Outcome.Answered (sent setCode (said (idAt k) 0 (little (widthAt k) n)))
 
 abbrev pub SetRefusedNamesNearest : Type 0
 SetRefusedNamesNearest =
     (readings : Readings) (table : Table) (identity : Identity) (k n : ℕ) → allowed table ≡ true → k < count → n < 256 ^ widthAt k
     → allowedFor k n (partnerNumber table k) ≡ false
     → (m : ℕ) × Nearest k n (partnerNumber table k) m
-    × (frameAnswer readings table identity set (said (idAt k) 0 (little (widthAt k) n)) ≡ staying readings table (Outcome.Refused 10) (sent set (said (idAt k) 4 (little (widthAt k) m))))
+    × (frameAnswer readings table identity setCode (said (idAt k) 0 (little (widthAt k) n)) ≡ staying readings table (Outcome.Refused 10) (sent setCode (said (idAt k) 4 (little (widthAt k) m))))

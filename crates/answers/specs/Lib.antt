@@ -2,6 +2,7 @@
 pub mod Parts
 pub mod Values
 pub mod Answers
+pub mod Requests
 pub mod AsHeld
 pub mod Calls
 pub mod Laws

@@ -30,7 +30,7 @@ pub(crate) fn held(table: Table, setting: Setting) -> Value
 // A Get of a setting.
 fn get_setting(readings: Readings, table: Table, setting: Setting) -> Decided
     requires { ⌜ Settled setting ⌝ }
-    ensures { λ r. ⌜ r ≡ decidedOf (answers.good readings table answers.get (setting .id) (answers.heldBytes table setting)) ⌝ }
+    ensures { λ r. ⌜ r ≡ decidedOf (answers.good readings table answers.getCode (setting .id) (answers.heldBytes table setting)) ⌝ }
 {
     decisions::says(
         readings,
@@ -67,7 +67,7 @@ fn get_other(identity: Identity, readings: Readings, table: Table, id: u16) -> D
 // A Get: an id and flags 0, and no more.
 pub(crate) fn gets(identity: Identity, readings: Readings, table: Table, bytes: &[u8]) -> Decided
     requires { ⌜ identityAllowed identity ≡ true ⌝ }
-    ensures { λ r. ⌜ r ≡ decidedOf (answers.gets readings table identity (now (bytes .entry))) ⌝ }
+    ensures { λ r. ⌜ r ≡ decidedOf (answers.getAnswer readings table identity (now (bytes .entry))) ⌝ }
 {
     if bytes.len() != numbers::FRONT {
         return decisions::malformed(readings, table);

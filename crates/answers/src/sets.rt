@@ -100,7 +100,7 @@ fn set_other(identity: Identity, readings: Readings, table: Table, id: u16) -> D
 // A Set: an id, flags 0 and a value.
 pub(crate) fn sets(identity: Identity, readings: Readings, table: Table, bytes: &[u8]) -> Decided
     requires { ⌜ identityAllowed identity ≡ true ⌝ }
-    ensures { λ r. ⌜ r ≡ decidedOf (answers.sets readings table identity (now (bytes .entry))) ⌝ }
+    ensures { λ r. ⌜ r ≡ decidedOf (answers.setAnswer readings table identity (now (bytes .entry))) ⌝ }
 {
     if bytes.len() < numbers::FRONT {
         return decisions::malformed(readings, table);

@@ -1,6 +1,5 @@
 -- Laws of the definitions of specs/, and what the proofs of the functions cite.
 pub mod Digits
-pub mod Sameness
 pub mod Ranges
 pub mod Lining
 pub mod Texts

@@ -8,9 +8,9 @@ use borrow.Author.Tests.{lt-ltb, eqb-true, ne-eqb, not-true, leb-true}
 use lib.ListN.{length, getD, take, drop, length-append, take-append-drop}
 use lib.Seq.{take-append-seam, getD-append-seam, take-all, split-at}
 use lib.Dec.{ltb, leb, eqb}
-use Rattle.laws.specs.Lists.{every, before}
+use Rattle.laws.specs.Lists.{every, before, same}
 use Rattle.laws.proofs.Bools.{and-left, and-right, nor-left, both}
-use Rattle.laws.proofs.Lists.{every-append, before-first, drop-turn}
+use Rattle.laws.proofs.Lists.{every-append, before-first, drop-turn, same-back, same-self}
 use Rattle.wire.specs.Digits.{digit, isDigit}
 use Rattle.wire.specs.Frame.{colon, newline}
 use Rattle.wire.proofs.Nibbles.{digit-isDigit, digit-stays}
@@ -21,12 +21,11 @@ use Rattle.settings.specs.declared.Table.{Table}
 use Rattle.settings.proofs.Theorems.{rows-hold}
 use Rattle.settings.proofs.Tables.{range-at}
 use Rattle.backup.specs.Decimals.{isDecimal, decimal, isNumber}
-use Rattle.backup.specs.Text.{same, tab, header, idDigits, lineOf, linesFrom, textOf, Says, good, refused, lineLength, firstLine, isLine, isEnded, isDue, numberIn, Line, number, wrong, judged, lineSays, endSays, following, linesSay, textSays}
+use Rattle.backup.specs.Text.{tab, header, idDigits, lineOf, linesFrom, textOf, Says, good, refused, lineLength, firstLine, isLine, isEnded, isDue, numberIn, Line, number, wrong, judged, lineSays, endSays, following, linesSay, textSays}
 use Rattle.backup.specs.Calls.{writtenAs, reading, readAs}
 use Rattle.backup.specs.Laws.{WrittenIsRead, ReadIsWritten, TextIsShort}
 use Rattle.backup.specs.declared.Verdict.{Verdict}
 use Rattle.backup.specs.declared.Backup.{Backup}
-use Rattle.backup.proofs.Sameness.{same-back, same-self}
 use Rattle.backup.proofs.Ranges.{range-wide}
 use Rattle.backup.proofs.Digits.{number-decimal}
 use Rattle.backup.proofs.Decimal.{decimal-read, read-decimal}

@@ -9,9 +9,10 @@ use lib.ListN.{length, take, drop, length-take}
 use Rattle.settings.specs.Columns.{count}
 use Rattle.settings.specs.Rules.{allowed}
 use Rattle.settings.specs.declared.Table.{Table}
-use Rattle.backup.specs.Text.{header, textOf, refused, same, linesSay, textSays}
+use Rattle.backup.specs.Text.{header, textOf, refused, linesSay, textSays}
 use Rattle.backup.specs.Calls.{unwritten, writtenAs, writing, readAs, reading}
-use Rattle.backup.proofs.Sameness.{same-back}
+use Rattle.laws.specs.Lists.{same}
+use Rattle.laws.proofs.Lists.{same-back}
 
 -- reading
 module _ (text : List ℕ) where

@@ -5,7 +5,7 @@ use mathlib.Core.Bool.{Bool, true, false, cond, not, _&&_}
 use mathlib.Core.List.{List, [], _∷_, _++_}
 use lib.ListN.{length, take, drop, getD}
 use lib.Dec.{ltb, eqb}
-use Rattle.laws.specs.Lists.{every, before}
+use Rattle.laws.specs.Lists.{every, before, same}
 use Rattle.wire.specs.Digits.{isDigit}
 use Rattle.wire.specs.Frame.{newline, digitsOf}
 use Rattle.settings.specs.Columns.{count, idAt}
@@ -57,13 +57,6 @@ isEnded text = ltb (lineLength text) (length text)
 
 abbrev pub numberIn : List ℕ → ℕ
 numberIn line = valueOf (drop 5 line)
-
--- the same bytes
-abbrev pub same : List ℕ → List ℕ → Bool
-same [] [] = true
-same [] (y ∷ ys) = false
-same (x ∷ xs) [] = false
-same (x ∷ xs) (y ∷ ys) = eqb x y && same xs ys
 
 -- 15: "another id is due"
 abbrev pub isDue : ℕ → List ℕ → Bool

@@ -4,6 +4,7 @@ ghost use mathlib.Core.Path.{_≡_};
 ghost use mathlib.Core.List.{[]};
 ghost use Rattle.settings.specs.Columns.{count};
 ghost use Rattle.settings.specs.Rules.{inRange};
+ghost use Rattle.laws.specs.Lists.{same};
 ghost use Rattle.backup.specs.Text as spec;
 ghost use Rattle.backup.specs.Calls.{readAs};
 ghost use Rattle.backup.specs.AsHeld.{heldAs};
@@ -33,7 +34,7 @@ pub(crate) fn refused(number: u8, line: usize) -> Backup
 
 // The first line, as it stands.
 pub(crate) fn is_header(line: &[u8]) -> bool
-    ensures { λ r. ⌜ r ≡ spec.same (now (line .entry)) spec.header ⌝ }
+    ensures { λ r. ⌜ r ≡ same (now (line .entry)) spec.header ⌝ }
 {
     check::same(line, b"settings\t26\n")
 }

@@ -19,7 +19,8 @@ use Rattle.wire.proofs.Theorems.{written-is-heard, heard-is-writable}
 use Rattle.settings.specs.Columns.{count, idAt, widthAt}
 use Rattle.settings.proofs.Theorems.{rows-hold}
 use Rattle.wire.specs.Numbers.{little}
-use Rattle.answers.specs.Answers.{Sent, silent, sent, error, Decision, said, get, set, frameAnswer}
+use Rattle.answers.specs.Requests.{getRequest, setRequest}
+use Rattle.answers.specs.Answers.{Sent, silent, sent, error, Decision, said, getCode, setCode, frameAnswer}
 use Rattle.answers.specs.Laws.{Fits, a-frame, an-error}
 use Rattle.answers.specs.Laws as fitting
 use Rattle.answers.proofs.Theorems.{replies-fit, get-answers-held, set-stores-it, set-refused-names-nearest}
@@ -27,7 +28,7 @@ use Rattle.answers.proofs.Bytes.{length-little, bytes-little}
 use Rattle.answers.proofs.Fitting.{writable-said}
 use Rattle.board.specs.Parts.{boardAllowed}
 use Rattle.board.specs.Calls.{errorFrame, replyBytes, endedIn, deciding, decidedBy, heardBy, answering}
-use Rattle.board.specs.Laws.{Readable, ReplyIsRead, atRest, WholeIsAnswered, asks, GetAnswersHeld, sets, SetStoresIt, SetRefusedNamesNearest}
+use Rattle.board.specs.Laws.{Readable, ReplyIsRead, atRest, WholeIsAnswered, GetAnswersHeld, SetStoresIt, SetRefusedNamesNearest}
 use Rattle.board.specs.declared.Board.{Board}
 use Rattle.board.proofs.Lines.{identity-allowed, table-allowed, answering-heard}
 
@@ -99,22 +100,22 @@ module _ (board : Board) (k : ℕ) (h : k < count) (rest : atRest board) (ok : b
   settled : widthAt k ≤ 2
   settled = rows-hold k h .width-most
 
-  get-writable : Writable get (said (idAt k) 0 [])
-  get-writable = writable-said get (idAt k) 0 [] (leb-true 7 15 refl) (leb-true 1 256 refl) (leb-true 0 32 refl) refl
+  get-writable : Writable getCode (said (idAt k) 0 [])
+  get-writable = writable-said getCode (idAt k) 0 [] (leb-true 7 15 refl) (leb-true 1 256 refl) (leb-true 0 32 refl) refl
 
-  set-writable : (n : ℕ) → Writable set (said (idAt k) 0 (little (widthAt k) n))
+  set-writable : (n : ℕ) → Writable setCode (said (idAt k) 0 (little (widthAt k) n))
   set-writable n =
       let few : widthAt k ≤ 2 = settled in
-      writable-said set (idAt k) 0 (little (widthAt k) n) (leb-true 8 15 refl) (leb-true 1 256 refl)
+      writable-said setCode (idAt k) 0 (little (widthAt k) n) (leb-true 8 15 refl) (leb-true 1 256 refl)
       (rw (length-little (widthAt k) n) (omega arith)) (bytes-little (widthAt k) n)
 
-  set-whole : (n : ℕ) (d : Decision) → frameAnswer (board .readings) (board .table) (board .identity) set (said (idAt k) 0 (little (widthAt k) n)) ≡ d
-      → answering board (sets k n) room ≡ decidedBy board (board .held) d (length (sets k n))
-  set-whole n d e = whole-answered board set (said (idAt k) 0 (little (widthAt k) n)) room ok rest (set-writable n) enough ∙ rw e
+  set-whole : (n : ℕ) (d : Decision) → frameAnswer (board .readings) (board .table) (board .identity) setCode (said (idAt k) 0 (little (widthAt k) n)) ≡ d
+      → answering board (setRequest k n) room ≡ decidedBy board (board .held) d (length (setRequest k n))
+  set-whole n d e = whole-answered board setCode (said (idAt k) 0 (little (widthAt k) n)) room ok rest (set-writable n) enough ∙ rw e
 
-  get-whole : (d : Decision) → frameAnswer (board .readings) (board .table) (board .identity) get (said (idAt k) 0 []) ≡ d
-      → answering board (asks k) room ≡ decidedBy board (board .held) d (length (asks k))
-  get-whole d e = whole-answered board get (said (idAt k) 0 []) room ok rest get-writable enough ∙ rw e
+  get-whole : (d : Decision) → frameAnswer (board .readings) (board .table) (board .identity) getCode (said (idAt k) 0 []) ≡ d
+      → answering board (getRequest (idAt k)) room ≡ decidedBy board (board .held) d (length (getRequest (idAt k)))
+  get-whole d e = whole-answered board getCode (said (idAt k) 0 []) room ok rest get-writable enough ∙ rw e
 
 pub get-held : GetAnswersHeld
 unfolding decidedBy

@@ -18,7 +18,8 @@ use Rattle.settings.specs.Rules.{allowed, allowedFor, numberAt, partnerNumber, 
 use Rattle.settings.specs.declared.Table.{Table}
 use Rattle.answers.specs.Parts.{mostSerial, serialFits, serialOf, noReadings}
 use Rattle.wire.specs.Numbers.{little}
-use Rattle.answers.specs.Answers.{Sent, silent, sent, error, said, get, set, frameAnswer}
+use Rattle.answers.specs.Answers.{Sent, silent, sent, error, said, getCode, setCode, frameAnswer}
+use Rattle.answers.specs.Requests.{getRequest, setRequest}
 use Rattle.answers.specs.declared.Verdict.{Verdict}
 use Rattle.answers.specs.declared.Outcome.{Outcome}
 use Rattle.board.specs.Parts.{within, sampleFits, readingsOf, boardAllowed}
@@ -117,25 +118,19 @@ comesTo board table outcome reply request =
       written = reply;
     }
 
-abbrev pub asks : ℕ → List ℕ
-asks k = frame get (said (idAt k) 0 [])
-
-abbrev pub sets : ℕ → ℕ → List ℕ
-sets k n = frame set (said (idAt k) 0 (little (widthAt k) n))
-
 -- 7. A good Get answers the number now held, and changes nothing.
 abbrev pub GetAnswersHeld : Type 0
 GetAnswersHeld =
     (board : Board) (k room : ℕ) → boardAllowed board ≡ true → atRest board → k < count → frameRoom ≤ room
-    → answering board (asks k) room
-    ≡ comesTo board (board .table) Outcome.Answered (frame get (said (idAt k) 0 (little (widthAt k) (numberAt (board .table) k)))) (asks k)
+    → answering board (getRequest (idAt k)) room
+    ≡ comesTo board (board .table) Outcome.Answered (frame getCode (said (idAt k) 0 (little (widthAt k) (numberAt (board .table) k)))) (getRequest (idAt k))
 
 -- 8. A good Set answers what it stored and stores what it answered, that number alone: its reply is the request itself.
 abbrev pub SetStoresIt : Type 0
 SetStoresIt =
     (board : Board) (k n room : ℕ) → boardAllowed board ≡ true → atRest board → k < count → frameRoom ≤ room
     → allowedFor k n (partnerNumber (board .table) k) ≡ true
-    → answering board (sets k n) room ≡ comesTo board (changed (board .table) k n) Outcome.Answered (sets k n) (sets k n)
+    → answering board (setRequest k n) room ≡ comesTo board (changed (board .table) k n) Outcome.Answered (setRequest k n) (setRequest k n)
 
 -- 9. A Set of a number that is not allowed stores nothing, and answers flag 04 and the nearest allowed number.
 abbrev pub SetRefusedNamesNearest : Type 0
@@ -143,8 +138,8 @@ SetRefusedNamesNearest =
     (board : Board) (k n room : ℕ) → boardAllowed board ≡ true → atRest board → k < count → frameRoom ≤ room → n < 256 ^ widthAt k
     → allowedFor k n (partnerNumber (board .table) k) ≡ false
     → (m : ℕ) × Nearest k n (partnerNumber (board .table) k) m
-    × (answering board (sets k n) room
-    ≡ comesTo board (board .table) (Outcome.Refused 10) (frame set (said (idAt k) 4 (little (widthAt k) m))) (sets k n))
+    × (answering board (setRequest k n) room
+    ≡ comesTo board (board .table) (Outcome.Refused 10) (frame setCode (said (idAt k) 4 (little (widthAt k) m))) (setRequest k n))
 
 -- 10. "A state handed in is allowed when its settings, identity and readings are and its held frame is one that bytes could have left": a
 -- board is allowed exactly when starts, readings and bytes give it. (Arrays have their lengths and numbers their widths in every value of

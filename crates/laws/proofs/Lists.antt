@@ -1,6 +1,6 @@
 -- Laws of the words of specs/Lists, above all what one turn of a loop over a list shows. Assumes nothing.
 use mathlib.Core.Path.{_≡_, refl, sym, ap, ap₂, _∙_}
-use mathlib.Core.Bool.{Bool, true, false, not, cond, _&&_, and-assoc, and-true}
+use mathlib.Core.Bool.{Bool, true, false, not, cond, _&&_, and-assoc, and-true, false≢true}
 use mathlib.Core.Logic.{⊎-elim}
 use native.Mathlib.Nat.{eq-or-lt-of-le, le-of-suc-le-suc, not-suc-le-zero, add-zero, add-suc, suc-add, zero-min, min-zero, suc-min-suc}
 use mathlib.Core.List.{List, [], _∷_, _++_}
@@ -12,7 +12,7 @@ use lib.Dec.{eqb, leb}
 use borrow.Author.Tests.{eqb-true, eq-eqb, leb-true, le-leb}
 use lib.Seq.{drop-cons, sets, take-nil, take-all}
 use Rattle.laws.proofs.Bools.{and-left, and-right, both, same-test}
-use Rattle.laws.specs.Lists.{every, before, sumOf, upTo}
+use Rattle.laws.specs.Lists.{every, before, same, sumOf, upTo}
 
 module _ (l : List ℕ) (i : ℕ) (h : i < length l) where
   -- what is left of a list at a place: the entry there, and what is left behind it
@@ -161,3 +161,20 @@ zero-only b =
 pub zero-within : (l : List ℕ) → every (λ b. leb 0 b && leb b 0) l ≡ every (eqb 0) l
 zero-within [] = refl
 zero-within (b ∷ l) = ap₂ (λ (s t : Bool). s && t) (zero-only b) (zero-within l)
+
+-- the same entries
+pub same-back : (xs ys : List ℕ) → same xs ys ≡ true → xs ≡ ys
+same-back [] [] e = refl
+same-back [] (y ∷ ys) e = absurd (false≢true e)
+same-back (x ∷ xs) [] e = absurd (false≢true e)
+same-back (x ∷ xs) (y ∷ ys) e =
+    ap₂ (λ (z : ℕ) (zs : List ℕ). z ∷ zs) (eqb-true x y (and-left (eqb x y) _ e)) (same-back xs ys (and-right (eqb x y) _ e))
+
+pub same-self : (xs : List ℕ) → same xs xs ≡ true
+same-self [] = refl
+same-self (x ∷ xs) = both _ _ (eq-eqb x x refl) (same-self xs)
+
+-- what a comparison of two slices promises
+pub same-is : (r : Bool) (xs ys : List ℕ) → (r ≡ true → xs ≡ ys) × (xs ≡ ys → r ≡ true) → r ≡ same xs ys
+same-is r xs ys told =
+    same-test r (same xs ys) (λ e. rw (sym (told .0 e)) (same-self xs)) (λ e. told .1 (same-back xs ys e))

@@ -1,7 +1,8 @@
 -- Words about lists. Assumes nothing.
 use Prim.Native.Nat.{ℕ, zero, suc, _+_}
-use mathlib.Core.Bool.{Bool, true, cond, _&&_}
+use mathlib.Core.Bool.{Bool, true, false, cond, _&&_}
 use mathlib.Core.List.{List, [], _∷_}
+use lib.Dec.{eqb}
 
 -- the test p holds of every entry
 abbrev pub every : (ℕ → Bool) → List ℕ → Bool
@@ -12,6 +13,13 @@ every p (x ∷ xs) = p x && every p xs
 abbrev pub before : (ℕ → Bool) → List ℕ → ℕ
 before p [] = zero
 before p (x ∷ xs) = cond (p x) zero (suc (before p xs))
+
+-- the same entries
+abbrev pub same : List ℕ → List ℕ → Bool
+same [] [] = true
+same [] (y ∷ ys) = false
+same (x ∷ xs) [] = false
+same (x ∷ xs) (y ∷ ys) = eqb x y && same xs ys
 
 abbrev pub sumOf : List ℕ → ℕ
 sumOf [] = zero

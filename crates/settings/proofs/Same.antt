@@ -10,6 +10,7 @@ use mathlib.Core.Bool.{Bool}
 use Rattle.settings.proofs.find.Reads as find
 use Rattle.settings.proofs.at.Reads as at
 use Rattle.settings.proofs.in_range.Reads as in-range
+use Rattle.settings.proofs.allows.Reads as allows
 use Rattle.settings.proofs.nearest.Reads as nearest
 use Rattle.settings.proofs.Table.factory.Reads as factory
 use Rattle.settings.proofs.Table.is_allowed.Reads as is-allowed
@@ -42,3 +43,7 @@ set-same t index n r r′ met met′ = equal-same met met′
 pub in-range-same : (index number : ℕ) (r r′ : Bool) → in-range.Post tt (index, (number, tt)) r (index, (number, tt))
     → in-range.Post tt (index, (number, tt)) r′ (index, (number, tt)) → r ≡ r′
 in-range-same index number r r′ met met′ = equal-same met met′
+
+pub allows-same : (index number partner : ℕ) (r r′ : Bool) → allows.Post tt (index, (number, (partner, tt))) r (index, (number, (partner, tt)))
+    → allows.Post tt (index, (number, (partner, tt))) r′ (index, (number, (partner, tt))) → r ≡ r′
+allows-same index number partner r r′ met met′ = equal-same met met′

@@ -24,7 +24,7 @@ notAllowed = 12
 
 -- the setting at a place of the table, and the setting of an id
 abbrev pub settingAt : ℕ → Setting
-settingAt k = record { index = k; id = idAt k; width = widthAt k }
+settingAt k = record { index = k; id = idAt k; width = widthAt k; partner = partnerAt k }
 
 unfoldable pub placing : ℕ → Found
 placing k = cond (ltb k count) (Found.At (settingAt k)) Found.Nothing
@@ -39,6 +39,10 @@ finding id = placing (placeOf id)
 -- "outside own range", for any place
 unfoldable pub ranging : ℕ → ℕ → Bool
 ranging k n = ltb k count && inRange k n
+
+-- "A number is allowed for a setting when it is in its own range and agrees with the partner now held", for any place
+unfoldable pub allowing : ℕ → ℕ → ℕ → Bool
+allowing k n partner = ltb k count && allowedFor k n partner
 
 -- a setting's number; 12 for a table that is not allowed or a place past it
 unfoldable pub holding : Table → ℕ → Number

@@ -3,7 +3,7 @@
 ghost use mathlib.Core.Path.{_≡_};
 ghost use Rattle.settings.specs.Columns.{factory};
 ghost use Rattle.settings.specs.Rules.{allowed};
-ghost use Rattle.settings.specs.Calls.{finding, placing, ranging, holding, setTo, nearing};
+ghost use Rattle.settings.specs.Calls.{finding, placing, ranging, allowing, holding, setTo, nearing};
 ghost use Rattle.settings.specs.declared.Answer.{Answer};
 
 mod columns;
@@ -20,11 +20,12 @@ const NUMBER_NOT_ALLOWED: u8 = 10;
 
 const NOT_ALLOWED: u8 = 12;
 
-// A setting: its place in the table, its id and its width in bytes.
+// A setting: its place in the table, its id, its width in bytes, and the place of the other one of its pair (its own where it is alone).
 pub struct Setting {
     pub index: usize,
     pub id: u16,
     pub width: usize,
+    pub partner: usize,
 }
 
 // What a look-up finds: the setting, or none.
@@ -74,6 +75,7 @@ pub fn at(index: usize) -> Found
         index,
         id: columns::id_of(index),
         width: columns::width_of(index),
+        partner: columns::partner_of(index),
     })
 }
 
@@ -85,6 +87,16 @@ pub fn in_range(index: usize, number: u16) -> bool
         return false;
     }
     rules::in_range(index, number)
+}
+
+// Whether a number is allowed for the setting at a place while its partner holds another; none is past the table.
+pub fn allows(index: usize, number: u16, partner: u16) -> bool
+    ensures { λ r. ⌜ r ≡ allowing index number partner ⌝ }
+{
+    if COUNT <= index {
+        return false;
+    }
+    rules::allowed_for(index, number, partner)
 }
 
 // The nearest allowed number for a setting, given its partner's number: 7 for an id that is no setting, 12 for a partner outside its

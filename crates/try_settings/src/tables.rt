@@ -22,6 +22,7 @@ pub fn setting(place: usize) -> Setting {
             index: COUNT,
             id: 0,
             width: 0,
+            partner: COUNT,
         },
     }
 }

@@ -16,12 +16,16 @@ id-of-requires c κs = omega arith
 width-of-requires : tie.Need-width-of-requires
 width-of-requires c κs = omega arith
 
+partner-of-requires : tie.Need-partner-of-requires
+partner-of-requires c κs = omega arith
+
 returns-2 : tie.Need-returns-2
 unfolding placing
-returns-2 c = rw (c .before .id-of .ensures, c .width-of .ensures, lt-ltb _ count (c .before .before .if1 .left))
+returns-2 c =
+    rw (c .before .before .id-of .ensures, c .before .width-of .ensures, c .partner-of .ensures, lt-ltb _ count (c .before .before .before .if1 .left))
 
 pub at-spec : {M : Type 1} → statement M
 at-spec =
     tie.close
     (tie.spec
-    returns id-of-requires width-of-requires returns-2)
+    returns id-of-requires width-of-requires partner-of-requires returns-2)

@@ -1,6 +1,6 @@
 -- `backup::reader::is_header` meets its contract. Assumes nothing.
 use borrow.Author.Needs.{needs}
-use Rattle.backup.proofs.Sameness.{same-is}
+use Rattle.laws.proofs.Lists.{same-is}
 use Rattle.backup.proofs.reader.is_header.Statement.{statement}
 use Rattle.backup.proofs.reader.is_header.Tie as tie
 

@@ -13,7 +13,7 @@ use Rattle.backup.specs.AsHeld.{heldAs}
 use Rattle.backup.specs.Text.{isLine, isDue, numberIn, number}
 use Rattle.backup.proofs.Lining.{judged-bad, judged-other, judged-out, judged-number, line-number, line-long}
 use Rattle.backup.proofs.Ranges.{range-wide}
-use Rattle.backup.proofs.Sameness.{same-is}
+use Rattle.laws.proofs.Lists.{same-is}
 use Rattle.backup.proofs.reader.judged.Statement.{statement}
 use Rattle.backup.proofs.reader.judged.Tie as tie
 

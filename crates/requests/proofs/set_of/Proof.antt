@@ -1,0 +1,78 @@
+-- `requests::set_of` meets its contract. Assumes nothing.
+use mathlib.Core.Path.{sym, _∙_}
+use Prim.Native.Nat.{_<_}
+use borrow.Author.Tests.{not-true, not-false}
+use denote.Ref.{now}
+use Rattle.laws.proofs.Promise.{gives-none}
+use lib.ListN.{length, length-take}
+use Rattle.requests.proofs.Asking.{data-is, set-wide, set-of-is}
+use borrow.Author.Needs.{needs}
+use native.Mathlib.Omega.{arith}
+use Rattle.requests.proofs.set_of.Statement.{statement}
+use Rattle.requests.proofs.set_of.Tie as tie
+
+id-small : (s : tie.Start) → s .args .id < 65536
+id-small s = search needs
+
+number-small : (s : tie.Start) → s .args .number < 65536
+number-small s = search needs
+
+holds-requires : tie.Need-holds-requires
+holds-requires c κs = (c .before .pre .0, c .before .pre .1)
+
+returns : tie.Need-returns
+returns c = gives-none _ (set-wide _ _ _ (sym (c .before .holds .ensures) ∙ not-true _ (c .if1 .taken)))
+
+cast-t9 : tie.Need-cast-t9
+cast-t9 c = search needs
+
+cast-t11 : tie.Need-cast-t11
+cast-t11 c = search needs
+
+cast-t13 : tie.Need-cast-t13
+cast-t13 c = search needs
+
+cast-t15 : tie.Need-cast-t15
+cast-t15 c = search needs
+
+add-bytes : tie.Need-add-bytes
+add-bytes c = search needs
+
+array-share-prefix-bytes : tie.Need-array-share-prefix-bytes
+array-share-prefix-bytes c = search needs
+
+slice-aggregate-write-frame : tie.Need-slice-aggregate-write-frame
+slice-aggregate-write-frame c = rw length-take (omega (arith, c .before .before .before .before .pre))
+
+write-frame-requires : tie.Need-write-frame-requires
+write-frame-requires c κs = search needs
+
+same-length : tie.Need-same-length
+same-length c = search needs
+
+returns-2 : tie.Need-returns-2
+returns-2 c =
+    let s = c .before .before .before .before .before .before .before .before in
+    let fits = sym (c .before .before .before .before .before .before .holds .ensures) ∙ not-false _ (c .before .before .before .before .before .if1 .left) in
+    rw (
+      sym (set-of-is (s .args .id) (s .args .width) (s .args .number) (length (now (s .args .out))) (s .pre .1) (s .pre .2) fits),
+      sym (data-is (s .args .width) (s .args .id) (s .args .number) (s .pre .0) (s .pre .1) (id-small s) (number-small s)),
+    )
+    (c .before .before .write-frame .ensures)
+
+pub set-of-spec : {M : Type 1} → statement M
+set-of-spec =
+    tie.close
+    (tie.spec
+    holds-requires
+    returns
+    cast-t9
+    cast-t11
+    cast-t13
+    cast-t15
+    add-bytes
+    array-share-prefix-bytes
+    slice-aggregate-write-frame
+    write-frame-requires
+    same-length
+    returns-2)

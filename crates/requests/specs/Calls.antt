@@ -1,0 +1,27 @@
+-- What each public call answers, for every input. Assumes nothing.
+use Prim.Native.Nat.{ℕ, _^_}
+use mathlib.Core.Bool.{cond}
+use lib.Dec.{ltb}
+use Rattle.laws.specs.Promise.{Given}
+use Rattle.wire.specs.Frame.{frame, frameRoom}
+use Rattle.wire.specs.Numbers.{little}
+use Rattle.wire.specs.Calls.{shortBuffer, notAllowed, unwritten, writtenAs}
+use Rattle.wire.specs.declared.Written.{Written}
+use Rattle.settings.specs.Columns.{count, idAt, widthAt}
+use Rattle.answers.specs.Answers.{said, setCode}
+use Rattle.answers.specs.Requests.{getRequest}
+
+-- a Get of an id, whatever it is: 11 under the room of the longest frame, as for every frame
+unfoldable pub getWritten : ℕ → ℕ → Given Written
+getWritten id room = cond (ltb room frameRoom) (unwritten shortBuffer) (writtenAs (getRequest id))
+
+-- a Set of an id to a number in so many bytes, where there is room: 12 where they do not hold it
+unfoldable pub setOf : ℕ → ℕ → ℕ → Given Written
+setOf id width n = cond (ltb n (256 ^ width)) (writtenAs (frame setCode (said id 0 (little width n)))) (unwritten notAllowed)
+
+-- a Set of a setting: 11, then 12 where no setting stands at the place or its width does not hold the number; it is the request of
+-- specs/Requests of the crate `answers` (the law SetIsRequest)
+unfoldable pub setWritten : ℕ → ℕ → ℕ → Given Written
+setWritten k n room =
+    cond (ltb room frameRoom) (unwritten shortBuffer)
+    (cond (ltb k count) (setOf (idAt k) (widthAt k) n) (unwritten notAllowed))

@@ -1,0 +1,13 @@
+-- What is proved of the definitions. Each is proved under its name in proofs/Theorems.antt. Assumes nothing.
+use Prim.Native.Nat.{ℕ, _^_, _≤_, _<_}
+use mathlib.Core.Path.{_≡_}
+use Rattle.wire.specs.Frame.{frameRoom}
+use Rattle.wire.specs.Calls.{writtenAs}
+use Rattle.settings.specs.Columns.{count, widthAt}
+use Rattle.answers.specs.Requests.{setRequest}
+use Rattle.requests.specs.Calls.{setWritten}
+
+-- with room, a Set of a setting to a number that its width holds is written as the request that a board answers
+abbrev pub SetIsRequest : Type 0
+SetIsRequest =
+    (k n room : ℕ) → k < count → n < 256 ^ widthAt k → frameRoom ≤ room → setWritten k n room ≡ writtenAs (setRequest k n)

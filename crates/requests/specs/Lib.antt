@@ -1,0 +1,3 @@
+-- What the box asks of a board about a setting. Read them in this order.
+pub mod Calls
+pub mod Laws

@@ -1,0 +1,79 @@
+// What the box asks of a board about a setting, written as a frame: a Get of an id, and a Set of a setting to a number. Both calls take
+// anything, and their promises fix their answers and every lent byte (specs/Calls.antt).
+ghost use mathlib.Core.Path.{_≡_};
+ghost use Prim.Native.Nat.{_≤_, _^_};
+ghost use lib.Dec.{ltb};
+ghost use lib.ListN.{length};
+ghost use Rattle.wire.specs.Frame.{frameRoom};
+ghost use Rattle.laws.specs.Promise.{Gives};
+ghost use Rattle.wire.specs.declared.Written.{Written};
+ghost use Rattle.requests.specs.Calls.{getWritten, setOf, setWritten};
+use settings::Found;
+use wire::Written;
+
+// Commands.
+const GET: u8 = 7;
+
+const SET: u8 = 8;
+
+// An id and the flags stand before the value.
+const FRONT: usize = 3;
+
+// A request's flags.
+const NO_FLAGS: u8 = 0;
+
+// The room that the longest frame takes.
+const FRAME_ROOM: usize = 75;
+
+// 11: a lent buffer is too short; 12: no setting stands at a place, or its width does not hold a number.
+const SHORT_BUFFER: u8 = 11;
+
+const NOT_ALLOWED: u8 = 12;
+
+// Writes a Get of an id to the front of `out`. Refuses 11 under 75 bytes of room.
+pub fn get(id: u16, out: &mut [u8]) -> Written
+    ensures { λ r. ⌜ Gives Written (getWritten id (length (now (out .entry)))) (now (out .entry)) r (now (out .exit)) ⌝ }
+{
+    let bytes = [(id % 256) as u8, (id / 256) as u8, NO_FLAGS];
+    wire::write_frame(GET, &bytes, out)
+}
+
+// Writes a Set of the setting at a place to the front of `out`. Refuses 11 under 75 bytes of room, then 12 for a place past the table or
+// a number that the setting's width does not hold.
+pub fn set(index: usize, number: u16, out: &mut [u8]) -> Written
+    ensures { λ r. ⌜ Gives Written (setWritten index number (length (now (out .entry)))) (now (out .entry)) r (now (out .exit)) ⌝ }
+{
+    if out.len() < FRAME_ROOM {
+        return Written::Refused(SHORT_BUFFER);
+    }
+    match settings::at(index) {
+        Found::At(setting) => set_of(setting.id, setting.width, number, out),
+        Found::Nothing => Written::Refused(NOT_ALLOWED),
+    }
+}
+
+// Whether a width of one or two bytes holds a number.
+fn holds(width: usize, number: u16) -> bool
+    requires { ⌜ (1 ≤ width) × (width ≤ 2) ⌝ }
+    ensures { λ r. ⌜ r ≡ ltb number (256 ^ width) ⌝ }
+{
+    (width == 2) | (number < 256)
+}
+
+// A Set of an id to a number in one or two bytes, where there is room for every frame.
+fn set_of(id: u16, width: usize, number: u16, out: &mut [u8]) -> Written
+    requires { ⌜ (1 ≤ width) × (width ≤ 2) × (frameRoom ≤ length (now out)) ⌝ }
+    ensures { λ r. ⌜ Gives Written (setOf id width number) (now (out .entry)) r (now (out .exit)) ⌝ }
+{
+    if !holds(width, number) {
+        return Written::Refused(NOT_ALLOWED);
+    }
+    let bytes = [
+        (id % 256) as u8,
+        (id / 256) as u8,
+        NO_FLAGS,
+        (number % 256) as u8,
+        (number / 256) as u8,
+    ];
+    wire::write_frame(SET, &bytes[..FRONT + width], out)
+}

@@ -1,0 +1,20 @@
+-- The statements of specs/Laws.antt, proved. Assumes nothing.
+use Rattle.restore.specs.Laws.{OneForEach, NoOther, InOrder, ListRestores, ListIsShort}
+use Rattle.restore.proofs.Placing.{one-each, no-other, in-order}
+use Rattle.restore.proofs.Restoring.{list-restores}
+use Rattle.restore.proofs.Rows.{frames-fit}
+
+pub one-for-each : OneForEach
+one-for-each = one-each
+
+pub no-other-set : NoOther
+no-other-set = no-other
+
+pub sets-are-in-order : InOrder
+sets-are-in-order = in-order
+
+pub list-restores-it : ListRestores
+list-restores-it = list-restores
+
+pub list-is-short : ListIsShort
+list-is-short = frames-fit

@@ -1,0 +1,73 @@
+-- What is proved of the definitions, as statements to hold against the paper. Each is proved under its name in proofs/Theorems.antt.
+-- Assumes nothing.
+use Prim.Native.Nat.{ℕ, zero, suc, _≤_, _<_}
+use mathlib.Core.Path.{_≡_}
+use mathlib.Core.Bool.{Bool, true, false, cond, not, _&&_}
+use mathlib.Core.List.{List, [], _∷_}
+use lib.ListN.{length, getD}
+use lib.Dec.{ltb, eqb}
+use Rattle.laws.specs.Lists.{every}
+use Rattle.settings.specs.Columns.{count, partnerAt, roleAt}
+use Rattle.settings.specs.Rules.{agrees, allowed, numberAt}
+use Rattle.settings.specs.Calls.{setTo}
+use Rattle.settings.specs.declared.Table.{Table}
+use Rattle.settings.specs.declared.Answer.{Answer}
+use Rattle.restore.specs.Order.{differs, order, dueSets}
+use Rattle.restore.specs.Calls.{framesFor, listRoom}
+use Rattle.restore.specs.declared.Wanted.{Wanted}
+
+-- two allowed tables. (A table has its numbers in every value of the type, which `length` says.)
+pub record Tables (from to : Table) : Type 0 where
+  pub from-long : length (from .numbers) ≡ count
+  pub to-long : length (to .numbers) ≡ count
+  pub from-allowed : allowed from ≡ true
+  pub to-allowed : allowed to ≡ true
+
+-- 1. "one Set for each differing setting", and no other: how often a setting comes up in the order
+abbrev pub times : ℕ → List ℕ → ℕ
+times k [] = zero
+times k (j ∷ more) = cond (eqb j k) (suc (times k more)) (times k more)
+
+abbrev pub OneForEach : Type 0
+OneForEach = (from to : Table) (k : ℕ) → k < count → times k (order from to) ≡ cond (differs from to k) 1 0
+
+abbrev pub NoOther : Type 0
+NoOther = (from to : Table) → every (λ k. ltb k count && differs from to k) (order from to) ≡ true
+
+-- 2. The order, of any two of them: "the lower id goes first if its new number agrees with the partner's present one, else the higher" where
+-- they are a pair, else "ascending id".
+unfoldable pub goesFirst : Table → Table → ℕ → ℕ → Bool
+goesFirst from to a b =
+    cond (eqb (partnerAt a) b)
+    (cond (ltb a b) (agrees (roleAt a) (numberAt to a) (numberAt from b)) (not (agrees (roleAt b) (numberAt to b) (numberAt from a))))
+    (ltb a b)
+
+abbrev pub InOrder : Type 0
+InOrder =
+    (from to : Table) (i j : ℕ) → i < j → j < length (order from to) → goesFirst from to (getD (order from to) i 0) (getD (order from to) j 0) ≡ true
+
+-- 3. Any row of Sets put to the settings rule, each on the table that those before it left: all are accepted, and what they leave.
+abbrev pub isAccepted : Answer → Bool
+isAccepted Answer.Accepted = true
+isAccepted (Answer.Refused number nearest) = false
+
+abbrev pub accepted : Table → List Wanted → Bool
+accepted table [] = true
+accepted table (w ∷ more) =
+    isAccepted (setTo table (w .setting .index) (w .number) .answer) && accepted (setTo table (w .setting .index) (w .number) .table) more
+
+abbrev pub left : Table → List Wanted → Table
+left table [] = table
+left table (w ∷ more) = left (setTo table (w .setting .index) (w .number) .table) more
+
+-- The list's Sets are accepted each in turn, and the last table is the wanted one.
+pub record Restores (from to : Table) : Type 0 where
+  pub each-accepted : accepted from (dueSets from to) ≡ true
+  pub wanted-stands : left from (dueSets from to) ≡ to
+
+abbrev pub ListRestores : Type 0
+ListRestores = (from to : Table) → Tables from to → Restores from to
+
+-- 4. The list fits its room.
+abbrev pub ListIsShort : Type 0
+ListIsShort = (from to : Table) → length (framesFor (dueSets from to)) ≤ listRoom
