@@ -110,6 +110,11 @@ every-take p zero l e = refl
 every-take p (suc n) [] e = refl
 every-take p (suc n) (x ∷ xs) e = rw (and-left (p x) (every p xs) e) (every-take p n xs (and-right (p x) (every p xs) e))
 
+pub every-drop : (p : ℕ → Bool) (n : ℕ) (l : List ℕ) → every p l ≡ true → every p (drop n l) ≡ true
+every-drop p zero l e = e
+every-drop p (suc n) [] e = refl
+every-drop p (suc n) (x ∷ l) e = every-drop p n l (and-right (p x) (every p l) e)
+
 -- up to the first entry of which a test holds, it holds of none; and there it holds
 pub record First (p : ℕ → Bool) (l : List ℕ) (n : ℕ) : Type 0 where
   pub inside : n ≤ length l

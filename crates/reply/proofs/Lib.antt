@@ -5,5 +5,6 @@ pub mod Choices
 pub mod Hearing
 pub mod Origins
 pub mod Measures
+pub mod Lengths
 pub mod Theorems
 pub mod Same

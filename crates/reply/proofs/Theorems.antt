@@ -1,8 +1,9 @@
 -- The statements of specs/Laws.antt, proved. Assumes nothing.
-use Rattle.reply.specs.Laws.{SaidIsRead, DoneIsRead, UnknownIsRead, ErrorIsRead, PingIsRead, ReadIsFrom, ReadIsSaid, NarrowIsShown, WideIsShown, PlainIsShown, BoardIsShown}
+use Rattle.reply.specs.Laws.{SaidIsRead, DoneIsRead, UnknownIsRead, ErrorIsRead, PingIsRead, ReadIsFrom, ReadIsSaid, ToldIsLong, NarrowIsShown, WideIsShown, PlainIsShown, BoardIsShown}
 use Rattle.reply.proofs.Hearing.{said-read, done-read, unknown-read, error-read, ping-read}
 use Rattle.reply.proofs.Origins.{read-from, read-said}
 use Rattle.reply.proofs.Measures.{narrow-shown, wide-shown, plain-shown, board-shown}
+use Rattle.reply.proofs.Lengths.{told-long}
 
 pub said-is-read : SaidIsRead
 said-is-read = said-read
@@ -36,3 +37,6 @@ plain-is-shown = plain-shown
 
 pub board-is-shown : BoardIsShown
 board-is-shown = board-shown
+
+pub told-is-long : ToldIsLong
+told-is-long = told-long

@@ -1,10 +1,11 @@
 -- What is proved of the definitions, as statements to hold against the paper. Each is proved under its name in proofs/Theorems.antt.
 -- Assumes nothing.
-use Prim.Native.Nat.{ℕ, _*_, _^_, _<_}
+use Prim.Native.Nat.{ℕ, _*_, _^_, _≤_, _<_}
 use mathlib.Core.Path.{_≡_}
 use mathlib.Core.Bool.{Bool, true, false, cond, _||_}
 use mathlib.Core.List.{List, [], _∷_}
 use mathlib.Core.Option.{some}
+use lib.ListN.{length}
 use lib.Dec.{eqb}
 use lib.IntN.{ℤ, pos}
 use lib.Signed.{mag}
@@ -71,6 +72,20 @@ pub record Told (status : Status) (id : ℕ) (bytes : List ℕ) : Type 0 where
 
 abbrev pub ReadIsSaid : Type 0
 ReadIsSaid = (status : Status) (id : ℕ) (bytes : List ℕ) → Bytes bytes → Told status id bytes
+
+-- and it has the first three bytes, whatever the data are
+abbrev pub isTold : Reply → Bool
+isTold Reply.Done = false
+isTold (Reply.Unknown command) = false
+isTold (Reply.Error code) = false
+isTold (Reply.Ping version) = false
+isTold (Reply.Get status id) = true
+isTold (Reply.Set status id) = true
+isTold (Reply.Async status id) = true
+isTold (Reply.Refused number) = false
+
+abbrev pub ToldIsLong : Type 0
+ToldIsLong = (command : ℕ) (bytes : List ℕ) → isTold (reading command bytes) ≡ true → 3 ≤ length bytes
 
 -- 3. A reading that a board sends is shown as its whole number, divided once. (`mag` is the distance to 0, or of a negative number to -1: twice
 -- it below 256 ^ 2 is any number of 16 bits with a sign.)

@@ -16,6 +16,7 @@ use Rattle.settings.specs.Columns.{count, idAt, widthAt}
 use Rattle.settings.specs.Calls.{settingAt, placing}
 use Rattle.settings.specs.declared.Setting.{Setting}
 use Rattle.settings.specs.declared.Found.{Found}
+use Rattle.answers.proofs.Bytes.{length-little}
 use Rattle.answers.specs.Answers.{said, getCode, setCode}
 use Rattle.requests.specs.Calls.{getWritten, setOf, setWritten}
 use Rattle.requests.specs.Laws.{SetIsRequest}
@@ -43,10 +44,6 @@ data-is zero id n some few h small = absurd (omega arith)
 data-is (suc zero) id n some few h small = rw (high-byte id h)
 data-is (suc (suc zero)) id n some few h small = rw (high-byte id h, high-byte n small)
 data-is (suc (suc (suc w))) id n some few h small = absurd (omega arith)
-
-pub length-little : (width n : ℕ) → length (little width n) ≡ width
-length-little zero n = refl
-length-little (suc w) n = ap suc (length-little w (n / 256))
 
 module _ (id width n : ℕ) where
   pub set-wide : ltb n (256 ^ width) ≡ false → setOf id width n ≡ unwritten notAllowed

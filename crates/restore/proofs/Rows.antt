@@ -5,7 +5,7 @@ use mathlib.Core.List.{List, [], _∷_, _++_, map, append-assoc, append-nil}
 use Prim.Native.Nat.{ℕ, zero, suc, _+_, _*_, _-_, _≤_, _<_}
 use native.Mathlib.Numerals.{add-one}
 use native.Mathlib.Omega.{arith}
-use borrow.Author.Tests.{lt-ltb, le-ltb}
+use borrow.Author.Tests.{lt-ltb, le-ltb, ltb-true, ltb-false}
 use lib.ListN.{length, getD, take, set, length-take, length-set, length-map}
 use lib.Seq.{take-suc-set, take-set-le, getD-take}
 use lib.Dec.{ltb}
@@ -20,14 +20,14 @@ use Rattle.settings.specs.declared.Table.{Table}
 use Rattle.settings.proofs.Tables.{range-at}
 use Rattle.restore.specs.Order.{differs, higherFirst, placed, turnsFrom, order, wanted, dueSets}
 use Rattle.restore.specs.AsHeld.{Holds, setsOf}
-use Rattle.restore.specs.Laws.{ListIsShort}
+use Rattle.restore.specs.Laws.{SetsAreFew, ListIsShort, Tells, a-set, none-left, not-allowed, DueTells}
 use Rattle.restore.specs.Calls.{bothAllowed, framesFor, listRoom, unlisted, listedAs, listing, dueAfter, dueIn}
 use Rattle.restore.specs.declared.Wanted.{Wanted}
 use Rattle.restore.specs.declared.Due.{Due}
 use Rattle.restore.specs.declared.Listed.{Listed}
 use Rattle.restore.specs.declared.order.Row.{Row}
 use Rattle.restore.proofs.Writing.{frames-short}
-use Rattle.restore.proofs.Placing.{turns-none, turns-more, turns-skip, no-other}
+use Rattle.restore.proofs.Placing.{turns-none, turns-more, turns-skip, no-other, entry-fits}
 
 -- for a wanted number of an allowed table, what is allowed is what agrees
 pub allows-agrees : (to : Table) → allowed to ≡ true → (k p : ℕ) → k < count → allowing k (numberAt to k) p ≡ agrees (roleAt k) (numberAt to k) p
@@ -171,6 +171,10 @@ turns-few (suc left) k from to = by (differs from to (placed from to k)) refl (t
     by true d later = rw (turns-more from to left k (placed from to k) refl d) (omega arith)
     by false d later = rw (turns-skip from to left k (placed from to k) refl d) (omega arith)
 
+pub sets-few : SetsAreFew
+unfolding order
+sets-few from to = rw (length-map (order from to) (wanted to)) (turns-few count 0 from to)
+
 pub frames-fit : ListIsShort
 unfolding order
 frames-fit from to =
@@ -188,3 +192,20 @@ pub after-some : (to : Table) (l : List ℕ) (n : ℕ) → n < length l → Due.
 after-some to [] n h = absurd (omega arith)
 after-some to (k ∷ l) zero h = refl
 after-some to (k ∷ l) (suc n) h = after-some to l n (omega arith)
+
+-- what is due tells how many there are
+pub tells-due : DueTells
+tells-due from to n = by (bothAllowed from to) (ltb n (length (order from to))) refl refl
+  where
+    size : length (dueSets from to) ≡ length (order from to)
+    size = length-map (order from to) (wanted to)
+
+    by : (b s : Bool) → bothAllowed from to ≡ b → ltb n (length (order from to)) ≡ s → Tells from to n (dueIn from to n)
+    by false s e f = rw (sym (due-stray from to n e)) (not-allowed e)
+    by true true e f =
+        let less : n < length (order from to) = ltb-true _ _ f in
+        let is : Due.Set (wanted to (getD (order from to) n 0)) ≡ dueIn from to n = after-some to (order from to) n less ∙ due-is from to n e in
+        rw (sym is) (a-set (getD (order from to) n 0) refl (entry-fits from to n less .0) e (rw size less))
+    by true false e f =
+        let most : length (dueSets from to) ≤ n = rw size (ltb-false _ _ f) in
+        rw (sym (after-last (dueSets from to) n most ∙ due-is from to n e)) (none-left e most)

@@ -1,8 +1,8 @@
 -- The statements of specs/Laws.antt, proved. Assumes nothing.
-use Rattle.restore.specs.Laws.{OneForEach, NoOther, InOrder, ListRestores, ListIsShort}
+use Rattle.restore.specs.Laws.{OneForEach, NoOther, InOrder, ListRestores, SetsAreFew, ListIsShort, DueTells}
 use Rattle.restore.proofs.Placing.{one-each, no-other, in-order}
 use Rattle.restore.proofs.Restoring.{list-restores}
-use Rattle.restore.proofs.Rows.{frames-fit}
+use Rattle.restore.proofs.Rows.{sets-few, frames-fit, tells-due}
 
 pub one-for-each : OneForEach
 one-for-each = one-each
@@ -16,5 +16,11 @@ sets-are-in-order = in-order
 pub list-restores-it : ListRestores
 list-restores-it = list-restores
 
+pub sets-are-few : SetsAreFew
+sets-are-few = sets-few
+
 pub list-is-short : ListIsShort
 list-is-short = frames-fit
+
+pub due-tells : DueTells
+due-tells = tells-due

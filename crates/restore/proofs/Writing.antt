@@ -26,7 +26,7 @@ use Rattle.settings.proofs.Tables.{range-at}
 use Rattle.answers.specs.Answers.{setCode}
 use Rattle.answers.specs.Requests.{setData, setRequest}
 use Rattle.requests.specs.Calls.{setWritten}
-use Rattle.requests.proofs.Asking.{length-little}
+use Rattle.answers.proofs.Bytes.{length-little}
 use Rattle.requests.proofs.Theorems.{set-is-request}
 use Rattle.restore.specs.Order.{wanted}
 use Rattle.restore.specs.AsHeld.{setsOf}

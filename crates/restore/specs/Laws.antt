@@ -12,9 +12,10 @@ use Rattle.settings.specs.Rules.{agrees, allowed, numberAt}
 use Rattle.settings.specs.Calls.{setTo}
 use Rattle.settings.specs.declared.Table.{Table}
 use Rattle.settings.specs.declared.Answer.{Answer}
-use Rattle.restore.specs.Order.{differs, order, dueSets}
-use Rattle.restore.specs.Calls.{framesFor, listRoom}
+use Rattle.restore.specs.Order.{differs, order, wanted, dueSets}
+use Rattle.restore.specs.Calls.{bothAllowed, framesFor, listRoom, dueIn}
 use Rattle.restore.specs.declared.Wanted.{Wanted}
+use Rattle.restore.specs.declared.Due.{Due}
 
 -- two allowed tables. (A table has its numbers in every value of the type, which `length` says.)
 pub record Tables (from to : Table) : Type 0 where
@@ -68,6 +69,18 @@ pub record Restores (from to : Table) : Type 0 where
 abbrev pub ListRestores : Type 0
 ListRestores = (from to : Table) → Tables from to → Restores from to
 
--- 4. The list fits its room.
+-- 4. There are no more Sets than settings, and the list fits its room.
+abbrev pub SetsAreFew : Type 0
+SetsAreFew = (from to : Table) → length (dueSets from to) ≤ count
+
 abbrev pub ListIsShort : Type 0
 ListIsShort = (from to : Table) → length (framesFor (dueSets from to)) ≤ listRoom
+
+-- 5. What is due tells how many Sets there are: one is due after fewer than all, namely the next of the order, and none after all.
+pub data Tells (from to : Table) (done : ℕ) : Due → Type 0 where
+  a-set : (k : ℕ) → k ≡ getD (order from to) done 0 → k < count → bothAllowed from to ≡ true → done < length (dueSets from to) → Tells from to done (Due.Set (wanted to k))
+  none-left : bothAllowed from to ≡ true → length (dueSets from to) ≤ done → Tells from to done Due.Nothing
+  not-allowed : bothAllowed from to ≡ false → Tells from to done (Due.Refused 12)
+
+abbrev pub DueTells : Type 0
+DueTells = (from to : Table) (done : ℕ) → Tells from to done (dueIn from to done)

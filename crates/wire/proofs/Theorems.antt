@@ -1,7 +1,7 @@
 -- The statements of specs/Laws.antt, proved. Assumes nothing.
-use Rattle.wire.specs.Laws.{WrittenIsRead, WrittenIsHeard, ReadIsWritten, HeardIsWritable, AnyCutting, AllIsTaken, CuttingChangesNothing, FirstEndIsFirst, AllowedIsLeft, LittleIsRead, ComplementIsRead}
+use Rattle.wire.specs.Laws.{WrittenIsRead, WrittenIsHeard, ReadIsWritten, HeardIsWritable, AnyCutting, AllIsTaken, CuttingChangesNothing, FirstEndIsFirst, AllowedIsLeft, LittleIsRead, ReadIsLittle, ComplementIsRead}
 use Rattle.wire.proofs.RoundTrip.{frame-says, frame-heard, slice-written, heard-writable}
-use Rattle.wire.proofs.Signs.{little-read, complement-read}
+use Rattle.wire.proofs.Signs.{little-read, read-little, complement-read}
 use Rattle.wire.proofs.Cuts
 use Rattle.wire.proofs.Reached
 
@@ -34,6 +34,9 @@ allowed-is-left = Reached.allowed-left
 
 pub little-is-read : LittleIsRead
 little-is-read = little-read
+
+pub read-is-little : ReadIsLittle
+read-is-little = read-little
 
 pub complement-is-read : ComplementIsRead
 complement-is-read = complement-read

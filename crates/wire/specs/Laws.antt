@@ -115,10 +115,13 @@ abbrev pub AllowedIsLeft : Type 0
 AllowedIsLeft =
     (held : Held) → length (held .chars) ≡ mostHeld → (allowed held ≡ true) ↔ ((bytes : List ℕ) × (heldOf (leftBy bytes) ≡ held))
 
--- 5. A number written in so many bytes is read back from them, and so is a whole number in two's complement: a negative one has the
--- magnitude that it exceeds -1 by.
+-- 5. A number written in so many bytes is read back from them, and bytes are those of their number; and so is a whole number in two's
+-- complement read back: a negative one has the magnitude that it exceeds -1 by.
 abbrev pub LittleIsRead : Type 0
 LittleIsRead = (width n : ℕ) → n < 256 ^ width → fromLittle (little width n) ≡ n
+
+abbrev pub ReadIsLittle : Type 0
+ReadIsLittle = (bytes : List ℕ) → Bytes bytes → little (length bytes) (fromLittle bytes) ≡ bytes
 
 abbrev pub ComplementIsRead : Type 0
 ComplementIsRead = (width : ℕ) (x : ℤ) → 1 ≤ width → 2 * mag x < 256 ^ width → signed width (complement width x) ≡ x

@@ -1,0 +1,8 @@
+-- Laws of the definitions of specs/, and what the proofs of the functions cite.
+pub mod Verdicts
+pub mod Standing
+pub mod Matching
+pub mod Counting
+pub mod Reaching
+pub mod Theorems
+pub mod Same

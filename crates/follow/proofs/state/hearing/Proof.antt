@@ -1,0 +1,65 @@
+-- `follow::state::hearing` meets its contract. Assumes nothing.
+use mathlib.Core.Path.{sym, ap, _∙_}
+use Prim.Native.Nat.{_-_}
+use Rattle.follow.specs.Following.{heard, moved}
+use Rattle.follow.proofs.Standing.{advanced-is, waiting-narrow}
+use borrow.Author.Needs.{needs}
+use Rattle.follow.proofs.state.hearing.Statement.{statement}
+use Rattle.follow.proofs.state.hearing.Tie as tie
+
+standing-of-requires : tie.Need-standing-of-requires
+standing-of-requires c κs = search needs
+
+enum-known-outcome : tie.Need-enum-known-outcome
+enum-known-outcome c = search needs
+
+on-reply-requires : tie.Need-on-reply-requires
+on-reply-requires c κs = waiting-narrow _ _ (sym (c .before .before .before .standing-of .ensures) ∙ c .before .outcome .given .1)
+
+moved-by-requires : tie.Need-moved-by-requires
+moved-by-requires c κs = c .before .before .before .before .before .before .pre
+
+enum-told : tie.Need-enum-told
+enum-told c = search needs
+
+enum-told-2 : tie.Need-enum-told-2
+enum-told-2 c = search needs
+
+enum-told-3 : tie.Need-enum-told-3
+enum-told-3 c = search needs
+
+enum-told-4 : tie.Need-enum-told-4
+enum-told-4 c = search needs
+
+returns : tie.Need-returns
+returns c = c .moved-by .ensures ∙ ap (moved (c .before .before .before .before .before .before .before .args .follower)) (c .before .on-reply .ensures) ∙ advanced-is _ (heard _ _) _ (sym (c .before .before .before .before .before .standing-of .ensures) ∙ c .before .before .before .outcome .given .1)
+
+returns-2 : tie.Need-returns-2
+returns-2 c = advanced-is _ (heard _ _) _ (sym (c .before .before .standing-of .ensures) ∙ c .enum-told .given .1)
+
+returns-3 : tie.Need-returns-3
+returns-3 c = advanced-is _ (heard _ _) _ (sym (c .before .before .standing-of .ensures) ∙ c .enum-told2 .given .1)
+
+returns-4 : tie.Need-returns-4
+returns-4 c = advanced-is _ (heard _ _) _ (sym (c .before .before .standing-of .ensures) ∙ c .enum-told3 .given .1)
+
+returns-5 : tie.Need-returns-5
+returns-5 c = advanced-is _ (heard _ _) _ (sym (c .before .before .standing-of .ensures) ∙ c .enum-told4 .given .1)
+
+pub hearing-spec : {M : Type 1} → statement M
+hearing-spec =
+    tie.close
+    (tie.spec
+    standing-of-requires
+    enum-known-outcome
+    on-reply-requires
+    moved-by-requires
+    enum-told
+    enum-told-2
+    enum-told-3
+    enum-told-4
+    returns
+    returns-2
+    returns-3
+    returns-4
+    returns-5)

@@ -1,0 +1,22 @@
+-- What the program asks of a Set and of a state, in words that its functions cite. Assumes nothing.
+use Prim.Native.Nat.{ℕ, _-_, _≤_}
+use mathlib.Core.Bool.{Bool, true, false, cond}
+use lib.Dec.{eqb}
+use Rattle.settings.specs.declared.Table.{Table}
+use Rattle.restore.specs.Calls.{dueIn}
+use Rattle.restore.specs.declared.Wanted.{Wanted}
+use Rattle.restore.specs.declared.Due.{Due}
+
+-- a Set of one or two bytes
+pub record Narrow (due : Wanted) : Type 0 where
+  pub some : 1 ≤ due .setting .width
+  pub few : due .setting .width ≤ 2
+
+abbrev pub isSet : Due → Bool
+isSet (Due.Set due) = true
+isSet Due.Nothing = false
+isSet (Due.Refused number) = false
+
+-- so many Sets can have been confirmed: none, or there is a last one of them
+unfoldable pub reached : Table → Table → ℕ → Bool
+reached from to confirmed = cond (eqb confirmed 0) true (isSet (dueIn from to (confirmed - 1)))

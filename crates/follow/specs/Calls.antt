@@ -1,0 +1,26 @@
+-- What each public call answers, for every input. Assumes nothing.
+use Prim.Native.Nat.{zero}
+use mathlib.Core.Bool.{cond}
+use Rattle.settings.specs.declared.Table.{Table}
+use Rattle.follow.specs.Following.{Event, standing, advanced, begun, followerAllowed}
+use Rattle.follow.specs.declared.Follower.{Follower}
+use Rattle.follow.specs.declared.Outcome.{Outcome}
+use Rattle.follow.specs.declared.Followed.{Followed}
+
+-- the follower, where it stands, and "the number confirmed"
+abbrev pub answered : Follower → Followed
+answered f = record { follower = f; outcome = standing f; confirmed = f .confirmed }
+
+-- 12: "a state handed in comes back as it was, with counts and lengths 0"
+abbrev pub unanswered : Follower → Followed
+unanswered f = record { follower = f; outcome = Outcome.Refused 12; confirmed = zero }
+
+unfoldable pub told : Follower → Followed
+told f = cond (followerAllowed f) (answered f) (unanswered f)
+
+-- "Following starts from the same two tables (else 12)."
+unfoldable pub starting : Table → Table → Followed
+starting from to = told (begun from to)
+
+unfoldable pub following : Follower → Event → Followed
+following f e = cond (followerAllowed f) (answered (advanced f e)) (unanswered f)

@@ -1,0 +1,94 @@
+-- What is proved of the definitions, as statements to hold against the paper. Each is proved under its name in proofs/Theorems.antt.
+-- Assumes nothing.
+use Prim.Native.Nat.{ℕ, zero, suc, _<_}
+use mathlib.Core.Path.{_≡_}
+use mathlib.Core.Logic.{_↔_}
+use mathlib.Core.Bool.{Bool, true, false, cond, _&&_, _||_}
+use mathlib.Core.List.{List, [], _∷_, map}
+use lib.ListN.{length, take, getD}
+use lib.Dec.{eqb, leb}
+use Rattle.laws.specs.Lists.{same}
+use Rattle.wire.specs.Numbers.{little}
+use Rattle.wire.specs.Laws.{Bytes}
+use Rattle.settings.specs.declared.Table.{Table}
+use Rattle.answers.specs.Answers.{said, setCode}
+use Rattle.restore.specs.Order.{dueSets}
+use Rattle.restore.specs.Calls.{bothAllowed}
+use Rattle.restore.specs.declared.Wanted.{Wanted}
+use Rattle.follow.specs.Following.{Event, heard, refusedFrame, noAnswer, standing, advanced, begun, followerAllowed}
+use Rattle.follow.specs.declared.Follower.{Follower}
+use Rattle.follow.specs.declared.Outcome.{Outcome}
+
+-- a follower after some events
+abbrev pub run : Follower → List Event → Follower
+run f [] = f
+run f (e ∷ more) = run (advanced f e) more
+
+-- events whose data are bytes, as those of every frame read from the stream are
+pub data Readable : List Event → Type 0 where
+  nothing : Readable []
+  a-frame : {command : ℕ} {bytes : List ℕ} {more : List Event} → Bytes bytes → Readable more → Readable (heard command bytes ∷ more)
+  broken : {more : List Event} → Readable more → Readable (refusedFrame ∷ more)
+  silence : {more : List Event} → Readable more → Readable (noAnswer ∷ more)
+
+-- 1. A follower is allowed exactly when a start and events give it.
+pub record Reached (f : Follower) : Type 0 where
+  pub events : List Event
+  pub begins : bothAllowed (f .from) (f .to) ≡ true
+  pub arrives : run (begun (f .from) (f .to)) events ≡ f
+
+abbrev pub AllowedIsReached : Type 0
+AllowedIsReached = (f : Follower) → (followerAllowed f ≡ true) ↔ Reached f
+
+-- 2. "Counting sent Sets as confirmed" is a slip of the trade: demand 2 wants "the replies that matched the Set then due". Matched, with no
+-- follower in it: a row of Sets and a row of events, where an event matches the first Set if it is the very reply that a board gives which
+-- has stored it: the Set's own id, flag 00 and its number in its width.
+abbrev pub ownData : Wanted → List ℕ
+ownData due = said (due .setting .id) 0 (little (due .setting .width) (due .number))
+
+abbrev pub matches : Wanted → Event → Bool
+matches due (heard command bytes) = eqb command setCode && same bytes (ownData due)
+matches due refusedFrame = false
+matches due noAnswer = false
+
+-- no Set is due any more after a Set reply of the due id with a status, or silence
+abbrev pub isFlag : ℕ → Bool
+isFlag flag = eqb flag 0 || (eqb flag 1 || (eqb flag 2 || eqb flag 4))
+
+abbrev pub ends : Wanted → Event → Bool
+ends due (heard command bytes) =
+    eqb command setCode && (leb 3 (length bytes) && (same (take 2 bytes) (little 2 (due .setting .id)) && isFlag (getD bytes 2 0)))
+ends due refusedFrame = false
+ends due noAnswer = true
+
+unfoldable pub matched : List Wanted → List Event → ℕ
+matched [] events = zero
+matched (due ∷ later) [] = zero
+matched (due ∷ later) (e ∷ more) =
+    cond (matches due e) (suc (matched later more)) (cond (ends due e) zero (matched (due ∷ later) more))
+
+abbrev pub CountIsMatched : Type 0
+CountIsMatched =
+    (from to : Table) (events : List Event) → bothAllowed from to ≡ true → Readable events
+    → run (begun from to) events .confirmed ≡ matched (dueSets from to) events
+
+-- 3. Done exactly when there were Sets and all were confirmed in order; equal exactly when there was none.
+abbrev pub DoneIsAll : Type 0
+DoneIsAll =
+    (from to : Table) (events : List Event) → bothAllowed from to ≡ true → Readable events
+    → (standing (run (begun from to) events) ≡ Outcome.Done)
+    ↔ ((0 < length (dueSets from to)) × (matched (dueSets from to) events ≡ length (dueSets from to)))
+
+abbrev pub EqualIsNone : Type 0
+EqualIsNone =
+    (from to : Table) (events : List Event) → bothAllowed from to ≡ true
+    → (standing (run (begun from to) events) ≡ Outcome.Equal) ↔ (length (dueSets from to) ≡ 0)
+
+-- 4. A board that stores each Set of the list and says so has all of them confirmed.
+abbrev pub ownReply : Wanted → Event
+ownReply due = heard setCode (ownData due)
+
+abbrev pub AllConfirmed : Type 0
+AllConfirmed =
+    (from to : Table) → bothAllowed from to ≡ true
+    → run (begun from to) (map ownReply (dueSets from to)) ≡ record { from = from; to = to; confirmed = length (dueSets from to); stopped = false }

@@ -1,0 +1,78 @@
+// The following of a restore: which Set is due, and how many the board has confirmed. Every call takes anything, and its promise fixes its
+// answer (specs/Calls.antt).
+ghost use mathlib.Core.Path.{_≡_};
+ghost use Rattle.follow.specs.Following.{heard, refusedFrame, noAnswer};
+ghost use Rattle.follow.specs.Calls.{starting, following};
+use restore::Wanted;
+use settings::Table;
+
+mod numbers;
+mod state;
+mod verdict;
+
+// A restore on its way: the two tables that it started from, how many of the list's Sets the board has confirmed, and whether it has
+// stopped. What is due, and whether all is done, follows from these.
+pub struct Follower {
+    pub from: Table,
+    pub to: Table,
+    pub confirmed: usize,
+    pub stopped: bool,
+}
+
+// Where a restore stands: a Set is due; the tables were equal; all Sets are confirmed; it stopped at a Set; or document 01's number of the
+// refusal.
+pub enum Outcome {
+    Waiting(Wanted),
+    Equal,
+    Done,
+    Stopped(Wanted),
+    Refused(u8),
+}
+
+// The advanced follower, where it stands, and how many Sets are confirmed.
+pub struct Followed {
+    pub follower: Follower,
+    pub outcome: Outcome,
+    pub confirmed: usize,
+}
+
+impl Follower {
+    // Begins to follow the list that turns the table `from` into `to`. Refuses 12 for a table that is not allowed.
+    pub fn start(from: Table, to: Table) -> Followed
+        ensures { λ r. ⌜ r ≡ starting from to ⌝ }
+    {
+        state::told(Follower {
+            from,
+            to,
+            confirmed: 0,
+            stopped: false,
+        })
+    }
+
+    // A frame as it was read from the stream: its command and its data. Refuses 12 for a follower that no start and events give.
+    pub fn reply(self, command: u8, bytes: &[u8]) -> Followed
+        ensures { λ r. ⌜ r ≡ following self (heard command (now (bytes .entry))) ⌝ }
+    {
+        if !state::is_allowed(self) {
+            return state::refused(self);
+        }
+        state::answered(state::hearing(self, command, bytes))
+    }
+
+    // A frame that the stream refused: it says nothing of the Set that is due.
+    pub fn refused_frame(self) -> Followed
+        ensures { λ r. ⌜ r ≡ following self refusedFrame ⌝ }
+    {
+        state::told(self)
+    }
+
+    // The board gave no answer in time, which stops a follower that waits.
+    pub fn no_answer(self) -> Followed
+        ensures { λ r. ⌜ r ≡ following self noAnswer ⌝ }
+    {
+        if !state::is_allowed(self) {
+            return state::refused(self);
+        }
+        state::answered(state::unheard(self))
+    }
+}

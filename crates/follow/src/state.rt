@@ -1,0 +1,166 @@
+// The follower's state: whether it is one that a start and events give, where it stands, and what a verdict makes of it.
+ghost use mathlib.Core.Path.{_≡_};
+ghost use mathlib.Core.Bool.{true, cond};
+ghost use lib.Dec.{eqb};
+ghost use Rattle.follow.specs.Following.{heard, noAnswer, standing, moved, advanced, followerAllowed};
+ghost use Rattle.follow.specs.AsHeld.{reached};
+ghost use Rattle.follow.specs.Calls as calls;
+ghost use Rattle.follow.specs.declared.Outcome.{Outcome};
+use crate::Followed;
+use crate::Follower;
+use crate::Outcome;
+use crate::numbers;
+use crate::verdict;
+use crate::verdict::Verdict;
+use restore::Due;
+use restore::Wanted;
+use settings::Table;
+
+// Whether so many Sets can have been confirmed: none, or there is a last one of them.
+fn is_reached(from: Table, to: Table, confirmed: usize) -> bool
+    ensures { λ r. ⌜ r ≡ reached from to confirmed ⌝ }
+{
+    if confirmed == 0 {
+        return true;
+    }
+    let last = restore::due_after(from, to, confirmed - 1);
+    match last {
+        Due::Set(_) => true,
+        Due::Nothing => false,
+        Due::Refused(_) => false,
+    }
+}
+
+// Whether a start and events give this follower: more Sets are due, or all are confirmed and it has not stopped.
+pub(crate) fn is_allowed(follower: Follower) -> bool
+    ensures { λ r. ⌜ r ≡ followerAllowed follower ⌝ }
+{
+    let due = restore::due_after(follower.from, follower.to, follower.confirmed);
+    match due {
+        Due::Set(_) => true,
+        Due::Nothing => {
+            !follower.stopped & is_reached(follower.from, follower.to, follower.confirmed)
+        }
+        Due::Refused(_) => false,
+    }
+}
+
+// A Set is due, or was when the follower stopped.
+fn with_due(stopped: bool, due: Wanted) -> Outcome
+    ensures { λ r. ⌜ r ≡ cond stopped (Outcome.Stopped due) (Outcome.Waiting due) ⌝ }
+{
+    if stopped {
+        return Outcome::Stopped(due);
+    }
+    Outcome::Waiting(due)
+}
+
+// None is due: there was none, or all are confirmed.
+fn with_none(confirmed: usize) -> Outcome
+    ensures { λ r. ⌜ r ≡ cond (eqb confirmed 0) Outcome.Equal Outcome.Done ⌝ }
+{
+    if confirmed == 0 {
+        return Outcome::Equal;
+    }
+    Outcome::Done
+}
+
+// Where a follower stands.
+fn standing_of(follower: Follower) -> Outcome
+    ensures { λ r. ⌜ r ≡ standing follower ⌝ }
+{
+    let due = restore::due_after(follower.from, follower.to, follower.confirmed);
+    match due {
+        Due::Set(wanted) => with_due(follower.stopped, wanted),
+        Due::Nothing => with_none(follower.confirmed),
+        Due::Refused(number) => Outcome::Refused(number),
+    }
+}
+
+// A follower of the same two tables, with another count or stopped.
+fn with(follower: Follower, confirmed: usize, stopped: bool) -> Follower
+    ensures { λ r. ⌜ r ≡ record { from = follower .from; to = follower .to; confirmed = confirmed; stopped = stopped } ⌝ }
+{
+    let from = follower.from;
+    let to = follower.to;
+    Follower {
+        from,
+        to,
+        confirmed,
+        stopped,
+    }
+}
+
+// What a follower that waits makes of a verdict on the Set that is due.
+fn moved_by(follower: Follower, verdict: Verdict) -> Follower
+    requires { ⌜ followerAllowed follower ≡ true ⌝ }
+    ensures { λ r. ⌜ r ≡ moved follower verdict ⌝ }
+{
+    match verdict {
+        Verdict::Confirms => with(follower, follower.confirmed + 1, follower.stopped),
+        Verdict::Stops => with(follower, follower.confirmed, true),
+        Verdict::Waits => follower,
+    }
+}
+
+// A frame heard: one that waits takes its verdict, an ended one stays.
+pub(crate) fn hearing(follower: Follower, command: u8, bytes: &[u8]) -> Follower
+    requires { ⌜ followerAllowed follower ≡ true ⌝ }
+    ensures { λ r. ⌜ r ≡ advanced follower (heard command (now (bytes .entry))) ⌝ }
+{
+    let outcome = standing_of(follower);
+    match outcome {
+        Outcome::Waiting(due) => moved_by(follower, verdict::on_reply(due, command, bytes)),
+        Outcome::Equal => follower,
+        Outcome::Done => follower,
+        Outcome::Stopped(_) => follower,
+        Outcome::Refused(_) => follower,
+    }
+}
+
+// No answer: one that waits stops, an ended one stays.
+pub(crate) fn unheard(follower: Follower) -> Follower
+    requires { ⌜ followerAllowed follower ≡ true ⌝ }
+    ensures { λ r. ⌜ r ≡ advanced follower noAnswer ⌝ }
+{
+    let outcome = standing_of(follower);
+    match outcome {
+        Outcome::Waiting(_) => moved_by(follower, Verdict::Stops),
+        Outcome::Equal => follower,
+        Outcome::Done => follower,
+        Outcome::Stopped(_) => follower,
+        Outcome::Refused(_) => follower,
+    }
+}
+
+// The answer of a follower that is allowed.
+pub(crate) fn answered(follower: Follower) -> Followed
+    ensures { λ r. ⌜ r ≡ calls.answered follower ⌝ }
+{
+    Followed {
+        follower,
+        outcome: standing_of(follower),
+        confirmed: follower.confirmed,
+    }
+}
+
+// 12: the follower as it was, and no count.
+pub(crate) fn refused(follower: Follower) -> Followed
+    ensures { λ r. ⌜ r ≡ calls.unanswered follower ⌝ }
+{
+    Followed {
+        follower,
+        outcome: Outcome::Refused(numbers::NOT_ALLOWED),
+        confirmed: 0,
+    }
+}
+
+// The answer of any follower, as it stands.
+pub(crate) fn told(follower: Follower) -> Followed
+    ensures { λ r. ⌜ r ≡ calls.told follower ⌝ }
+{
+    if !is_allowed(follower) {
+        return refused(follower);
+    }
+    answered(follower)
+}
