@@ -22,8 +22,9 @@ use Rattle.restore.specs.declared.Wanted.{Wanted}
 use Rattle.restore.specs.declared.Due.{Due}
 use Rattle.restore.proofs.Theorems.{due-tells}
 use Rattle.restore.proofs.Rows.{due-is}
-use Rattle.follow.specs.Following.{Event, verdictOn, standing, moved, after, advanced, begun, followerAllowed}
-use Rattle.follow.specs.Laws.{run, Readable, a-frame, broken, silence, matches, ends, matched}
+use Rattle.reply.specs.Events.{Event, OnStream, a-frame, a-refusal, a-silence}
+use Rattle.follow.specs.Following.{verdictOn, standing, moved, after, advanced, begun, followerAllowed}
+use Rattle.follow.specs.Laws.{run, matches, ends, matched}
 use Rattle.follow.specs.declared.Follower.{Follower}
 use Rattle.follow.specs.declared.Outcome.{Outcome}
 use Rattle.follow.specs.declared.verdict.Verdict.{Verdict}
@@ -31,15 +32,15 @@ use Rattle.follow.proofs.Standing.{standing-is, advanced-is}
 use Rattle.follow.proofs.Matching.{Sound, AsRead, frame-read, broken-read, silence-read, verdict-is}
 
 -- the first of some events, and the others
-first : {e : Event} {more : List Event} → Readable (e ∷ more) → AsRead e
+first : {e : Event} {more : List Event} → OnStream (e ∷ more) → AsRead e
 first (a-frame small r) = frame-read small
-first (broken r) = broken-read
-first (silence r) = silence-read
+first (a-refusal r) = broken-read
+first (a-silence r) = silence-read
 
-later : {e : Event} {more : List Event} → Readable (e ∷ more) → Readable more
+later : {e : Event} {more : List Event} → OnStream (e ∷ more) → OnStream more
 later (a-frame small r) = r
-later (broken r) = r
-later (silence r) = r
+later (a-refusal r) = r
+later (a-silence r) = r
 
 next : (n m : ℕ) → suc n + m ≡ n + suc m
 next n m = omega arith
@@ -110,7 +111,7 @@ module _ (from to : Table) (ok : bothAllowed from to ≡ true) where
   waits-moves n w due e = sym (advanced-is (at n false) e (Outcome.Waiting w) (sym (standing-is (at n false) (Due.Set w) due)))
 
   -- what is confirmed is what matched of the Sets that were left
-  counted : (n : ℕ) (l : List Wanted) (events : List Event) → drop n (dueSets from to) ≡ l → Readable events
+  counted : (n : ℕ) (l : List Wanted) (events : List Event) → drop n (dueSets from to) ≡ l → OnStream events
       → run (at n false) events .confirmed ≡ n + matched l events
   unfolding matched
   counted n [] events e r = ap (λ (f : Follower). f .confirmed) (stays (at n false) (none-stays n false (due-left n [] e)) events) ∙ sym (add-zero n)
@@ -132,7 +133,7 @@ module _ (from to : Table) (ok : bothAllowed from to ≡ true) where
           rw (moves, m, d) (ap (λ (f : Follower). f .confirmed) (stays (at n true) (stopped-stays n w due) more) ∙ sym (add-zero n))
       by false false m d confirmed waited = rw (moves, m, d) waited
 
-  pub count-matched : (events : List Event) → Readable events → run (at 0 false) events .confirmed ≡ matched (dueSets from to) events
+  pub count-matched : (events : List Event) → OnStream events → run (at 0 false) events .confirmed ≡ matched (dueSets from to) events
   count-matched events r = counted 0 (dueSets from to) events refl r ∙ zero-add (matched (dueSets from to) events)
 
   -- the followers of these tables that are allowed

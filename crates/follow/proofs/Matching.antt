@@ -1,7 +1,7 @@
 -- An event, in bytes and by what it is read as: the same says of both whether it confirms, stops or waits. Assumes nothing.
 use mathlib.Core.Path.{_≡_, refl, sym, ap, ap₂, subst, _∙_}
-use mathlib.Core.Logic.{_≢_, ⊎-elim}
-use mathlib.Core.Bool.{Bool, true, false, cond, _&&_, _||_, false≢true}
+use mathlib.Core.Logic.{_≢_}
+use mathlib.Core.Bool.{Bool, true, false, cond, _&&_, false≢true}
 use mathlib.Core.List.{List, [], _∷_, _++_}
 use Prim.Native.Nat.{ℕ, _+_, _*_, _/_, _%_, _^_, _≤_, _<_}
 use native.Mathlib.Omega.{arith}
@@ -9,7 +9,7 @@ use borrow.Author.Tests.{eqb-true, eqb-false, eq-eqb, leb-true, le-leb}
 use lib.ListN.{length, take, drop, getD}
 use lib.Dec.{eqb, ltb, leb}
 use Rattle.laws.specs.Lists.{every, same}
-use Rattle.laws.proofs.Bools.{and-left, and-right, both, or-cases}
+use Rattle.laws.proofs.Bools.{and-left, and-right, both}
 use Rattle.laws.proofs.Lists.{every-drop, same-back, same-self}
 use Rattle.wire.specs.Numbers.{little, fromLittle}
 use Rattle.wire.specs.Laws.{Bytes}
@@ -21,10 +21,12 @@ use Rattle.reply.specs.Calls.{reading}
 use Rattle.reply.specs.Laws.{From, a-set}
 use Rattle.reply.specs.declared.Status.{Status}
 use Rattle.reply.specs.declared.Reply.{Reply}
+use Rattle.reply.proofs.Flags.{status-of, flag-status}
 use Rattle.reply.proofs.Theorems.{said-is-read, read-is-from}
 use Rattle.restore.specs.declared.Wanted.{Wanted}
-use Rattle.follow.specs.Following.{Event, heard, refusedFrame, noAnswer, isGood, carries, onSet, onKind, onReply, verdictOn}
-use Rattle.follow.specs.Laws.{ownData, matches, isFlag, ends}
+use Rattle.reply.specs.Events.{Event, heard, refusedFrame, noAnswer, isFlag}
+use Rattle.follow.specs.Following.{isGood, carries, onSet, onKind, onReply, verdictOn}
+use Rattle.follow.specs.Laws.{ownData, matches, ends}
 use Rattle.follow.specs.declared.verdict.Verdict.{Verdict}
 use Rattle.follow.proofs.Verdicts.{kind-is, set-long}
 
@@ -107,21 +109,6 @@ read-id bytes status id e is =
 own-read : (due : Wanted) → Sound due → reading 8 (ownData due) ≡ Reply.Set Status.Good (due .setting .id)
 own-read due sound = set-read Status.Good (due .setting .id) (little (due .setting .width) (due .number)) (sound .id-fits)
 
-flag-status : (flag : ℕ) → isFlag flag ≡ true → (status : Status) × (flagOf status ≡ flag)
-flag-status flag e =
-    ⊎-elim (λ h. (Status.Good, sym (eqb-true flag 0 h)))
-    (λ e1. ⊎-elim (λ h. (Status.UnknownId, sym (eqb-true flag 1 h)))
-    (λ e2. ⊎-elim (λ h. (Status.NotSupported, sym (eqb-true flag 2 h))) (λ h. (Status.ParameterError, sym (eqb-true flag 4 h)))
-    (or-cases (eqb flag 2) (eqb flag 4) e2))
-    (or-cases (eqb flag 1) (eqb flag 2 || eqb flag 4) e1))
-    (or-cases (eqb flag 0) (eqb flag 1 || (eqb flag 2 || eqb flag 4)) e)
-
-status-flag : (status : Status) → isFlag (flagOf status) ≡ true
-status-flag Status.Good = refl
-status-flag Status.UnknownId = refl
-status-flag Status.NotSupported = refl
-status-flag Status.ParameterError = refl
-
 good-flag : (status : Status) → isGood status ≡ true → flagOf status ≡ 0
 good-flag Status.Good e = refl
 good-flag Status.UnknownId e = absurd (false≢true e)
@@ -145,9 +132,9 @@ module _ (due : Wanted) (sound : Sound due) (command : ℕ) (bytes : List ℕ) (
       let long : 3 ≤ length bytes = leb-true 3 (length bytes) (and-left (leb 3 (length bytes)) _ inside) in
       let front = and-right (leb 3 (length bytes)) _ inside in
       let first : take 2 bytes ≡ little 2 id = same-back (take 2 bytes) (little 2 id) (and-left (same (take 2 bytes) (little 2 id)) _ front) in
-      let flag = flag-status (getD bytes 2 0) (and-right (same (take 2 bytes) (little 2 id)) _ front) in
+      let flag = status-of (getD bytes 2 0) (and-right (same (take 2 bytes) (little 2 id)) _ front) in
       let is : said id (flagOf (flag .0)) (rest bytes) ≡ bytes =
-      ap₂ (λ (l : List ℕ) (f : ℕ). l ++ f ∷ rest bytes) (sym first) (flag .1) ∙ sym (in-three bytes long) in
+      ap₂ (λ (l : List ℕ) (f : ℕ). l ++ f ∷ rest bytes) (sym first) (sym (flag .1)) ∙ sym (in-three bytes long) in
       (flag .0, ap (λ (c : ℕ). reading c bytes) code ∙ ap (reading 8) (sym is) ∙ set-read (flag .0) id (rest bytes) (sound .id-fits))
 
   -- what is no Set reply neither matches nor ends
@@ -178,7 +165,7 @@ module _ (due : Wanted) (sound : Sound due) (command : ℕ) (bytes : List ℕ) (
         let flag : getD bytes 2 0 ≡ flagOf status = ap (λ (l : List ℕ). getD l 2 0) (said-so .bytes-are) in
         both _ _ (eq-eqb command 8 (said-so .code))
         (both _ _ (le-leb 3 (length bytes) long)
-        (both _ _ (ap (λ (l : List ℕ). same l (little 2 id)) first ∙ same-self (little 2 id)) (ap isFlag flag ∙ status-flag status)))
+        (both _ _ (ap (λ (l : List ℕ). same l (little 2 id)) first ∙ same-self (little 2 id)) (ap isFlag flag ∙ flag-status status)))
 
     -- flag 00 and the number in its width are the Set's own data
     own-bytes : it ≡ id → (isGood status && carries due (rest bytes)) ≡ true → matches due (heard command bytes) ≡ true

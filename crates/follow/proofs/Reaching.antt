@@ -18,7 +18,8 @@ use Rattle.restore.specs.Order.{dueSets}
 use Rattle.restore.specs.Calls.{bothAllowed, dueIn}
 use Rattle.restore.specs.declared.Wanted.{Wanted}
 use Rattle.restore.specs.declared.Due.{Due}
-use Rattle.follow.specs.Following.{Event, noAnswer, verdictOn, standing, moved, advanced, begun, followerAllowed}
+use Rattle.reply.specs.Events.{Event, noAnswer}
+use Rattle.follow.specs.Following.{verdictOn, standing, moved, advanced, begun, followerAllowed}
 use Rattle.follow.specs.Laws.{run, Reached, AllowedIsReached, ownData, matched, CountIsMatched, DoneIsAll, EqualIsNone, ownReply, AllConfirmed}
 use Rattle.follow.specs.declared.Follower.{Follower}
 use Rattle.follow.specs.declared.Outcome.{Outcome}

@@ -17,7 +17,8 @@ use Rattle.restore.specs.Laws.{Tells, a-set, none-left, not-allowed}
 use Rattle.restore.specs.declared.Wanted.{Wanted}
 use Rattle.restore.specs.declared.Due.{Due}
 use Rattle.restore.proofs.Theorems.{due-tells, sets-are-few}
-use Rattle.follow.specs.Following.{Event, refusedFrame, standsAt, standing, after, advanced, total, followerAllowed}
+use Rattle.reply.specs.Events.{Event, refusedFrame}
+use Rattle.follow.specs.Following.{standsAt, standing, after, advanced, total, followerAllowed}
 use Rattle.follow.specs.AsHeld.{Narrow, isSet, reached}
 use Rattle.follow.specs.Calls.{answered, unanswered, told, following}
 use Rattle.follow.specs.declared.Follower.{Follower}

@@ -2,7 +2,8 @@
 use Prim.Native.Nat.{zero}
 use mathlib.Core.Bool.{cond}
 use Rattle.settings.specs.declared.Table.{Table}
-use Rattle.follow.specs.Following.{Event, standing, advanced, begun, followerAllowed}
+use Rattle.reply.specs.Events.{Event}
+use Rattle.follow.specs.Following.{standing, advanced, begun, followerAllowed}
 use Rattle.follow.specs.declared.Follower.{Follower}
 use Rattle.follow.specs.declared.Outcome.{Outcome}
 use Rattle.follow.specs.declared.Followed.{Followed}

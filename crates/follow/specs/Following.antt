@@ -11,6 +11,7 @@ use Rattle.wire.specs.Numbers.{fromLittle}
 use Rattle.settings.specs.declared.Table.{Table}
 use Rattle.reply.specs.Replies.{rest}
 use Rattle.reply.specs.Calls.{reading}
+use Rattle.reply.specs.Events.{Event, heard, refusedFrame, noAnswer}
 use Rattle.reply.specs.declared.Status.{Status}
 use Rattle.reply.specs.declared.Reply.{Reply}
 use Rattle.restore.specs.Order.{dueSets}
@@ -20,12 +21,6 @@ use Rattle.restore.specs.declared.Due.{Due}
 use Rattle.follow.specs.declared.Follower.{Follower}
 use Rattle.follow.specs.declared.Outcome.{Outcome}
 use Rattle.follow.specs.declared.verdict.Verdict.{Verdict}
-
--- what happens to a follower: a frame with its command and data, a frame that the stream refused, or no answer
-pub data Event : Type 0 where
-  heard : ℕ → List ℕ → Event
-  refusedFrame : Event
-  noAnswer : Event
 
 -- flag 00
 abbrev pub isGood : Status → Bool

@@ -3,19 +3,19 @@
 use Prim.Native.Nat.{ℕ, zero, suc, _<_}
 use mathlib.Core.Path.{_≡_}
 use mathlib.Core.Logic.{_↔_}
-use mathlib.Core.Bool.{Bool, true, false, cond, _&&_, _||_}
+use mathlib.Core.Bool.{Bool, true, false, cond, _&&_}
 use mathlib.Core.List.{List, [], _∷_, map}
 use lib.ListN.{length, take, getD}
 use lib.Dec.{eqb, leb}
 use Rattle.laws.specs.Lists.{same}
 use Rattle.wire.specs.Numbers.{little}
-use Rattle.wire.specs.Laws.{Bytes}
 use Rattle.settings.specs.declared.Table.{Table}
 use Rattle.answers.specs.Answers.{said, setCode}
 use Rattle.restore.specs.Order.{dueSets}
 use Rattle.restore.specs.Calls.{bothAllowed}
 use Rattle.restore.specs.declared.Wanted.{Wanted}
-use Rattle.follow.specs.Following.{Event, heard, refusedFrame, noAnswer, standing, advanced, begun, followerAllowed}
+use Rattle.reply.specs.Events.{Event, heard, refusedFrame, noAnswer, OnStream, isFlag}
+use Rattle.follow.specs.Following.{standing, advanced, begun, followerAllowed}
 use Rattle.follow.specs.declared.Follower.{Follower}
 use Rattle.follow.specs.declared.Outcome.{Outcome}
 
@@ -23,13 +23,6 @@ use Rattle.follow.specs.declared.Outcome.{Outcome}
 abbrev pub run : Follower → List Event → Follower
 run f [] = f
 run f (e ∷ more) = run (advanced f e) more
-
--- events whose data are bytes, as those of every frame read from the stream are
-pub data Readable : List Event → Type 0 where
-  nothing : Readable []
-  a-frame : {command : ℕ} {bytes : List ℕ} {more : List Event} → Bytes bytes → Readable more → Readable (heard command bytes ∷ more)
-  broken : {more : List Event} → Readable more → Readable (refusedFrame ∷ more)
-  silence : {more : List Event} → Readable more → Readable (noAnswer ∷ more)
 
 -- 1. A follower is allowed exactly when a start and events give it.
 pub record Reached (f : Follower) : Type 0 where
@@ -52,9 +45,6 @@ matches due refusedFrame = false
 matches due noAnswer = false
 
 -- no Set is due any more after a Set reply of the due id with a status, or silence
-abbrev pub isFlag : ℕ → Bool
-isFlag flag = eqb flag 0 || (eqb flag 1 || (eqb flag 2 || eqb flag 4))
-
 abbrev pub ends : Wanted → Event → Bool
 ends due (heard command bytes) =
     eqb command setCode && (leb 3 (length bytes) && (same (take 2 bytes) (little 2 (due .setting .id)) && isFlag (getD bytes 2 0)))
@@ -69,13 +59,13 @@ matched (due ∷ later) (e ∷ more) =
 
 abbrev pub CountIsMatched : Type 0
 CountIsMatched =
-    (from to : Table) (events : List Event) → bothAllowed from to ≡ true → Readable events
+    (from to : Table) (events : List Event) → bothAllowed from to ≡ true → OnStream events
     → run (begun from to) events .confirmed ≡ matched (dueSets from to) events
 
 -- 3. Done exactly when there were Sets and all were confirmed in order; equal exactly when there was none.
 abbrev pub DoneIsAll : Type 0
 DoneIsAll =
-    (from to : Table) (events : List Event) → bothAllowed from to ≡ true → Readable events
+    (from to : Table) (events : List Event) → bothAllowed from to ≡ true → OnStream events
     → (standing (run (begun from to) events) ≡ Outcome.Done)
     ↔ ((0 < length (dueSets from to)) × (matched (dueSets from to) events ≡ length (dueSets from to)))
 

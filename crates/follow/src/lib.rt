@@ -1,7 +1,7 @@
 // The following of a restore: which Set is due, and how many the board has confirmed. Every call takes anything, and its promise fixes its
 // answer (specs/Calls.antt).
 ghost use mathlib.Core.Path.{_≡_};
-ghost use Rattle.follow.specs.Following.{heard, refusedFrame, noAnswer};
+ghost use Rattle.reply.specs.Events.{heard, refusedFrame, noAnswer};
 ghost use Rattle.follow.specs.Calls.{starting, following};
 use restore::Wanted;
 use settings::Table;

@@ -2,7 +2,8 @@
 ghost use mathlib.Core.Path.{_≡_};
 ghost use mathlib.Core.Bool.{true, cond};
 ghost use lib.Dec.{eqb};
-ghost use Rattle.follow.specs.Following.{heard, noAnswer, standing, moved, advanced, followerAllowed};
+ghost use Rattle.reply.specs.Events.{heard, noAnswer};
+ghost use Rattle.follow.specs.Following.{standing, moved, advanced, followerAllowed};
 ghost use Rattle.follow.specs.AsHeld.{reached};
 ghost use Rattle.follow.specs.Calls as calls;
 ghost use Rattle.follow.specs.declared.Outcome.{Outcome};

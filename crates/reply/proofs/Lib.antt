@@ -6,5 +6,6 @@ pub mod Hearing
 pub mod Origins
 pub mod Measures
 pub mod Lengths
+pub mod Flags
 pub mod Theorems
 pub mod Same

@@ -3,4 +3,5 @@
 pub mod Replies
 pub mod Units
 pub mod Calls
+pub mod Events
 pub mod Laws

@@ -2,7 +2,7 @@
 use mathlib.Core.Path.{sym, ap, _∙_}
 use Prim.Native.Nat.{_-_}
 use borrow.Author.Tests.{not-true, not-false}
-use Rattle.follow.specs.Following.{noAnswer}
+use Rattle.reply.specs.Events.{noAnswer}
 use Rattle.follow.specs.Calls.{answered}
 use Rattle.follow.proofs.Standing.{following-good, following-stray}
 use borrow.Author.Needs.{needs}

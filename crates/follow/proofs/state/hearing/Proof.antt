@@ -1,7 +1,8 @@
 -- `follow::state::hearing` meets its contract. Assumes nothing.
 use mathlib.Core.Path.{sym, ap, _∙_}
 use Prim.Native.Nat.{_-_}
-use Rattle.follow.specs.Following.{heard, moved}
+use Rattle.reply.specs.Events.{heard}
+use Rattle.follow.specs.Following.{moved}
 use Rattle.follow.proofs.Standing.{advanced-is, waiting-narrow}
 use borrow.Author.Needs.{needs}
 use Rattle.follow.proofs.state.hearing.Statement.{statement}

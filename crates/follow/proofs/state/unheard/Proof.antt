@@ -1,7 +1,7 @@
 -- `follow::state::unheard` meets its contract. Assumes nothing.
 use mathlib.Core.Path.{sym, _∙_}
 use Prim.Native.Nat.{_-_}
-use Rattle.follow.specs.Following.{noAnswer}
+use Rattle.reply.specs.Events.{noAnswer}
 use Rattle.follow.proofs.Standing.{advanced-is}
 use borrow.Author.Needs.{needs}
 use Rattle.follow.proofs.state.unheard.Statement.{statement}

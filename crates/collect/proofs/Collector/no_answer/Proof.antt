@@ -1,0 +1,37 @@
+-- `collect::Collector::no_answer` meets its contract. Assumes nothing.
+use mathlib.Core.Path.{sym, ap, _∙_}
+use borrow.Author.Tests.{not-true, not-false}
+use Rattle.collect.specs.Calls.{told}
+use Rattle.collect.proofs.Moving.{collecting-stray, collecting-told}
+use borrow.Author.Needs.{needs}
+use Rattle.collect.proofs.Collector.no_answer.Statement.{statement}
+use Rattle.collect.proofs.Collector.no_answer.Tie as tie
+
+is-allowed-requires : tie.Need-is-allowed-requires
+is-allowed-requires c κs = search needs
+
+stray-requires : tie.Need-stray-requires
+stray-requires c κs = search needs
+
+returns : tie.Need-returns
+returns c = c .stray .ensures ∙ collecting-stray _ _ (sym (c .before .before .is-allowed .ensures) ∙ not-true _ (c .before .if1 .taken))
+
+after-silence-requires : tie.Need-after-silence-requires
+after-silence-requires c κs = search needs
+
+told-requires : tie.Need-told-requires
+told-requires c κs = search needs
+
+returns-2 : tie.Need-returns-2
+returns-2 c = c .told .ensures ∙ ap told (c .before .after-silence .ensures) ∙ collecting-told _ _ (sym (c .before .before .before .is-allowed .ensures) ∙ not-false _ (c .before .before .if1 .left))
+
+pub no-answer-spec : {M : Type 1} → statement M
+no-answer-spec =
+    tie.close
+    (tie.spec
+    is-allowed-requires
+    stray-requires
+    returns
+    after-silence-requires
+    told-requires
+    returns-2)

@@ -1,0 +1,37 @@
+-- `collect::Collector::reply` meets its contract. Assumes nothing.
+use mathlib.Core.Path.{sym, ap, _∙_}
+use borrow.Author.Tests.{not-true, not-false}
+use Rattle.collect.specs.Calls.{told}
+use Rattle.collect.proofs.Moving.{collecting-stray, collecting-told}
+use borrow.Author.Needs.{needs}
+use Rattle.collect.proofs.Collector.reply.Statement.{statement}
+use Rattle.collect.proofs.Collector.reply.Tie as tie
+
+is-allowed-requires : tie.Need-is-allowed-requires
+is-allowed-requires c κs = search needs
+
+stray-requires : tie.Need-stray-requires
+stray-requires c κs = search needs
+
+returns : tie.Need-returns
+returns c = c .stray .ensures ∙ collecting-stray _ _ (sym (c .before .before .is-allowed .ensures) ∙ not-true _ (c .before .if1 .taken))
+
+after-frame-requires : tie.Need-after-frame-requires
+after-frame-requires c κs = sym (c .before .is-allowed .ensures) ∙ not-false _ (c .if1 .left)
+
+told-requires : tie.Need-told-requires
+told-requires c κs = search needs
+
+returns-2 : tie.Need-returns-2
+returns-2 c = c .told .ensures ∙ ap told (c .before .after-frame .ensures) ∙ collecting-told _ _ (sym (c .before .before .before .is-allowed .ensures) ∙ not-false _ (c .before .before .if1 .left))
+
+pub reply-spec : {M : Type 1} → statement M
+reply-spec =
+    tie.close
+    (tie.spec
+    is-allowed-requires
+    stray-requires
+    returns
+    after-frame-requires
+    told-requires
+    returns-2)

@@ -1,0 +1,132 @@
+-- The setting at a place, the numbers that fit it, and what a frame decides. Assumes nothing.
+use mathlib.Core.Path.{_≡_, refl, sym, ap, _∙_}
+use mathlib.Core.Logic.{_≢_}
+use mathlib.Core.Bool.{Bool, true, false, cond, false≢true}
+use mathlib.Core.List.{List, [], _∷_}
+use Prim.Native.Nat.{ℕ, zero, suc, _+_, _-_, _≤_, _<_}
+use native.Mathlib.Nat.{le-of-suc-le-suc}
+use native.Mathlib.Omega.{arith}
+use borrow.Author.Tests.{lt-ltb, le-ltb, ltb-false, eq-eqb, ne-eqb}
+use lib.ListN.{length, getD, drop, length-drop}
+use lib.Dec.{ltb}
+use Rattle.wire.specs.Numbers.{fromLittle}
+use Rattle.settings.specs.Columns.{count, ids, idAt, widths, widthAt, partners, partnerAt}
+use Rattle.settings.specs.Calls.{settingAt, placing, allowing}
+use Rattle.settings.specs.declared.Setting.{Setting}
+use Rattle.settings.specs.declared.Found.{Found}
+use Rattle.settings.proofs.Theorems.{rows-hold}
+use Rattle.reply.specs.Replies.{rest}
+use Rattle.reply.specs.Calls.{reading}
+use Rattle.reply.specs.declared.Status.{Status}
+use Rattle.reply.specs.declared.Reply.{Reply}
+use Rattle.reply.specs.Events.{heard}
+use Rattle.collect.specs.Collecting.{fits, valued, answeredDue, replied, verdict}
+use Rattle.collect.specs.declared.verdict.Verdict.{Verdict}
+
+-- past a list stands what is asked for there
+getD-past : (l : List ℕ) (k d : ℕ) → length l ≤ k → getD l k d ≡ d
+getD-past [] k d h = refl
+getD-past (x ∷ l) zero d h = absurd (omega arith)
+getD-past (x ∷ l) (suc k) d h = getD-past l k d (le-of-suc-le-suc h)
+
+-- what a look-up found is the setting at the place, which past the table has neither id nor width
+pub found-is : (k : ℕ) (s : Setting) → placing k ≡ Found.At s → s ≡ settingAt k
+unfolding placing
+found-is k s = by (ltb k count)
+  where
+    settingOf : Found → Setting
+    settingOf (Found.At here) = here
+    settingOf Found.Nothing = s
+
+    isFound : Found → Bool
+    isFound (Found.At here) = true
+    isFound Found.Nothing = false
+
+    by : (b : Bool) → cond b (Found.At (settingAt k)) Found.Nothing ≡ Found.At s → s ≡ settingAt k
+    by true e = sym (ap settingOf e)
+    by false e = absurd (false≢true (ap isFound e))
+
+pub nothing-is : (k : ℕ) → placing k ≡ Found.Nothing → record { index = k; id = 0; width = 0; partner = 0 } ≡ settingAt k
+unfolding placing
+nothing-is k = by (ltb k count) refl
+  where
+    isFound : Found → Bool
+    isFound (Found.At here) = true
+    isFound Found.Nothing = false
+
+    by : (b : Bool) → ltb k count ≡ b → cond b (Found.At (settingAt k)) Found.Nothing ≡ Found.Nothing
+        → record { index = k; id = 0; width = 0; partner = 0 } ≡ settingAt k
+    by true h e = absurd (false≢true (sym (ap isFound e)))
+    by false h e =
+        let past : count ≤ k = ltb-false _ _ h in
+        rw (getD-past ids k 0 past, getD-past widths k 0 past, getD-past partners k 0 past)
+
+-- a number that fits, by the setting that is found
+pub partner-small : (k : ℕ) (s : Setting) → s ≡ settingAt k → k < count → s .partner < count
+partner-small k s is h = rw (ap (λ (t : Setting). t .partner) is) (rows-hold k h .partner-is)
+
+module _ (numbers : List ℕ) (k n : ℕ) (s : Setting) (is : s ≡ settingAt k) (h : k < count) where
+  pub fits-before : s .partner < k → allowing k n (getD numbers (s .partner) 0) ≡ fits numbers k n
+  unfolding allowing fits
+  fits-before less =
+      let same : s .partner ≡ partnerAt k = ap (λ (t : Setting). t .partner) is in
+      let below : partnerAt k < k = rw (sym same) less in
+      rw (same, lt-ltb k count h, lt-ltb (partnerAt k) k below)
+
+  pub fits-later : k ≤ s .partner → allowing k n n ≡ fits numbers k n
+  unfolding allowing fits
+  fits-later more =
+      let same : s .partner ≡ partnerAt k = ap (λ (t : Setting). t .partner) is in
+      let above : k ≤ partnerAt k = rw (sym same) more in
+      rw (lt-ltb k count h, le-ltb (partnerAt k) k above)
+
+-- a value, by the tests in their order
+module _ (k : ℕ) (s : Setting) (is : s ≡ settingAt k) where
+  width-is : s .width ≡ widthAt k
+  width-is = ap (λ (t : Setting). t .width) is
+
+  pub width-between : k < count → (1 ≤ s .width) × (s .width ≤ 2)
+  width-between h = rw width-is (rows-hold k h .width-some, rows-hold k h .width-most)
+
+module _ (numbers : List ℕ) (k : ℕ) (bytes : List ℕ) (s : Setting) (is : s ≡ settingAt k) (h : k < count) where
+  pub value-other : length bytes ≢ 3 + s .width → Verdict.Stops ≡ valued numbers k (drop 3 bytes)
+  unfolding valued
+  value-other differs =
+      let other : length (drop 3 bytes) ≢ widthAt k =
+      λ e.
+      let size : length bytes - 3 ≡ s .width = sym (length-drop 3 bytes) ∙ e ∙ sym (width-is k s is) in
+      let some : 1 ≤ s .width = width-between k s is h .0 in
+      differs (omega arith) in
+      rw (ne-eqb (length (drop 3 bytes)) (widthAt k) other)
+
+  module _ (long : length bytes ≡ 3 + s .width) where
+    width-right : length (drop 3 bytes) ≡ widthAt k
+    width-right = length-drop 3 bytes ∙ (let size : length bytes - 3 ≡ s .width = omega arith in size) ∙ width-is k s is
+
+    pub value-unfit : fits numbers k (fromLittle (drop 3 bytes)) ≡ false → Verdict.Stops ≡ valued numbers k (drop 3 bytes)
+    unfolding valued
+    value-unfit e = rw (eq-eqb (length (drop 3 bytes)) (widthAt k) width-right, e)
+
+    pub value-taken : fits numbers k (fromLittle (drop 3 bytes)) ≡ true
+        → Verdict.Takes (fromLittle (drop 3 bytes)) ≡ valued numbers k (drop 3 bytes)
+    unfolding valued
+    value-taken e = rw (eq-eqb (length (drop 3 bytes)) (widthAt k) width-right, e)
+
+-- a frame, by the reply that it is
+module _ (numbers : List ℕ) (k command : ℕ) (bytes : List ℕ) where
+  pub heard-is : (x : Reply) → reading command bytes ≡ x → replied numbers k (rest bytes) x ≡ verdict numbers k (heard command bytes)
+  unfolding verdict
+  heard-is x e = ap (replied numbers k (rest bytes)) (sym e)
+
+  module _ (status : Status) (id : ℕ) (s : Setting) (is : s ≡ settingAt k) (e : reading command bytes ≡ Reply.Get status id) where
+    pub heard-other : id ≢ s .id → Verdict.Waits ≡ verdict numbers k (heard command bytes)
+    unfolding verdict
+    heard-other differs =
+        let other : id ≢ idAt k = λ same. differs (same ∙ sym (ap (λ (t : Setting). t .id) is)) in
+        rw (e, ne-eqb id (idAt k) other)
+
+    pub heard-due : id ≡ s .id → answeredDue numbers k (rest bytes) status ≡ verdict numbers k (heard command bytes)
+    unfolding verdict
+    heard-due same =
+        let due : id ≡ idAt k = same ∙ ap (λ (t : Setting). t .id) is in
+        rw (e, eq-eqb id (idAt k) due)

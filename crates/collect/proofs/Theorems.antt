@@ -1,0 +1,19 @@
+-- The statements of specs/Laws.antt, proved. Assumes nothing.
+use Rattle.collect.specs.Laws.{AllowedIsReached, CallsFollow, TableIsCarried, TableIsAllowed, BoardIsRead}
+use Rattle.collect.proofs.Boards.{allowed-reached}
+use Rattle.collect.proofs.Calling.{calls-run, table-carried, table-allowed, board-read}
+
+pub allowed-is-reached : AllowedIsReached
+allowed-is-reached = allowed-reached
+
+pub calls-follow : CallsFollow
+calls-follow = calls-run
+
+pub table-is-carried : TableIsCarried
+table-is-carried = table-carried
+
+pub table-is-allowed : TableIsAllowed
+table-is-allowed = table-allowed
+
+pub board-is-read : BoardIsRead
+board-is-read = board-read

@@ -1,0 +1,30 @@
+-- `collect::state::took` meets its contract. Assumes nothing.
+use native.Mathlib.Numerals.{add-one}
+use Rattle.collect.specs.Collecting.{took}
+use borrow.Author.Needs.{needs}
+use Rattle.collect.proofs.state.took.Statement.{statement}
+use Rattle.collect.proofs.state.took.Tie as tie
+
+mul-numbers : tie.Need-mul-numbers
+mul-numbers c = search needs
+
+array-write-numbers : tie.Need-array-write-numbers
+array-write-numbers c = search needs
+
+add-t5 : tie.Need-add-t5
+add-t5 c = search needs
+
+add-phase-at : tie.Need-add-phase-at
+add-phase-at c = search needs
+
+phase-at-requires : tie.Need-phase-at-requires
+phase-at-requires c κs = search needs
+
+returns : tie.Need-returns
+unfolding took
+returns c = rw (c .phase-at .ensures, add-one (c .before .before .args .collector .len))
+
+pub took-spec : {M : Type 1} → statement M
+took-spec =
+    tie.close
+    (tie.spec mul-numbers array-write-numbers add-t5 add-phase-at phase-at-requires returns)
