@@ -1,0 +1,10 @@
+-- Proofs of the statements of specs/.
+pub mod Making
+pub mod Talking
+pub mod Deciding
+pub mod Listing
+pub mod Feeding
+pub mod Understanding
+pub mod Shams
+pub mod Lines
+pub mod Theorems

@@ -1,0 +1,24 @@
+-- The worked lines hold by computation: each definition that they pass through is opened and run.
+use mathlib.Core.Path.{refl}
+use Rattle.laws.specs.Promise.{overlaid}
+use Rattle.wire.specs.Digits.{digit, nibble}
+use Rattle.wire.specs.Frame.{check, body, frame}
+use Rattle.wire.specs.Reading.{bodySays}
+use Rattle.wire.specs.Stream.{taken}
+use Rattle.wire.specs.Calls.{noChars, heldOf, unfinished}
+use Rattle.wire.specs.Calls as wire
+use Rattle.settings.specs.Rules.{inRange, lowAgrees, highAgrees, agrees, allowedFor, allowed, nearestOf}
+use Rattle.settings.specs.Calls.{placing, placeOf, finding, setTo, partnerFits, nearing}
+use Rattle.answers.specs.Parts.{serialFits, noSerial, identityOf, serialOf, identityAllowed}
+use Rattle.answers.specs.Answers.{tells, restarts, getAnswer, setsSetting, setAnswer, frameAnswer}
+use Rattle.board.specs.Parts.{boardAllowed, freshBoard}
+use Rattle.board.specs.Calls.{starting, deciding, decidedBy, heardBy, answering}
+use Rattle.restore.specs.Order.{differs, higherFirst, exchanged, placed, turnsFrom, order}
+use Rattle.demands.specs.Lines.{ThirteenHold}
+
+pub thirteen-lines-hold : ThirteenHold
+unfolding overlaid digit nibble check body frame bodySays taken noChars heldOf unfinished wire.allowed
+    inRange lowAgrees highAgrees agrees allowedFor allowed nearestOf placing placeOf finding setTo partnerFits nearing
+    serialFits noSerial identityOf serialOf identityAllowed tells restarts getAnswer setsSetting setAnswer frameAnswer
+    boardAllowed freshBoard starting deciding decidedBy heardBy answering differs higherFirst exchanged placed turnsFrom order
+thirteen-lines-hold = refl

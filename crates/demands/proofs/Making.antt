@@ -1,0 +1,91 @@
+-- What one frame makes of a table: what the board's own definition makes of it. Assumes nothing.
+use mathlib.Core.Path.{_≡_, refl, sym, _∙_}
+use mathlib.Core.Bool.{Bool, true, false, cond, _&&_}
+use mathlib.Core.List.{List, [], _∷_, _++_}
+use Prim.Native.Nat.{ℕ, suc, _≤_, _<_, min}
+use native.Mathlib.Omega.{arith}
+use borrow.Author.Tests.{ltb-true, ltb-false}
+use lib.ListN.{length, take, getD}
+use lib.Seq.{take-all}
+use lib.Dec.{eqb, leb, ltb}
+use Rattle.wire.specs.Numbers.{fromLittle}
+use Rattle.wire.specs.Reading.{Ended, good, refused}
+use Rattle.wire.specs.Stream.{Unfinished, framesFrom, firstEnd, taken}
+use Rattle.wire.proofs.Theorems.{first-end-is-first}
+use Rattle.settings.specs.Columns.{count, widthAt}
+use Rattle.settings.specs.Rules.{allowedFor, allowed, partnerNumber, changed}
+use Rattle.settings.specs.Calls.{settingAt, placing, finding, setTo}
+use Rattle.settings.specs.declared.Table.{Table}
+use Rattle.settings.specs.declared.Found.{Found}
+use Rattle.settings.proofs.Tables.{set-accepted, set-refused}
+use Rattle.answers.specs.Answers as answers
+use Rattle.answers.proofs.Theorems.{answer-makes-it}
+use Rattle.board.specs.Calls.{deciding}
+use Rattle.board.specs.declared.Board.{Board}
+use Rattle.demands.specs.Sets.{placeIn, valueIn, isComplete, isValid, makes, made}
+
+module _ (table : Table) (ok : allowed table ≡ true) (command : ℕ) (bytes : List ℕ) where
+  abbrev k : ℕ
+  k = placeIn bytes
+
+  abbrev n : ℕ
+  n = fromLittle (valueIn bytes)
+
+  set-valid : k < count → setTo table k n .table ≡ cond (isValid table k n) (changed table k n) table
+  unfolding isValid allowedFor
+  set-valid h = by (allowedFor k n (partnerNumber table k)) refl
+    where
+      by : (b : Bool) → allowedFor k n (partnerNumber table k) ≡ b → setTo table k n .table ≡ cond b (changed table k n) table
+      by true e = rw (set-accepted table k n ok h e)
+      by false e = rw (set-refused table k n ok h e)
+
+  abbrev front : Bool
+  front = eqb command 8 && (leb 3 (length bytes) && eqb (getD bytes 2 0) 0)
+
+  pub makes-same : answers.makes table command bytes ≡ makes table command bytes
+  unfolding answers.makes makes isComplete finding placing
+  makes-same = by front (ltb k count) (eqb (length (valueIn bytes)) (widthAt k)) refl refl refl
+    where
+      by : (a b c : Bool) → front ≡ a → ltb k count ≡ b → eqb (length (valueIn bytes)) (widthAt k) ≡ c
+          → cond front (answers.makesFound table (valueIn bytes) (cond (ltb k count) (Found.At (settingAt k)) Found.Nothing)) table
+          ≡ cond ((front && (ltb k count && eqb (length (valueIn bytes)) (widthAt k))) && isValid table k n) (changed table k n) table
+      by false b c p q r = rw p
+      by true false c p q r = rw (p, q)
+      by true true false p q r = rw (p, q, r)
+      by true true true p q r = rw (p, q, r) (set-valid (ltb-true _ _ q))
+
+-- frames in two rows
+pub made-append : (table : Table) (fs gs : List Ended) → made table (fs ++ gs) ≡ made (made table fs) gs
+unfolding made
+made-append table [] gs = refl
+made-append table (good command bytes ∷ fs) gs = made-append (makes table command bytes) fs gs
+made-append table (refused number ∷ fs) gs = made-append table fs gs
+
+-- a call ends one frame at most
+pub data AtMostOne : List Ended → Type 0 where
+  none-ended : AtMostOne []
+  one-ended : (f : Ended) → AtMostOne (f ∷ [])
+
+pub one-at-most : (u : Unfinished) (piece : List ℕ) → AtMostOne (framesFrom u (take (taken u piece) piece))
+unfolding taken
+one-at-most u piece = by (ltb (firstEnd u piece) (length piece)) refl
+  where
+    by : (b : Bool) → ltb (firstEnd u piece) (length piece) ≡ b → AtMostOne (framesFrom u (take (min (suc (firstEnd u piece)) (length piece)) piece))
+    by true e =
+        let inside : firstEnd u piece < length piece = ltb-true _ _ e in
+        let count : min (suc (firstEnd u piece)) (length piece) ≡ suc (firstEnd u piece) = omega arith in
+        let one = first-end-is-first u piece .one-there inside in
+        rw (count, one .1) (one-ended (one .0))
+    by false e =
+        let past : length piece ≤ firstEnd u piece = ltb-false _ _ e in
+        let count : min (suc (firstEnd u piece)) (length piece) ≡ length piece = omega arith in
+        let all : take (length piece) piece ≡ take (firstEnd u piece) piece = take-all (length piece) piece (omega arith) ∙ sym (take-all (firstEnd u piece) piece past) in
+        rw (count, all, first-end-is-first u piece .none-before) none-ended
+
+-- what a board decides of the frame that ended is what the frames make of its table
+pub decided-table : (board : Board) → allowed (board .table) ≡ true → (fs : List Ended) → AtMostOne fs → deciding board fs .table ≡ made (board .table) fs
+unfolding deciding made
+decided-table board ok fs none-ended = refl
+decided-table board ok fs (one-ended (good command bytes)) =
+    answer-makes-it (board .readings) (board .table) (board .identity) command bytes ∙ makes-same (board .table) ok command bytes
+decided-table board ok fs (one-ended (refused number)) = refl

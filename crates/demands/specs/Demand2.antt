@@ -1,0 +1,83 @@
+-- Demand 2. "A frame written by one end is read by the other as the same command and data, and a frame read whole is byte for byte the one the
+-- writer makes for them. The number of confirmed settings is the number of replies that matched the Set due when they came." Each statement
+-- is proved under its name in proofs/Theorems.antt. Assumes nothing.
+use Prim.Native.Nat.{ℕ, _^_, _≤_, _<_}
+use mathlib.Core.Path.{_≡_}
+use mathlib.Core.Bool.{true}
+use mathlib.Core.List.{List, [], _∷_, _++_}
+use lib.ListN.{length, take}
+use lib.Dec.{leb}
+use Rattle.laws.specs.Cutting as Cutting
+use Rattle.laws.specs.Cutting.{Offer, ready}
+use Rattle.wire.specs.Frame.{mostNibble, mostData, frame}
+use Rattle.wire.specs.Numbers.{little, fromLittle}
+use Rattle.wire.specs.Reading.{good}
+use Rattle.wire.specs.Stream.{outside, framesOf}
+use Rattle.wire.specs.Calls.{heldOf}
+use Rattle.wire.specs.Laws as wire
+use Rattle.wire.specs.Laws.{Bytes, hears}
+use Rattle.settings.specs.Columns.{count, widthAt}
+use Rattle.settings.specs.declared.Table.{Table}
+use Rattle.answers.specs.Answers.{Sent, silent, sent, error, said, getCode, setCode, frameAnswer}
+use Rattle.answers.specs.Requests.{getRequest, setData, setRequest}
+use Rattle.answers.specs.declared.Identity.{Identity}
+use Rattle.answers.specs.declared.Readings.{Readings}
+use Rattle.reply.specs.Replies.{flagOf, rest}
+use Rattle.reply.specs.Calls.{reading}
+use Rattle.reply.specs.declared.Status.{Status}
+use Rattle.reply.specs.declared.Reply.{Reply}
+use Rattle.follow.specs.Laws as follow
+use Rattle.demands.specs.Sets.{placeIn, valueIn, isComplete}
+
+-- 1. Written by one end, read by the other as the same command and data: whole, and by the stream reader in any cutting, with room enough in
+-- each call.
+abbrev pub WrittenIsRead : Type 0
+WrittenIsRead = wire.WrittenIsRead
+
+abbrev pub WrittenIsHeard : Type 0
+WrittenIsHeard =
+    (command : ℕ) (bytes : List ℕ) → command ≤ mostNibble → length bytes ≤ mostData → Bytes bytes
+    → (offers : List (Offer ℕ)) → ready (λ room. leb mostData room) offers ≡ true → length (frame command bytes) ≤ length offers
+    → Cutting.calls hears (heldOf outside) (frame command bytes) offers
+    ≡ record { state = heldOf outside; events = good command bytes ∷ []; taken = length (frame command bytes) }
+
+-- 2. Read whole, it is byte for byte what the writer makes.
+abbrev pub ReadIsWritten : Type 0
+ReadIsWritten = wire.ReadIsWritten
+
+-- 3. Every reply that a board gives is read by the box as the kind, status, id and value that the board meant. (The law reply-is-read of
+-- `board` says that the frames of a reply's bytes are the one that was sent and no other.)
+pub data Understood : Sent → Type 0 where
+  no-reply : Understood silent
+  as-error : reading 4 (0xAA ∷ 0xAA ∷ []) ≡ Reply.Error 0xAAAA → Understood error
+  as-done : (bytes : List ℕ) → reading 1 bytes ≡ Reply.Done → Understood (sent 1 bytes)
+  as-unknown : (command : ℕ) → reading 3 (command ∷ []) ≡ Reply.Unknown command → Understood (sent 3 (command ∷ []))
+  as-ping : (version : ℕ) → reading 5 (little 2 version) ≡ Reply.Ping version → Understood (sent 5 (little 2 version))
+  as-get : (status : Status) (id : ℕ) (value : List ℕ) → reading 7 (said id (flagOf status) value) ≡ Reply.Get status id
+      → rest (said id (flagOf status) value) ≡ value → Understood (sent 7 (said id (flagOf status) value))
+  as-set : (status : Status) (id : ℕ) (value : List ℕ) → reading 8 (said id (flagOf status) value) ≡ Reply.Set status id
+      → rest (said id (flagOf status) value) ≡ value → Understood (sent 8 (said id (flagOf status) value))
+
+abbrev pub RepliesAreUnderstood : Type 0
+RepliesAreUnderstood =
+    (readings : Readings) (table : Table) (identity : Identity) (command : ℕ) (bytes : List ℕ) → identity .version < 256 ^ 2 → Bytes bytes
+    → Understood (frameAnswer readings table identity command bytes .reply)
+
+-- Every request that the box writes is read by a board as that request: a Get of its id; a complete Set of its setting to its number.
+abbrev pub GetIsUnderstood : Type 0
+GetIsUnderstood =
+    (id : ℕ) (more : List ℕ) → id < 256 ^ 2
+    → (framesOf (getRequest id ++ more) ≡ good getCode (said id 0 []) ∷ framesOf more) × (fromLittle (take 2 (said id 0 [])) ≡ id)
+
+pub record SetRead (k n : ℕ) (more : List ℕ) : Type 0 where
+  pub frame-is : framesOf (setRequest k n ++ more) ≡ good setCode (setData k n) ∷ framesOf more
+  pub complete : isComplete setCode (setData k n) ≡ true
+  pub setting-is : placeIn (setData k n) ≡ k
+  pub number-is : fromLittle (valueIn (setData k n)) ≡ n
+
+abbrev pub SetIsUnderstood : Type 0
+SetIsUnderstood = (k n : ℕ) (more : List ℕ) → k < count → n < 256 ^ widthAt k → SetRead k n more
+
+-- 4. For any events at a follower, its confirmed count is the number that matched the Set then due, by `matched`, which has no follower in it.
+abbrev pub CountIsMatched : Type 0
+CountIsMatched = follow.CountIsMatched

@@ -1,0 +1,78 @@
+-- A conversation with a board: readings are stored, and calls are made on the bytes of its line, what one call did not take being handed on
+-- before anything else. Assumes nothing.
+use Prim.Native.Nat.{ℕ, zero, _+_}
+use mathlib.Core.Bool.{cond}
+use mathlib.Core.List.{List, [], _∷_, _++_}
+use lib.ListN.{take, drop}
+use lib.Dec.{ltb}
+use Rattle.laws.specs.Promise.{Given}
+use Rattle.answers.specs.declared.Outcome.{Outcome}
+use Rattle.wire.specs.Reading.{Ended}
+use Rattle.wire.specs.Stream.{Unfinished}
+use Rattle.wire.specs.Calls.{heldOf}
+use Rattle.board.specs.Calls.{replyBytes, deciding, storing, answering}
+use Rattle.board.specs.declared.Board.{Board}
+use Rattle.board.specs.declared.Sample.{Sample}
+use Rattle.board.specs.declared.Answered.{Answered}
+
+-- a store of readings, or a call on so many of the bytes that are not taken yet, with a lent buffer of some room; any number of either may
+-- be 0, and any room too short
+pub data Deed : Type 0 where
+  stores : Sample → Deed
+  calls : ℕ → ℕ → Deed
+
+-- what a board said of a frame that ended: the outcome and the reply's bytes
+pub record Said : Type 0 where
+  pub outcome : Outcome
+  pub reply : List ℕ
+
+-- a call says nothing of a frame where none ended, and where the call itself was refused (11 and 12)
+abbrev pub ofFrame : Said → Outcome → List Said
+ofFrame s Outcome.Nothing = []
+ofFrame s Outcome.Answered = s ∷ []
+ofFrame s Outcome.Restarted = s ∷ []
+ofFrame s Outcome.Ignored = s ∷ []
+ofFrame s (Outcome.Refused number) = cond (ltb 10 number) [] (s ∷ [])
+
+unfoldable pub saidIn : Given Answered → List Said
+saidIn given = ofFrame (record { outcome = given .answer .outcome; reply = given .written }) (given .answer .outcome)
+
+-- what a conversation comes to: the board afterwards, what it said of the frames in order, and how many bytes were taken
+pub record Talk : Type 0 where
+  pub board : Board
+  pub said : List Said
+  pub taken : ℕ
+
+-- by any way of answering a piece of input with so much room lent
+abbrev pub talkBy : (Board → List ℕ → ℕ → Given Answered) → Board → List ℕ → List Deed → Talk
+talkBy answer board bytes [] = record { board = board; said = []; taken = zero }
+talkBy answer board bytes (stores given ∷ more) = talkBy answer (storing board given .board) bytes more
+talkBy answer board bytes (calls count room ∷ more) =
+    let here = answer board (take count bytes) room in
+    let later = talkBy answer (here .answer .board) (drop (here .answer .taken) bytes) more in
+    record { board = later .board; said = saidIn here ++ later .said; taken = here .answer .taken + later .taken }
+
+-- and by the board's own call
+abbrev pub talk : Board → List ℕ → List Deed → Talk
+talk = talkBy answering
+
+-- The same with no calls in it: what a board says of a row of frames, one after the other, and what it is afterwards.
+abbrev pub afterOne : Board → Ended → Board
+afterOne board f =
+    let d = deciding board (f ∷ []) in
+    record { identity = board .identity; table = d .table; readings = d .readings; held = board .held }
+
+abbrev pub afterAll : Board → List Ended → Board
+afterAll board [] = board
+afterAll board (f ∷ more) = afterAll (afterOne board f) more
+
+abbrev pub saidTo : Board → Ended → List Said
+saidTo board f = let d = deciding board (f ∷ []) in ofFrame (record { outcome = d .outcome; reply = replyBytes (d .reply) }) (d .outcome)
+
+abbrev pub saidToAll : Board → List Ended → List Said
+saidToAll board [] = []
+saidToAll board (f ∷ more) = saidTo board f ++ saidToAll (afterOne board f) more
+
+-- a board whose line has read some bytes: only the unfinished frame is another
+abbrev pub withLine : Board → Unfinished → Board
+withLine board u = record { identity = board .identity; table = board .table; readings = board .readings; held = heldOf u }
