@@ -27,7 +27,7 @@ use Rattle.demands.specs.Sets.{makes, made}
 use Rattle.demands.specs.Talk.{Deed, stores, calls, Talk, talk, afterOne, afterAll}
 use Rattle.demands.specs.Demand3.{BoardDecides}
 use Rattle.demands.proofs.Making.{makes-same, made-append, one-ended, decided-table}
-use Rattle.demands.proofs.Talking.{Line, stateOf, call, call-reads}
+use Rattle.demands.proofs.Talking.{Line, stateOf, line-same, call-reads}
 
 -- a table that is allowed, with all its numbers
 pub record Sound (table : Table) : Type 0 where
@@ -91,7 +91,7 @@ going (stores given ∷ more) board r bytes h s =
 going (calls n room ∷ more) board r bytes h s =
     let l : Line = record { board = board; reading = r } in
     let piece : List ℕ = take n bytes in
-    let same : stateOf l ≡ board = ap (λ held. record { identity = board .identity; table = board .table; readings = board .readings; held = held }) (sym h) in
+    let same : stateOf l ≡ board = line-same board r h in
     let reads = rw same at (call-reads l room piece) in
     let t : ℕ = answering board piece room .answer .taken in
     let few : t ≤ min n (length bytes) = rw length-take at (reads .within) in

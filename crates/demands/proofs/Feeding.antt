@@ -30,7 +30,7 @@ use Rattle.restore.specs.declared.Wanted.{Wanted}
 use Rattle.restore.proofs.Theorems.{list-restores-it}
 use Rattle.demands.specs.Sets.{made}
 use Rattle.demands.specs.Talk.{Deed, stores, calls, Said, Talk, talk, afterAll, saidToAll, withLine}
-use Rattle.demands.specs.Demand3.{isFeeding, acceptedSet, ListIsAccepted, repliesOf, eventFor, followed, Confirmed, ListIsConfirmed}
+use Rattle.demands.specs.Demand3.{isCalls, AnyCutting, isFeeding, acceptedSet, ListIsAccepted, repliesOf, eventFor, followed, Confirmed, ListIsConfirmed}
 use Rattle.laws.proofs.Bools.{both}
 use Rattle.wire.specs.Frame.{mostData}
 use Rattle.wire.specs.Laws.{hears, Writables, nothing, broken, whole}
@@ -43,7 +43,7 @@ use Rattle.follow.specs.Following.{begun}
 use Rattle.follow.specs.Laws.{run, matched, ownReply}
 use Rattle.follow.specs.declared.Follower.{Follower}
 use Rattle.follow.proofs.Theorems.{count-is-matched, done-is-all, equal-is-none, all-are-confirmed}
-use Rattle.demands.proofs.Talking.{Line, stateOf, says, leaves, call, call-reads, any-cutting}
+use Rattle.demands.proofs.Talking.{Line, stateOf, says, leaves, line-same, call, call-reads, any-cutting}
 use Rattle.demands.proofs.Deciding.{Sound, made-sound, after-table}
 use Rattle.demands.proofs.Listing.{frameFor, listed, due-in, accepts-all}
 
@@ -56,13 +56,27 @@ offersOf (calls n room ∷ more) = record { count = n; with = room } ∷ offersO
 abbrev talkOf : Step Board Said → Talk
 talkOf s = record { board = s .state; said = s .events; taken = s .taken }
 
-talk-calls : (deeds : List Deed) (board : Board) (bytes : List ℕ) → isFeeding deeds ≡ true → talk board bytes deeds ≡ talkOf (Cutting.calls call board bytes (offersOf deeds))
-talk-calls [] board bytes e = refl
-talk-calls (stores given ∷ more) board bytes e = absurd (false≢true e)
-talk-calls (calls n room ∷ more) board bytes e =
+talk-row : (deeds : List Deed) (board : Board) (bytes : List ℕ) → isCalls deeds ≡ true → talk board bytes deeds ≡ talkOf (Cutting.calls call board bytes (offersOf deeds))
+talk-row [] board bytes e = refl
+talk-row (stores given ∷ more) board bytes e = absurd (false≢true e)
+talk-row (calls n room ∷ more) board bytes e =
     let here = answering board (take n bytes) room in
-    let later = talk-calls more (here .answer .board) (drop (here .answer .taken) bytes) (and-right (leb 1 n && leb frameRoom room) _ e) in
+    let later = talk-row more (here .answer .board) (drop (here .answer .taken) bytes) e in
     ap (λ (t : Talk). record { board = t .board; said = call board room (take n bytes) .events ++ t .said; taken = here .answer .taken + t .taken }) later
+
+feeding-calls : (deeds : List Deed) → isFeeding deeds ≡ true → isCalls deeds ≡ true
+feeding-calls [] e = refl
+feeding-calls (stores given ∷ more) e = absurd (false≢true e)
+feeding-calls (calls n room ∷ more) e = feeding-calls more (and-right (leb 1 n && leb frameRoom room) _ e)
+
+talk-calls : (deeds : List Deed) (board : Board) (bytes : List ℕ) → isFeeding deeds ≡ true → talk board bytes deeds ≡ talkOf (Cutting.calls call board bytes (offersOf deeds))
+talk-calls deeds board bytes e = talk-row deeds board bytes (feeding-calls deeds e)
+
+-- any cutting
+pub cutting-read : AnyCutting
+cutting-read board u h bytes deeds e =
+    let reads = rw (line-same board u h) at (any-cutting (record { board = board; reading = u }) bytes (offersOf deeds)) in
+    rw (talk-row deeds board bytes e) (record { said-is = reads .events-are; board-is = reads .state-is })
 
 -- a call with room enough on an allowed board takes a byte at least, where there is one
 some-taken : (u : Unfinished) (piece : List ℕ) → min 1 (length piece) ≤ taken u piece
@@ -83,7 +97,7 @@ all-fed (calls n room ∷ more) board r bytes h s ok e few =
     let enough : frameRoom ≤ room = leb-true frameRoom room (and-right (leb 1 n) _ own) in
     let l : Line = record { board = board; reading = r } in
     let piece : List ℕ = take n bytes in
-    let same : stateOf l ≡ board = ap (λ held. record { identity = board .identity; table = board .table; readings = board .readings; held = held }) (sym h) in
+    let same : stateOf l ≡ board = line-same board r h in
     let reads = rw same at (call-reads l room piece) in
     let after : Board = answering board piece room .answer .board in
     let t : ℕ = answering board piece room .answer .taken in
@@ -103,7 +117,7 @@ pub list-accepted : ListIsAccepted
 list-accepted from to two board ok rest is deeds feeding enough =
     let bytes : List ℕ = framesFor (dueSets from to) in
     let l : Line = record { board = board; reading = outside } in
-    let same : stateOf l ≡ board = ap (λ held. record { identity = board .identity; table = board .table; readings = board .readings; held = held }) (sym rest) in
+    let same : stateOf l ≡ board = line-same board outside rest in
     let sound : Sound (board .table) = rw is (record { long = two .from-long; ok = two .from-allowed }) in
     let all : talk board bytes deeds .taken ≡ length bytes = all-fed deeds board outside bytes rest sound ok feeding enough in
     let row = talk-calls deeds board bytes feeding in

@@ -33,6 +33,9 @@ pub record Line : Type 0 where
 abbrev pub stateOf : Line → Board
 stateOf l = withLine (l .board) (l .reading)
 
+pub line-same : (board : Board) (u : Unfinished) → board .held ≡ heldOf u → withLine board u ≡ board
+line-same board u h = ap (λ (held : Held). record { identity = board .identity; table = board .table; readings = board .readings; held = held }) (sym h)
+
 abbrev pub says : Line → List ℕ → List Said
 says l bytes = saidToAll (l .board) (framesFrom (l .reading) bytes)
 

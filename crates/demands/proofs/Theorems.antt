@@ -1,6 +1,6 @@
 -- The statements of specs/, proved. Assumes nothing.
 use Rattle.demands.specs.Demand2.{WrittenIsRead, WrittenIsHeard, ReadIsWritten, RepliesAreUnderstood, GetIsUnderstood, SetIsUnderstood, CountIsMatched}
-use Rattle.demands.specs.Demand3.{BoardDecides, OneSetForEach, NoOtherSet, ListIsAccepted, ListIsConfirmed}
+use Rattle.demands.specs.Demand3.{BoardDecides, AnyCutting, OneSetForEach, NoOtherSet, ListIsAccepted, ListIsConfirmed}
 use Rattle.demands.specs.Shams.{ShamsFall, RealPass}
 use Rattle.demands.specs.Lines.{ThirteenHold}
 use Rattle.wire.proofs.Theorems as wire
@@ -8,7 +8,7 @@ use Rattle.restore.proofs.Theorems as restore
 use Rattle.follow.proofs.Theorems as follow
 use Rattle.demands.proofs.Understanding.{heard-written, replies-understood, get-understood, set-understood}
 use Rattle.demands.proofs.Deciding as deciding
-use Rattle.demands.proofs.Feeding.{list-accepted, list-confirmed}
+use Rattle.demands.proofs.Feeding.{cutting-read, list-accepted, list-confirmed}
 use Rattle.demands.proofs.Shams as shams
 use Rattle.demands.proofs.Lines.{thirteen-lines-hold}
 
@@ -37,6 +37,9 @@ count-is-matched = follow.count-is-matched
 -- demand 3
 pub board-decides : BoardDecides
 board-decides = deciding.board-decides
+
+pub any-cutting-is-read : AnyCutting
+any-cutting-is-read = cutting-read
 
 pub one-set-for-each : OneSetForEach
 one-set-for-each = restore.one-for-each

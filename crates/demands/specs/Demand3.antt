@@ -12,7 +12,7 @@ use Rattle.laws.specs.Cutting as Cutting
 use Rattle.laws.specs.Cutting.{Offer, ready}
 use Rattle.wire.specs.Frame.{mostData, frameRoom}
 use Rattle.wire.specs.Reading.{Ended, good, refused}
-use Rattle.wire.specs.Stream.{outside, framesOf}
+use Rattle.wire.specs.Stream.{Unfinished, outside, framesFrom, leftFrom, framesOf}
 use Rattle.wire.specs.Calls.{heldOf}
 use Rattle.wire.specs.Laws.{hears}
 use Rattle.settings.specs.Columns.{count, roleAt}
@@ -36,7 +36,7 @@ use Rattle.follow.specs.Laws.{run}
 use Rattle.follow.specs.declared.Follower.{Follower}
 use Rattle.follow.specs.declared.Outcome as follows
 use Rattle.demands.specs.Sets.{made}
-use Rattle.demands.specs.Talk.{Deed, stores, calls, Said, Talk, talkBy, talk}
+use Rattle.demands.specs.Talk.{Deed, stores, calls, Said, Talk, talkBy, talk, afterAll, saidToAll, withLine}
 
 -- what holds after a conversation that began with the table `first`
 pub record Decided (first : Table) (bytes : List ℕ) (end : Talk) : Type 0 where
@@ -55,6 +55,22 @@ Decides answer =
 
 abbrev pub BoardDecides : Type 0
 BoardDecides = Decides answering
+
+-- "in any cutting": a conversation of calls alone says of the frames of the bytes taken what the board says of them one after the other, and
+-- leaves the board that they leave, on a line that has read those bytes; from any state, with any pieces and any room.
+abbrev pub isCalls : List Deed → Bool
+isCalls [] = true
+isCalls (stores given ∷ more) = false
+isCalls (calls count room ∷ more) = isCalls more
+
+pub record Read (board : Board) (u : Unfinished) (bytes : List ℕ) (end : Talk) : Type 0 where
+  pub said-is : end .said ≡ saidToAll board (framesFrom u (take (end .taken) bytes))
+  pub board-is : end .board ≡ withLine (afterAll board (framesFrom u (take (end .taken) bytes))) (leftFrom u (take (end .taken) bytes))
+
+abbrev pub AnyCutting : Type 0
+AnyCutting =
+    (board : Board) (u : Unfinished) → board .held ≡ heldOf u → (bytes : List ℕ) (deeds : List Deed) → isCalls deeds ≡ true
+    → Read board u bytes (talk board bytes deeds)
 
 -- 2. "Between any two allowed tables the restore list has one Set for each setting that differs and no other;
 abbrev pub OneSetForEach : Type 0
