@@ -12,8 +12,10 @@ use Rattle.wire.specs.Digits.{digit, nibble}
 use Rattle.wire.specs.Frame.{check, body, frame}
 use Rattle.wire.specs.Numbers.{little}
 use Rattle.wire.specs.Reading.{bodySays}
-use Rattle.wire.specs.Stream.{taken}
-use Rattle.wire.specs.Calls.{noChars, heldOf, unfinished}
+use Rattle.wire.specs.Stream.{outside, taken}
+use Rattle.wire.specs.Calls.{noChars, heldOf, unfinished, hearing}
+use Rattle.wire.specs.declared.Heard.{Heard}
+use Rattle.wire.proofs.Answers.{hearing-heard}
 use Rattle.wire.specs.Calls as wire
 use Rattle.settings.specs.Columns.{count, factory}
 use Rattle.settings.specs.Rules.{inRange, lowAgrees, highAgrees, agrees, allowedFor, allowed, numberAt, changed}
@@ -38,7 +40,7 @@ use Rattle.follow.proofs.Theorems.{count-is-matched}
 use Rattle.demands.specs.Sets.{isComplete, isValid, makes, made}
 use Rattle.demands.specs.Talk.{Deed, calls}
 use Rattle.demands.specs.Demand3.{Decides}
-use Rattle.demands.specs.Shams.{GetsHeld, SetsStored, TakesToTheEnd, Counts, refusesAll, answersAlike, storesNothing, firstSetAlone, neverChanges, takesAll, sentCount, ShamsFall, RealPass}
+use Rattle.demands.specs.Shams.{GetsHeld, SetsStored, TakesToTheEnd, HearsToTheEnd, Counts, refusesAll, answersAlike, storesNothing, firstSetAlone, neverChanges, takesAll, hearsAll, sentCount, ShamsFall, RealPass}
 use Rattle.demands.proofs.Deciding.{board-decides}
 
 -- the place of the capacity, and a table with another capacity
@@ -145,6 +147,13 @@ takes-all h =
     let f : _≡_ {A = Bool} false true = ap (λ (n : ℕ). eqb n 15) e in
     false≢true f
 
+hears-all : HearsToTheEnd hearsAll → ⊥
+unfolding wire.allowed heldOf noChars unfinished taken frame body check digit
+hears-all h =
+    let e = h (heldOf outside) twoSets 35 refl (leb-true 35 35 refl) in
+    let f : _≡_ {A = Bool} false true = ap (λ (n : ℕ). eqb n 15) e in
+    false≢true f
+
 sent-count : Counts sentCount → ⊥
 unfolding matched order turnsFrom placed exchanged higherFirst differs allowed allowedFor inRange agrees lowAgrees highAgrees
 sent-count h =
@@ -162,12 +171,16 @@ shams-fall =
       first-set-alone-falls = first-set-alone;
       never-changes-falls = never-changes;
       takes-all-falls = takes-all;
+      hears-all-falls = hears-all;
       sent-count-falls = sent-count;
     }
 
 takes-real : TakesToTheEnd answering
 unfolding heardBy decidedBy
 takes-real board piece room ok h = ap (λ (g : Given Answered). g .answer .taken) (answering-heard board piece room h ok)
+
+hears-real : HearsToTheEnd hearing
+hears-real held piece room ok h = ap (λ (g : Given Heard). g .answer .taken) (hearing-heard held piece room h ok)
 
 pub real-pass : RealPass
 real-pass =
@@ -176,5 +189,6 @@ real-pass =
       board-sets = set-stores-it;
       board-decides = board-decides;
       board-takes = takes-real;
+      box-takes = hears-real;
       follower-counts = count-is-matched;
     }

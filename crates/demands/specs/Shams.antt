@@ -10,10 +10,13 @@ use mathlib.Core.List.{List, []}
 use lib.ListN.{length}
 use Rattle.laws.specs.Lists.{same}
 use Rattle.laws.specs.Promise.{Given}
-use Rattle.wire.specs.Frame.{frameRoom, frame}
+use Rattle.wire.specs.Frame.{mostData, frameRoom, frame}
 use Rattle.wire.specs.Numbers.{little}
 use Rattle.wire.specs.Stream.{taken}
-use Rattle.wire.specs.Calls.{unfinished}
+use Rattle.wire.specs.Calls as wire
+use Rattle.wire.specs.Calls.{unfinished, hearing}
+use Rattle.wire.specs.declared.Held.{Held}
+use Rattle.wire.specs.declared.Heard.{Heard}
 use Rattle.settings.specs.Columns.{count, idAt, widthAt, factories}
 use Rattle.settings.specs.Rules.{allowedFor, numberAt, partnerNumber, changed}
 use Rattle.settings.specs.declared.Table.{Table}
@@ -50,6 +53,11 @@ abbrev pub TakesToTheEnd : (Board → List ℕ → ℕ → Given Answered) → T
 TakesToTheEnd answer =
     (board : Board) (piece : List ℕ) (room : ℕ) → boardAllowed board ≡ true → frameRoom ≤ room
     → answer board piece room .answer .taken ≡ taken (unfinished (board .held)) piece
+
+-- the same of the box's call on its stream
+abbrev pub HearsToTheEnd : (Held → List ℕ → ℕ → Given Heard) → Type 0
+HearsToTheEnd hear =
+    (held : Held) (piece : List ℕ) (room : ℕ) → wire.allowed held ≡ true → mostData ≤ room → hear held piece room .answer .taken ≡ taken (unfinished held) piece
 
 -- demand 2's reply count
 abbrev pub Counts : (Table → Table → List Event → ℕ) → Type 0
@@ -104,6 +112,11 @@ takesAll board piece room =
       written = given .written;
     }
 
+abbrev pub hearsAll : Held → List ℕ → ℕ → Given Heard
+hearsAll held piece room =
+    let given = hearing held piece room in
+    record { answer = record { held = given .answer .held; event = given .answer .event; taken = length piece }; written = given .written }
+
 -- invents its confirmed count: the Sets that were sent
 abbrev pub sentCount : Table → Table → List Event → ℕ
 sentCount from to events = length (dueSets from to)
@@ -117,12 +130,14 @@ pub record ShamsFall : Type 0 where
   pub first-set-alone-falls : Decides firstSetAlone → ⊥
   pub never-changes-falls : Decides neverChanges → ⊥
   pub takes-all-falls : TakesToTheEnd takesAll → ⊥
+  pub hears-all-falls : HearsToTheEnd hearsAll → ⊥
   pub sent-count-falls : Counts sentCount → ⊥
 
--- The board and the follower do.
+-- The board, the box's stream and the follower do.
 pub record RealPass : Type 0 where
   pub board-gets : GetsHeld answering
   pub board-sets : SetsStored answering
   pub board-decides : Decides answering
   pub board-takes : TakesToTheEnd answering
+  pub box-takes : HearsToTheEnd hearing
   pub follower-counts : Counts (λ from to events. run (begun from to) events .confirmed)
