@@ -83,7 +83,7 @@ some-taken : (u : Unfinished) (piece : List ℕ) → min 1 (length piece) ≤ ta
 unfolding taken
 some-taken u piece = omega arith
 
-call-takes : (board : Board) (piece : List ℕ) (room : ℕ) → boardAllowed board ≡ true → frameRoom ≤ room → min 1 (length piece) ≤ answering board piece room .answer .taken
+pub call-takes : (board : Board) (piece : List ℕ) (room : ℕ) → boardAllowed board ≡ true → frameRoom ≤ room → min 1 (length piece) ≤ answering board piece room .answer .taken
 unfolding heardBy decidedBy
 call-takes board piece room ok h = rw (answering-heard board piece room h ok) (some-taken (unfinished (board .held)) piece)
 
@@ -145,7 +145,7 @@ replies-are [] = refl
 replies-are (w ∷ ws) = ap (λ (l : List ℕ). setRequest (w .setting .index) (w .number) ++ l) (replies-are ws)
 
 -- and the box hears in them the Sets' own replies
-own-events : (to : Table) (ks : List ℕ) → map eventFor (map frameFor (map (wanted to) ks)) ≡ map ownReply (map (wanted to) ks)
+pub own-events : (to : Table) (ks : List ℕ) → map eventFor (map frameFor (map (wanted to) ks)) ≡ map ownReply (map (wanted to) ks)
 own-events to [] = refl
 own-events to (k ∷ ks) = ap (λ (l : List Event). ownReply (wanted to k) ∷ l) (own-events to ks)
 

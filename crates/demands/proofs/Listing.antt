@@ -78,7 +78,7 @@ pub due-in : (from to : Table) → InTable (dueSets from to)
 due-in from to = order-in to (order from to) (differs from to) (no-other-set from to)
 
 -- one Set that the settings rule accepts, at a board
-accepted-allowed : (table : Table) (k n : ℕ) → allowed table ≡ true → k < count → isAccepted (setTo table k n .answer) ≡ true → allowedFor k n (partnerNumber table k) ≡ true
+pub accepted-allowed : (table : Table) (k n : ℕ) → allowed table ≡ true → k < count → isAccepted (setTo table k n .answer) ≡ true → allowedFor k n (partnerNumber table k) ≡ true
 accepted-allowed table k n ok h e = by (allowedFor k n (partnerNumber table k)) refl
   where
     by : (b : Bool) → allowedFor k n (partnerNumber table k) ≡ b → b ≡ true

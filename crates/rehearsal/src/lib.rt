@@ -1,0 +1,95 @@
+// A rehearsal of a restore: the list is made, fed to a board in pieces, and the board's replies are read and followed. Every call takes
+// anything, and its promise fixes its answer (specs/Calls.antt).
+ghost use mathlib.Core.Path.{_≡_};
+ghost use Rattle.board.specs.Parts.{boardAllowed};
+ghost use Rattle.rehearsal.specs.Calls.{isReady, ended, unrehearsed, rehearsed};
+use answers::Outcome as Said;
+use board::Board;
+use follow::Follower;
+use follow::Outcome;
+use restore::Listed;
+use settings::Table;
+
+mod line;
+mod numbers;
+
+// The board as it is afterwards, where its restore stands, and how many Sets are confirmed.
+pub struct Rehearsed {
+    pub board: Board,
+    pub outcome: Outcome,
+    pub confirmed: usize,
+}
+
+// Restores a board to the table `to`, its list handed over in pieces of `size` bytes. Refuses 12 for a size of 0, a board inside a frame,
+// and a board or a table that is not allowed.
+pub fn rehearse(board: Board, to: Table, size: usize) -> Rehearsed
+    ensures { λ r. ⌜ r ≡ rehearsed board to size ⌝ }
+{
+    if !is_ready(board, size) {
+        return refused(board);
+    }
+    let from = board.table;
+    let mut list = [0u8; numbers::LIST_ROOM];
+    let listed = restore::list(from, to, &mut list);
+    match listed {
+        Listed::List { len, sets: _ } => {
+            ended(line::feed(board, Follower::start(from, to), &list[..len], size))
+        }
+        Listed::Refused(_) => refused(board),
+    }
+}
+
+// Whether a board is allowed: a call with an empty piece refuses every other board, and no such one.
+fn is_allowed(board: Board) -> bool
+    ensures { λ r. ⌜ r ≡ boardAllowed board ⌝ }
+{
+    let mut reply = [0u8; numbers::REPLY_ROOM];
+    let answered = board.answer(&[], &mut reply);
+    let outcome = answered.outcome;
+    match outcome {
+        Said::Nothing => true,
+        Said::Answered => true,
+        Said::Restarted => true,
+        Said::Ignored => true,
+        Said::Refused(_) => false,
+    }
+}
+
+// Whether pieces have bytes and the board is allowed and at rest.
+fn is_ready(board: Board, size: usize) -> bool
+    ensures { λ r. ⌜ r ≡ isReady board size ⌝ }
+{
+    if size == 0 {
+        return false;
+    }
+    let held = board.held;
+    if held.inside {
+        return false;
+    }
+    is_allowed(board)
+}
+
+// What a rehearsal came to.
+fn ended(turn: line::Turn) -> Rehearsed
+    ensures { λ r. ⌜ r ≡ ended turn ⌝ }
+{
+    let board = turn.board;
+    let followed = turn.followed;
+    let outcome = followed.outcome;
+    Rehearsed {
+        board,
+        outcome,
+        confirmed: followed.confirmed,
+    }
+}
+
+// 12: the board as it was, and no count.
+fn refused(board: Board) -> Rehearsed
+    ensures { λ r. ⌜ r ≡ unrehearsed board ⌝ }
+{
+    Rehearsed {
+        board,
+        outcome: Outcome::Refused(numbers::NOT_ALLOWED),
+        confirmed: 0,
+    }
+}
