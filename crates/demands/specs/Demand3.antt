@@ -46,8 +46,8 @@ pub record Decided (first : Table) (bytes : List ℕ) (end : Talk) : Type 0 wher
   pub table-is : end .board .table ≡ made first (framesOf (take (end .taken) bytes))
 
 -- 1. For every identity, every allowed table, every row of bytes and every row of deeds; said of any way of answering, so that it can be
--- held against a sham, and of the board's own. (A table has its numbers in every value of the type,
--- which `length` says; a serial that does not fit is refused at the start.)
+-- held against a sham, and of the board's own. (A table has its numbers in every value of the type, which `length` says; a serial that
+-- does not fit is refused at the start.)
 abbrev pub Decides : (Board → List ℕ → ℕ → Given Answered) → Type 0
 Decides answer =
     (product version : ℕ) (serial : List ℕ) (table : Table) → serialFits serial ≡ true → length (table .numbers) ≡ count → allowed table ≡ true

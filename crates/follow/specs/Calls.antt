@@ -8,7 +8,7 @@ use Rattle.follow.specs.declared.Follower.{Follower}
 use Rattle.follow.specs.declared.Outcome.{Outcome}
 use Rattle.follow.specs.declared.Followed.{Followed}
 
--- the follower, where it stands, and "the number confirmed"
+-- the follower, where it stands, and the number confirmed
 abbrev pub answered : Follower → Followed
 answered f = record { follower = f; outcome = standing f; confirmed = f .confirmed }
 

@@ -33,9 +33,9 @@ pub record Reached (f : Follower) : Type 0 where
 abbrev pub AllowedIsReached : Type 0
 AllowedIsReached = (f : Follower) → (followerAllowed f ≡ true) ↔ Reached f
 
--- 2. "Counting sent Sets as confirmed" is a slip of the trade: demand 2 wants "the replies that matched the Set then due". Matched, with no
--- follower in it: a row of Sets and a row of events, where an event matches the first Set if it is the very reply that a board gives which
--- has stored it: the Set's own id, flag 00 and its number in its width.
+-- 2. "Counting sent Sets as confirmed" is a slip of the trade: demand 2 wants "the number of replies that matched the Set due when they came".
+-- Matched, with no follower in it: a row of Sets and a row of events, where an event matches the first Set if it is the very reply that a
+-- board gives which has stored it: the Set's own id, flag 00 and its number in its width.
 abbrev pub ownData : Wanted → List ℕ
 ownData due = said (due .setting .id) 0 (little (due .setting .width) (due .number))
 
