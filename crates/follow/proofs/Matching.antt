@@ -3,7 +3,7 @@ use mathlib.Core.Path.{_≡_, refl, sym, ap, ap₂, subst, _∙_}
 use mathlib.Core.Logic.{_≢_}
 use mathlib.Core.Bool.{Bool, true, false, cond, _&&_, false≢true}
 use mathlib.Core.List.{List, [], _∷_, _++_}
-use Prim.Native.Nat.{ℕ, _+_, _*_, _/_, _%_, _^_, _≤_, _<_}
+use Prim.Native.Nat.{ℕ, _+_, _^_, _≤_, _<_}
 use native.Mathlib.Omega.{arith}
 use borrow.Author.Tests.{eqb-true, eqb-false, eq-eqb, leb-true, le-leb}
 use lib.ListN.{length, take, drop, getD}
@@ -15,7 +15,7 @@ use Rattle.wire.specs.Numbers.{little, fromLittle}
 use Rattle.wire.specs.Laws.{Bytes}
 use Rattle.wire.proofs.Theorems.{little-is-read, read-is-little}
 use Rattle.answers.specs.Answers.{said, setCode}
-use Rattle.answers.proofs.Bytes.{length-little, bytes-little}
+use Rattle.answers.proofs.Bytes.{length-little}
 use Rattle.reply.specs.Replies.{flagOf, rest}
 use Rattle.reply.specs.Calls.{reading}
 use Rattle.reply.specs.Laws.{From, a-set}
@@ -90,21 +90,6 @@ set-said command bytes status id small e = from-set (subst (From command bytes) 
 set-read : (status : Status) (id : ℕ) (value : List ℕ) → id < 256 ^ 2 → reading 8 (said id (flagOf status) value) ≡ Reply.Set status id
 set-read status id value h = said-is-read status id value h .set-heard
 
-two-low : (id : ℕ) → id % 256 + 256 * (id / 256 % 256 + 256 * 0) < 65536
-two-low id = omega arith
-
-two-again : (id : ℕ) → little 2 (fromLittle (little 2 id)) ≡ little 2 id
-two-again id = read-is-little (little 2 id) (record { below = bytes-little 2 id })
-
--- an id that is read has two bytes
-read-id : (bytes : List ℕ) (status : Status) (id : ℕ) → reading 8 bytes ≡ Reply.Set status id → bytes ≡ said id (flagOf status) (rest bytes) → id < 256 ^ 2
-read-id bytes status id e is =
-    let small : ℕ = fromLittle (little 2 id) in
-    let again : said small (flagOf status) (rest bytes) ≡ bytes = ap (λ (l : List ℕ). l ++ flagOf status ∷ rest bytes) (two-again id) ∙ sym is in
-    let other : reading 8 bytes ≡ Reply.Set status small = ap (reading 8) (sym again) ∙ set-read status small (rest bytes) (two-low id) in
-    let same-id : id ≡ small = ap idIn (sym e ∙ other) in
-    rw same-id (two-low id)
-
 -- the Set's own reply, and any Set reply of its id, are read as such
 own-read : (due : Wanted) → Sound due → reading 8 (ownData due) ≡ Reply.Set Status.Good (due .setting .id)
 own-read due sound = set-read Status.Good (due .setting .id) (little (due .setting .width) (due .number)) (sound .id-fits)
@@ -148,9 +133,6 @@ module _ (due : Wanted) (sound : Sound due) (command : ℕ) (bytes : List ℕ) (
   module _ (status : Status) (it : ℕ) (read : reading command bytes ≡ Reply.Set status it) where
     said-so : SetSaid command bytes status it
     said-so = set-said command bytes status it small read
-
-    it-fits : it < 256 ^ 2
-    it-fits = read-id bytes status it (ap (λ (c : ℕ). reading c bytes) (sym (said-so .code)) ∙ read) (said-so .bytes-are)
 
     other-id : it ≢ id → (matches due (heard command bytes) ≡ false) × (ends due (heard command bytes) ≡ false)
     other-id apart = (
