@@ -13,8 +13,11 @@ use Rattle.laws.proofs.Bools.{pick, and-left, and-right, both}
 use Rattle.laws.proofs.Lists.{upTo-at}
 use Rattle.wire.specs.Frame.{frame}
 use Rattle.wire.specs.Numbers.{little, fromLittle}
-use Rattle.wire.specs.Laws.{Bytes}
-use Rattle.wire.proofs.Theorems.{written-is-heard, all-is-taken, little-is-read}
+use Rattle.wire.specs.Reading.{Ended, good, refused}
+use Rattle.wire.specs.Stream.{taken}
+use Rattle.wire.specs.Calls.{unfinished}
+use Rattle.wire.specs.Laws.{Bytes, Writables, whole}
+use Rattle.wire.proofs.Theorems.{written-is-heard, all-is-taken, heard-is-writable, little-is-read}
 use Rattle.settings.specs.Columns.{count, idAt, widthAt}
 use Rattle.settings.specs.Calls.{placeOf, finding, setTo}
 use Rattle.settings.specs.declared.Table.{Table}
@@ -30,6 +33,8 @@ use Rattle.answers.specs.declared.Identity.{Identity}
 use Rattle.answers.specs.declared.Readings.{Readings}
 use Rattle.answers.proofs.Bytes.{length-little}
 use Rattle.answers.proofs.Fitting.{writable-said}
+use Rattle.board.specs.Calls.{endedIn, deciding}
+use Rattle.board.specs.declared.Board.{Board}
 use Rattle.reply.specs.Replies.{flagOf}
 use Rattle.reply.specs.declared.Status.{Status}
 use Rattle.reply.proofs.Theorems.{said-is-read, done-is-read, unknown-is-read, error-is-read, ping-is-read}
@@ -118,9 +123,10 @@ module _ (readings : Readings) (table : Table) (identity : Identity) where
       pick U (ltb (length bytes) 3) failed
       (pick U (eqb (getD bytes 2 0) 0) (set-found _ (drop 3 bytes) (finding (fromLittle (take 2 bytes))) refl (two-small bytes (small .below))) failed)
 
-pub replies-understood : RepliesAreUnderstood
+frame-understood : (readings : Readings) (table : Table) (identity : Identity) (command : ℕ) (bytes : List ℕ) → identity .version < 256 ^ 2 → Bytes bytes
+    → Understood (frameAnswer readings table identity command bytes .reply)
 unfolding frameAnswer
-replies-understood readings table identity command bytes version small =
+frame-understood readings table identity command bytes version small =
     pick U (eqb command 1) (tells-read readings table identity 5 (identity .version) bytes (as-ping (identity .version) (ping-is-read (identity .version) version)))
     (pick U (eqb command 3) (tells-read readings table identity 1 (identity .version) bytes (as-done _ (done-is-read _)))
     (pick U (eqb command 4) (tells-read readings table identity 1 (identity .product) bytes (as-done _ (done-is-read _)))
@@ -128,6 +134,19 @@ replies-understood readings table identity command bytes version small =
     (pick U (eqb command 7) (get-read readings table identity bytes small)
     (pick U (eqb command 8) (set-read readings table identity bytes small)
     (pick U (eqb command 0xA) no-reply (as-unknown command (unknown-is-read command))))))))
+
+-- and whatever a board decides of the frame that ended
+decided-understood : (board : Board) (fs : List Ended) → Writables fs → board .identity .version < 256 ^ 2 → Understood (deciding board fs .reply)
+unfolding deciding
+decided-understood board [] w version = no-reply
+decided-understood board (good command bytes ∷ rest) (whole w others) version =
+    frame-understood (board .readings) (board .table) (board .identity) command bytes version (w .small)
+decided-understood board (refused number ∷ rest) w version = failed
+
+pub replies-understood : RepliesAreUnderstood
+replies-understood board piece version =
+    let u = unfinished (board .held) in
+    decided-understood board (endedIn board piece) (heard-is-writable u (take (taken u piece) piece)) version
 
 -- the requests
 pub get-understood : GetIsUnderstood

@@ -17,11 +17,10 @@ use Rattle.wire.specs.Calls.{heldOf}
 use Rattle.wire.specs.Laws as wire
 use Rattle.wire.specs.Laws.{Bytes, hears}
 use Rattle.settings.specs.Columns.{count, widthAt}
-use Rattle.settings.specs.declared.Table.{Table}
-use Rattle.answers.specs.Answers.{Sent, silent, sent, error, said, getCode, setCode, frameAnswer}
+use Rattle.answers.specs.Answers.{Sent, silent, sent, error, said, getCode, setCode}
 use Rattle.answers.specs.Requests.{getRequest, setData, setRequest}
-use Rattle.answers.specs.declared.Identity.{Identity}
-use Rattle.answers.specs.declared.Readings.{Readings}
+use Rattle.board.specs.Calls.{endedIn, deciding}
+use Rattle.board.specs.declared.Board.{Board}
 use Rattle.reply.specs.Replies.{flagOf, rest}
 use Rattle.reply.specs.Calls.{reading}
 use Rattle.reply.specs.declared.Status.{Status}
@@ -45,8 +44,9 @@ WrittenIsHeard =
 abbrev pub ReadIsWritten : Type 0
 ReadIsWritten = wire.ReadIsWritten
 
--- 3. Every reply that a board gives is read by the box as the kind, status, id and value that the board meant. (The law reply-is-read of
--- `board` says that the frames of a reply's bytes are the one that was sent and no other.)
+-- 3. Every reply that a board gives, the error frame among them, is read by the box as the kind, status, id and value that the board meant.
+-- (The law reply-is-read of `board` says that the frames of a reply's bytes are the one that was decided on and no other; a version has its
+-- two bytes in every value of the type.)
 pub data Understood : Sent → Type 0 where
   no-reply : Understood silent
   as-error : reading 4 (0xAA ∷ 0xAA ∷ []) ≡ Reply.Error 0xAAAA → Understood error
@@ -60,8 +60,7 @@ pub data Understood : Sent → Type 0 where
 
 abbrev pub RepliesAreUnderstood : Type 0
 RepliesAreUnderstood =
-    (readings : Readings) (table : Table) (identity : Identity) (command : ℕ) (bytes : List ℕ) → identity .version < 256 ^ 2 → Bytes bytes
-    → Understood (frameAnswer readings table identity command bytes .reply)
+    (board : Board) (piece : List ℕ) → board .identity .version < 256 ^ 2 → Understood (deciding board (endedIn board piece) .reply)
 
 -- Every request that the box writes is read by a board as that request: a Get of its id; a complete Set of its setting to its number.
 abbrev pub GetIsUnderstood : Type 0
