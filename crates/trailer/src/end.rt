@@ -1,0 +1,36 @@
+// The settings at the end.
+use crate::words;
+use backup::Written;
+use board::Board;
+
+// The room that a backup text takes.
+const TEXT_ROOM: usize = 512;
+
+// Writes the board's settings as a backup text to the file that was named, if one was.
+pub(crate) fn store(board: Board) {
+    let mut path = io::buffer();
+    let len = words::word(words::END, &mut path);
+    if words::is_left_out(&path[..len]) {
+        return;
+    }
+    let table = board.table;
+    let mut text = [0u8; TEXT_ROOM];
+    let written = backup::write(table, &mut text);
+    match written {
+        Written::Text(count) => keep(&path[..len], &text, count),
+        Written::Refused(_) => words::say(b"refused 12: the board's table is not allowed"),
+    }
+}
+
+// The front of a buffer as a file.
+fn keep(path: &[u8], text: &[u8], count: usize) {
+    let fd = os::open_overwrite(path);
+    if fd < 0 {
+        os::fail(path);
+        return;
+    }
+    if !words::put(fd, text, count) {
+        os::fail(path);
+    }
+    libc::close(fd);
+}

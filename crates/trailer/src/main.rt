@@ -1,0 +1,36 @@
+// A board as a program, for trying the box on: it reads a line and answers on it as the proved board does, and at the end of the input
+// writes its settings as a backup text. It decides nothing itself. Arguments, `-` or none for what is named last:
+//
+//     trailer LINE START END PRODUCT VERSION SERIAL
+//
+// LINE    a serial device; standard input and output
+// START   a backup text that the board starts with; the factory table
+// END     a file for the settings at the end; none is written
+// PRODUCT, VERSION  four hex digits each; A381 and 4401
+// SERIAL  0 to 32 characters; none
+mod end;
+mod serve;
+mod start;
+mod words;
+
+fn main() {
+    let begun = start::board();
+    if !begun.ready {
+        return;
+    }
+    let mut path = io::buffer();
+    let len = words::word(words::LINE, &mut path);
+    if words::is_left_out(&path[..len]) {
+        let served = serve::pipe(begun.board);
+        end::store(served);
+        return;
+    }
+    let fd = os::open_update(&path[..len]);
+    if fd < 0 {
+        os::fail(&path[..len]);
+        return;
+    }
+    let served = serve::device(begun.board, fd);
+    libc::close(fd);
+    end::store(served);
+}

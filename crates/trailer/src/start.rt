@@ -1,0 +1,129 @@
+// The board that the words ask for.
+use crate::words;
+use answers::Verdict;
+use backup::Verdict as Read;
+use board::Board;
+use board::Judged;
+use settings::Table;
+
+// The board of document 01's worked lines.
+const PRODUCT: u16 = 0xA381;
+
+const VERSION: u16 = 0x4401;
+
+// A board, and whether it is the one asked for.
+pub(crate) struct Begun {
+    pub(crate) ready: bool,
+    pub(crate) board: Board,
+}
+
+// A table, and whether it is the one asked for.
+struct Chosen {
+    ready: bool,
+    table: Table,
+}
+
+// No board: why is said already.
+fn none() -> Begun {
+    let judged = Board::start_factory(0, 0, &[]);
+    let board = judged.board;
+    Begun {
+        ready: false,
+        board,
+    }
+}
+
+// The number of a word, and a complaint where it is none.
+fn number(place: usize, otherwise: u16) -> words::Number {
+    let mut text = io::buffer();
+    let len = words::word(place, &mut text);
+    let number = words::hex(&text[..len], otherwise);
+    if !number.is {
+        words::say(b"PRODUCT and VERSION are four hex digits each, such as A381");
+    }
+    number
+}
+
+// The board of the words, or none and a line that says why.
+pub(crate) fn board() -> Begun {
+    let chosen = table();
+    if !chosen.ready {
+        return none();
+    }
+    let product = number(words::PRODUCT, PRODUCT);
+    if !product.is {
+        return none();
+    }
+    let version = number(words::VERSION, VERSION);
+    if !version.is {
+        return none();
+    }
+    let table = chosen.table;
+    named(product.number, version.number, table)
+}
+
+// The board with the serial of the words.
+fn named(product: u16, version: u16, table: Table) -> Begun {
+    let mut serial = io::buffer();
+    let len = words::word(words::SERIAL, &mut serial);
+    if words::is_left_out(&serial[..len]) {
+        return judged_start(Board::start(product, version, &[], table));
+    }
+    judged_start(Board::start(product, version, &serial[..len], table))
+}
+
+// What became of the start.
+fn judged_start(judged: Judged) -> Begun {
+    let board = judged.board;
+    let verdict = judged.verdict;
+    match verdict {
+        Verdict::Accepted => Begun { ready: true, board },
+        Verdict::Refused(_) => {
+            words::say(b"refused 12: SERIAL has over 32 characters, or one outside 0x20..0x7E");
+            none()
+        }
+    }
+}
+
+// No table: why is said already.
+fn no_table() -> Chosen {
+    Chosen {
+        ready: false,
+        table: Table::factory(),
+    }
+}
+
+// The table of the words.
+fn table() -> Chosen {
+    let mut path = io::buffer();
+    let len = words::word(words::START, &mut path);
+    if words::is_left_out(&path[..len]) {
+        return Chosen {
+            ready: true,
+            table: Table::factory(),
+        };
+    }
+    let fd = os::open_read(&path[..len]);
+    if fd < 0 {
+        os::fail(&path[..len]);
+        return no_table();
+    }
+    let mut text = io::buffer();
+    let count = io::read_full(fd, &mut text);
+    libc::close(fd);
+    read(&text[..count])
+}
+
+// The table of a backup text.
+fn read(text: &[u8]) -> Chosen {
+    let backup = backup::read(text);
+    let table = backup.table;
+    let verdict = backup.verdict;
+    match verdict {
+        Read::Accepted => Chosen { ready: true, table },
+        Read::Refused { number: _, line: _ } => {
+            words::say(b"START is refused: `night check` says why");
+            no_table()
+        }
+    }
+}
