@@ -152,6 +152,13 @@ pub upTo-all : (n : ℕ) (p : ℕ → Bool) → ((k : ℕ) → k < n → p k ≡
 upTo-all zero p h = refl
 upTo-all (suc n) p h = rw (upTo-all n p (λ k less. h k (omega arith)), h n (omega arith))
 
+-- two tests at each place are the one at all and the other at all
+pub upTo-both : (n : ℕ) (p q : ℕ → Bool) → (upTo n p && upTo n q) ≡ upTo n (λ k. p k && q k)
+upTo-both n p q =
+    same-test (upTo n p && upTo n q) (upTo n (λ k. p k && q k))
+    (λ e. upTo-all n (λ k. p k && q k) (λ k h. both (p k) (q k) (upTo-at n p (and-left _ (upTo n q) e) k h) (upTo-at n q (and-right (upTo n p) _ e) k h)))
+    (λ e. both (upTo n p) (upTo n q) (upTo-all n p (λ k h. and-left (p k) (q k) (upTo-at n (λ j. p j && q j) e k h))) (upTo-all n q (λ k h. and-right (p k) (q k) (upTo-at n (λ j. p j && q j) e k h))))
+
 -- a list from a place to its end
 pub part-to-end : (l : List ℕ) (n i : ℕ) → length l ≡ n → take (n - i) (drop i l) ≡ drop i l
 part-to-end l n i e = take-all (n - i) (drop i l) (rw length-drop (omega arith))

@@ -2,7 +2,7 @@
 // every look-up of an id, a width, an end, a factory number or a partner comes here.
 ghost use Prim.Native.Nat.{_<_};
 ghost use mathlib.Core.Path.{_≡_};
-ghost use Rattle.settings.specs.Columns.{count, idAt, widthAt, lowAt, highAt, zeroAt, factories, partnerAt, roleAt};
+ghost use Rattle.settings.specs.Columns.{count, idAt, widthAt, lowAt, highAt, zeroAt, factories, partnerAt, roleAt, lows, highs, zeros, partners, roles};
 ghost use Rattle.settings.specs.Calls.{placeOf};
 use crate::COUNT;
 
@@ -310,6 +310,37 @@ pub(crate) fn place_of(id: u16) -> usize
         i += 1;
     }
     i
+}
+
+// Whole columns, for a look at all settings: an array that is named anew is made anew.
+pub(crate) fn lows() -> [u16; COUNT]
+    ensures { λ r. ⌜ r ≡ lows ⌝ }
+{
+    LOWS
+}
+
+pub(crate) fn highs() -> [u16; COUNT]
+    ensures { λ r. ⌜ r ≡ highs ⌝ }
+{
+    HIGHS
+}
+
+pub(crate) fn zeros() -> [bool; COUNT]
+    ensures { λ r. ⌜ r ≡ zeros ⌝ }
+{
+    ZEROS
+}
+
+pub(crate) fn partners() -> [usize; COUNT]
+    ensures { λ r. ⌜ r ≡ partners ⌝ }
+{
+    PARTNERS
+}
+
+pub(crate) fn roles() -> [Role; COUNT]
+    ensures { λ r. ⌜ r ≡ roles ⌝ }
+{
+    ROLES
 }
 
 // The whole column of factory numbers.

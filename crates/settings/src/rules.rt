@@ -1,20 +1,33 @@
 // The rules over the table: a setting's own range, the pair rule, and what is allowed.
 ghost use Prim.Native.Nat.{_<_};
 ghost use mathlib.Core.Path.{_≡_};
-ghost use Rattle.settings.specs.Columns.{count};
-ghost use Rattle.settings.specs.Rules.{inRange, lowAgrees, highAgrees, agrees, allowedFor, allowed};
+ghost use lib.ListN.{getD};
+ghost use Rattle.laws.specs.Lists.{upTo};
+ghost use Rattle.settings.specs.Columns.{count, partnerAt, roleAt};
+ghost use Rattle.settings.specs.Rules.{inWindow, inRange, lowAgrees, highAgrees, agrees, allowedFor, allowed};
 ghost use Rattle.settings.specs.Calls.{partnerFits};
 use crate::COUNT;
 use crate::columns;
 use crate::columns::Role;
+
+// A number in a window: from low to high, or 0 where that is allowed besides.
+fn in_window(zero_too: bool, low: u16, high: u16, n: u16) -> bool
+    ensures { λ r. ⌜ r ≡ inWindow «zero_too» low high n ⌝ }
+{
+    (zero_too & (n == 0)) | ((low <= n) & (n <= high))
+}
 
 // A number in the setting's own range.
 pub(crate) fn in_range(index: usize, n: u16) -> bool
     requires { ⌜ index < count ⌝ }
     ensures { λ r. ⌜ r ≡ inRange index n ⌝ }
 {
-    (columns::zero_of(index) & (n == 0))
-        | ((columns::low_of(index) <= n) & (n <= columns::high_of(index)))
+    in_window(
+        columns::zero_of(index),
+        columns::low_of(index),
+        columns::high_of(index),
+        n,
+    )
 }
 
 // A low pair: the first is at most the second.
@@ -61,15 +74,41 @@ pub(crate) fn is_fit(index: usize, partner: u16) -> bool
     (other == index) | in_range(other, partner)
 }
 
+// Every number is in its own range. The columns are fetched once, and not again for each number.
+fn all_in_range(numbers: [u16; COUNT]) -> bool
+    ensures { λ r. ⌜ r ≡ upTo count (λ k. inRange k (getD numbers k 0)) ⌝ }
+{
+    let zeros = columns::zeros();
+    let lows = columns::lows();
+    let highs = columns::highs();
+    let mut all = true;
+    let mut i = 0;
+    while i < COUNT {
+        all = all & in_window(zeros[i], lows[i], highs[i], numbers[i]);
+        i += 1;
+    }
+    all
+}
+
+// Every number agrees with its partner's.
+fn all_agree(numbers: [u16; COUNT]) -> bool
+    ensures { λ r. ⌜ r ≡ upTo count (λ k. agrees (roleAt k) (getD numbers k 0) (getD numbers (partnerAt k) 0)) ⌝ }
+{
+    let partners = columns::partners();
+    let roles = columns::roles();
+    let mut all = true;
+    let mut i = 0;
+    while i < COUNT {
+        let other = partners[i];
+        all = all & agrees_by(roles[i], numbers[i], numbers[other]);
+        i += 1;
+    }
+    all
+}
+
 // Every number is in its own range, and every pair agrees.
 pub(crate) fn all_allowed(numbers: [u16; COUNT]) -> bool
     ensures { λ r. ⌜ r ≡ allowed (record { numbers = numbers }) ⌝ }
 {
-    let mut all = true;
-    let mut i = 0;
-    while i < COUNT {
-        all = all & allowed_for(i, numbers[i], numbers[columns::partner_of(i)]);
-        i += 1;
-    }
-    all
+    all_in_range(numbers) & all_agree(numbers)
 }

@@ -84,6 +84,34 @@ module _ (chars piece : List ℕ) where
         → heardOf (inside chars) piece ≡ heardFrame outside (bodySays (chars ++ take (before endsFrame piece) piece)) (before endsFrame piece + 1)
     inside-newline is = ends-at newline is _ refl refl
 
+-- Right behind a colon, in the words of the code: `end` is the first place of a newline or a colon.
+
+pub begun-more : (piece : List ℕ) (b held : Held) → b ≡ heldOf (inside []) → held ≡ heldOf (inside (take (b .len) (b .chars) ++ piece)) → held ≡ heldOf (inside piece)
+unfolding heldOf
+begun-more piece b held is e = rw is at e
+
+module _ (piece : List ℕ) (end : ℕ) (first : end ≡ before endsFrame piece) where
+  pub fresh-nothing : (held : Held) → held ≡ heldOf (inside piece) → end ≡ length piece
+      → heardOf (inside []) piece ≡ record { answer = record { held = held; event = Event.Nothing; taken = end }; written = [] }
+  fresh-nothing held is all = rw (is, all) (inside-nothing [] piece (sym first ∙ all))
+
+  module _ (some : end < length piece) where
+    pub fresh-colon : getD piece end 0 ≡ colon
+        → heardOf (inside []) piece
+        ≡ record { answer = record { held = heldOf (inside []); event = eventFrom (readAs (brokenSays end) .answer); taken = end + 1 }; written = [] }
+    fresh-colon is =
+        let count : length (take end piece) ≡ end = length-take-le end piece (omega arith) in
+        let said : List ℕ → Given Heard = λ w. record { answer = record { held = heldOf (inside []); event = eventFrom (readAs (brokenSays end) .answer); taken = end + 1 }; written = w } in
+        (rw (← first, count) at (inside-colon [] piece (rw first at some) (rw first at is))) ∙ ap said (broken-silent end)
+
+    pub fresh-newline : (getD piece end 0 ≡ colon → ⊥) → heardOf (inside []) piece ≡ heardFrame outside (bodySays (take end piece)) (end + 1)
+    fresh-newline other = rw (← first) at (inside-newline [] piece (rw first at some) (rw first at (newline-there other)))
+      where
+        newline-there : (getD piece end 0 ≡ colon → ⊥) → getD piece end 0 ≡ newline
+        newline-there other =
+            let there : (eqb (getD piece end 0) newline || eqb (getD piece end 0) colon) ≡ true = rw (← first) at (before-first endsFrame piece .some (rw first at some)) in
+            eqb-true _ newline (rw (ne-eqb (getD piece end 0) colon other, or-false) at there)
+
 -- Outside a frame, with the place of the first colon.
 
 abbrev pub colonAt : ℕ → Bool

@@ -1,8 +1,8 @@
 -- A digit and its nibble are each other's: every nibble's digit is read as that nibble, and a character that is read as a nibble is
 -- that nibble's digit. Assumes nothing.
-use mathlib.Core.Path.{_≡_, refl, _∙_}
-use mathlib.Core.Bool.{Bool, true, false, _&&_}
-use Prim.Native.Nat.{ℕ, _+_, _≤_, _<_, _-_}
+use mathlib.Core.Path.{_≡_, refl, sym, _∙_}
+use mathlib.Core.Bool.{Bool, true, false, _&&_, _||_}
+use Prim.Native.Nat.{ℕ, _+_, _*_, _/_, _%_, _≤_, _<_, _-_}
 use native.Mathlib.Omega.{arith}
 use borrow.Author.Tests.{lt-ltb, le-ltb, lt-leb, le-leb, leb-true, ltb-true, ltb-false, ne-eqb}
 use lib.Dec.{ltb, leb}
@@ -34,6 +34,36 @@ nibble-high c h k = simp (le-leb 48 c (omega arith), lt-leb c 57 (omega arith), 
 nibble-none : (c : ℕ) → (leb 48 c && leb c 57) ≡ false → (leb 65 c && leb c 70) ≡ false → nibble c ≡ 16
 unfolding nibble
 nibble-none c p q = simp (p, q)
+
+-- a character is a digit by where it stands
+pub digit-test : (c : ℕ) → ((leb 48 c && leb c 57) || (leb 65 c && leb c 70)) ≡ isDigit c
+digit-test c = by (leb 48 c && leb c 57) (leb 65 c && leb c 70) refl refl
+  where
+    by : (s t : Bool) → (leb 48 c && leb c 57) ≡ s → (leb 65 c && leb c 70) ≡ t → (s || t) ≡ isDigit c
+    by true t p q =
+        let low : 48 ≤ c = leb-true 48 c (and-left _ (leb c 57) p) in
+        let high : c ≤ 57 = leb-true c 57 (and-right (leb 48 c) _ p) in
+        rw (nibble-low c low high) (sym (lt-ltb (c - 48) 16 (omega arith)))
+    by false true p q =
+        let low : 65 ≤ c = leb-true 65 c (and-left _ (leb c 70) q) in
+        let high : c ≤ 70 = leb-true c 70 (and-right (leb 65 c) _ q) in
+        rw (nibble-high c low high) (sym (lt-ltb (c - 55) 16 (omega arith)))
+    by false false p q = rw (nibble-none c p q)
+
+-- and its nibble is its low four bits, with nine more for a letter
+pub nibble-bits : (c : ℕ) → nibble c < 16 → c % 16 + 9 * (c / 64) ≡ nibble c
+nibble-bits c h = by (leb 48 c && leb c 57) (leb 65 c && leb c 70) refl refl
+  where
+    by : (s t : Bool) → (leb 48 c && leb c 57) ≡ s → (leb 65 c && leb c 70) ≡ t → c % 16 + 9 * (c / 64) ≡ nibble c
+    by true t p q =
+        let low : 48 ≤ c = leb-true 48 c (and-left _ (leb c 57) p) in
+        let high : c ≤ 57 = leb-true c 57 (and-right (leb 48 c) _ p) in
+        rw (nibble-low c low high) (omega arith)
+    by false true p q =
+        let low : 65 ≤ c = leb-true 65 c (and-left _ (leb c 70) q) in
+        let high : c ≤ 70 = leb-true c 70 (and-right (leb 65 c) _ q) in
+        rw (nibble-high c low high) (omega arith)
+    by false false p q = let none : nibble c ≡ 16 = nibble-none c p q in absurd (omega arith)
 
 -- a nibble's digit is read as that nibble
 pub nibble-digit : (n : ℕ) → n < 16 → nibble (digit n) ≡ n

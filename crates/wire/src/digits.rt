@@ -1,14 +1,11 @@
 // Hex digits, made and read here alone. Document 01, Frames: "`0`-`9`, `A`-`F` only."
 ghost use Prim.Native.Nat.{_+_, _*_, _<_};
 ghost use mathlib.Core.Path.{_≡_};
-ghost use Rattle.wire.specs.Digits.{digit, nibble};
+ghost use Rattle.wire.specs.Digits.{digit, nibble, isDigit};
 ghost use Rattle.wire.specs.Calls.{pairOf};
 use crate::Pair;
 
 const TEN: u8 = 10;
-
-// No nibble: what a character that is no digit stands for.
-pub(crate) const NO_NIBBLE: u8 = 16;
 
 // The character of a nibble.
 pub(crate) fn digit_of(n: u8) -> u8
@@ -18,23 +15,20 @@ pub(crate) fn digit_of(n: u8) -> u8
     if n < TEN { b'0' + n } else { b'A' - TEN + n }
 }
 
-// The nibble of a character, and 16 where it is no digit.
+// Whether a character is a digit. No way out before the end, so that the compiler may look at many at a time.
+pub(crate) fn is_digit(c: u8) -> bool
+    ensures { λ r. ⌜ r ≡ isDigit c ⌝ }
+{
+    ((b'0' <= c) & (c <= b'9')) | ((b'A' <= c) & (c <= b'F'))
+}
+
+// The nibble of a digit. The low four bits count from 0 for a decimal digit and from 1 for a letter, and letters alone stand from 64 on: with
+// no choice to make there is nothing for a processor to guess.
 pub(crate) fn nibble_of(c: u8) -> u8
+    requires { ⌜ nibble c < 16 ⌝ }
     ensures { λ r. ⌜ r ≡ nibble c ⌝ }
 {
-    if c < b'0' {
-        return NO_NIBBLE;
-    }
-    if c <= b'9' {
-        return c - b'0';
-    }
-    if c < b'A' {
-        return NO_NIBBLE;
-    }
-    if c <= b'F' {
-        return c - b'A' + TEN;
-    }
-    NO_NIBBLE
+    c % 16 + 9 * (c / 64)
 }
 
 // Both digits of a byte, the high nibble first.

@@ -33,7 +33,7 @@ pub(crate) fn all_digits(chars: &[u8]) -> bool
     let mut all = true;
     let mut i = 0;
     while i < chars.len() {
-        all = all & (digits::nibble_of(chars[i]) < digits::NO_NIBBLE);
+        all = all & digits::is_digit(chars[i]);
         i += 1;
     }
     all

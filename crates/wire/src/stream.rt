@@ -196,6 +196,35 @@ fn in_frame(held: Held, piece: &[u8], into: &mut [u8]) -> Heard
     }
 }
 
+// The call right behind a colon: a frame that ends within the piece is read where it stands, and nothing of it is held.
+fn fresh(piece: &[u8], into: &mut [u8]) -> Heard
+    requires { ⌜ 35 ≤ length (now into) ⌝ }
+    ensures { λ r. ⌜ Gives Heard (heardOf (inside []) (now (piece .entry))) (now (into .entry)) r (now (into .exit)) ⌝ }
+{
+    let last = first_of(piece, numbers::NEWLINE, numbers::COLON);
+    if last == piece.len() {
+        return Heard {
+            held: with_more(begun(), piece),
+            event: Event::Nothing,
+            taken: last,
+        };
+    }
+    let taken = last + 1;
+    if piece[last] == numbers::COLON {
+        return Heard {
+            held: begun(),
+            event: broken(last),
+            taken,
+        };
+    }
+    let read = reader::read_body(&piece[..last], into);
+    Heard {
+        held: Held::outside(),
+        event: event_of(read),
+        taken,
+    }
+}
+
 // The call on an allowed state with room enough: outside a frame all is skipped up to the first colon.
 pub(crate) fn heard(held: Held, piece: &[u8], into: &mut [u8]) -> Heard
     requires { ⌜ (allowed held ≡ true) × (35 ≤ length (now into)) ⌝ }
@@ -212,7 +241,7 @@ pub(crate) fn heard(held: Held, piece: &[u8], into: &mut [u8]) -> Heard
             taken: skipped,
         };
     }
-    let found = in_frame(begun(), &piece[skipped + 1..], into);
+    let found = fresh(&piece[skipped + 1..], into);
     let held = found.held;
     let event = found.event;
     Heard {

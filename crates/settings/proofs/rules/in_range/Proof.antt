@@ -13,12 +13,15 @@ low-of-requires c κs = omega arith
 high-of-requires : tie.Need-high-of-requires
 high-of-requires c κs = omega arith
 
+in-window-requires : tie.Need-in-window-requires
+in-window-requires c κs = tt
+
 returns : tie.Need-returns
 unfolding inRange
-returns c = rw (c .before .before .zero-of .ensures, c .before .low-of .ensures, c .high-of .ensures)
+returns c = rw (c .in-window .ensures, c .before .before .before .zero-of .ensures, c .before .before .low-of .ensures, c .before .high-of .ensures)
 
 pub in-range-spec : {M : Type 1} → statement M
 in-range-spec =
     tie.close
     (tie.spec
-    zero-of-requires low-of-requires high-of-requires returns)
+    zero-of-requires low-of-requires high-of-requires in-window-requires returns)

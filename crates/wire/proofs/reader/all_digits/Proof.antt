@@ -16,11 +16,11 @@ abbrev μ-loop : tie.MeasureT-loop
 loop-holds : tie.Need-loop-holds Inv-loop μ-loop
 loop-holds c = seen-start
 
-shared-slice-read-nibble-of : tie.Need-shared-slice-read-nibble-of Inv-loop μ-loop
-shared-slice-read-nibble-of c = search needs
+shared-slice-read-is-digit : tie.Need-shared-slice-read-is-digit Inv-loop μ-loop
+shared-slice-read-is-digit c = search needs
 
-nibble-of-requires : tie.Need-nibble-of-requires Inv-loop μ-loop
-nibble-of-requires c κs = tt
+is-digit-requires : tie.Need-is-digit-requires Inv-loop μ-loop
+is-digit-requires c κs = tt
 
 add-i : tie.Need-add-i Inv-loop μ-loop
 add-i c = search needs
@@ -29,7 +29,7 @@ loop-less : tie.Need-loop-less Inv-loop μ-loop
 loop-less c = search needs
 
 loop-again : tie.Need-loop-again Inv-loop μ-loop
-loop-again c = rw (c .nibble-of .ensures) (seen-turn (c .before .before .loop-test .taken) (c .before .before .before .loop .inv))
+loop-again c = rw (c .is-digit .ensures) (seen-turn (c .before .before .loop-test .taken) (c .before .before .before .loop .inv))
 
 returns : tie.Need-returns Inv-loop μ-loop
 returns c = seen-end (c .loop-test .left) (c .before .loop .inv)
@@ -38,4 +38,4 @@ pub all-digits-spec : {M : Type 1} → statement M
 all-digits-spec =
     tie.close
     (tie.spec
-    Inv-loop μ-loop loop-holds shared-slice-read-nibble-of nibble-of-requires add-i loop-less loop-again returns)
+    Inv-loop μ-loop loop-holds shared-slice-read-is-digit is-digit-requires add-i loop-less loop-again returns)

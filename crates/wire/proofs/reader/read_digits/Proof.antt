@@ -10,6 +10,7 @@ use Rattle.laws.specs.Lists.{sumOf}
 use Rattle.laws.proofs.Promise.{gives-none, gives-bytes}
 use Rattle.wire.specs.Reading.{commandOf, payloadOf}
 use Rattle.wire.specs.Calls.{readAs}
+use Rattle.wire.proofs.Nibbles.{nibble-at}
 use Rattle.wire.proofs.Bytes.{odd-count, length-data, payload-part, data-part}
 use Rattle.wire.proofs.Answers.{body-sum, body-good}
 use Rattle.wire.proofs.reader.read_digits.Statement.{statement}
@@ -27,7 +28,9 @@ shared-slice-read-nibble-of c =
     omega (arith, many c4)
 
 nibble-of-requires : tie.Need-nibble-of-requires
-nibble-of-requires c κs = omega arith
+nibble-of-requires c κs =
+    let c4 = c .before .before .before .before in
+    nibble-at (c4 .args .chars .now) (c4 .pre .1) 0 (omega (arith, many c4))
 
 cast-if1 : tie.Need-cast-if1
 cast-if1 c = omega arith

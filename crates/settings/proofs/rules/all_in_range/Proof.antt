@@ -1,0 +1,90 @@
+-- `settings::rules::all_in_range` meets its contract. Assumes nothing.
+use Prim.Native.Nat.{_≤_, _-_}
+use mathlib.Core.Path.{_≡_, refl}
+use native.Mathlib.Omega.{arith}
+use native.Mathlib.Numerals.{add-one}
+use lib.ListN.{getD}
+use Rattle.laws.specs.Lists.{upTo}
+use Rattle.settings.specs.Columns.{count}
+use Rattle.settings.specs.Rules.{inRange}
+use Rattle.settings.proofs.rules.all_in_range.Statement.{statement}
+use Rattle.settings.proofs.rules.all_in_range.Tie as tie
+
+abbrev Inv-loop : tie.InvT-loop
+Inv-loop numbers zeros lows highs all₀ i₀ all i = (i ≤ count) × (all ≡ upTo i (λ k. inRange k (getD numbers k 0)))
+
+abbrev μ-loop : tie.MeasureT-loop
+μ-loop numbers zeros lows highs all₀ i₀ all i = count - i
+
+zeros-requires : tie.Need-zeros-requires Inv-loop μ-loop
+zeros-requires c κs = tt
+
+lows-requires : tie.Need-lows-requires Inv-loop μ-loop
+lows-requires c κs = tt
+
+highs-requires : tie.Need-highs-requires Inv-loop μ-loop
+highs-requires c κs = tt
+
+loop-holds : tie.Need-loop-holds Inv-loop μ-loop
+loop-holds c = (omega arith, refl)
+
+array-read-in-window : tie.Need-array-read-in-window Inv-loop μ-loop
+array-read-in-window c = omega arith
+
+mul-in-window : tie.Need-mul-in-window Inv-loop μ-loop
+mul-in-window c = omega arith
+
+array-read-in-window-2 : tie.Need-array-read-in-window-2 Inv-loop μ-loop
+array-read-in-window-2 c = omega arith
+
+mul-in-window-2 : tie.Need-mul-in-window-2 Inv-loop μ-loop
+mul-in-window-2 c = omega arith
+
+array-read-in-window-3 : tie.Need-array-read-in-window-3 Inv-loop μ-loop
+array-read-in-window-3 c = omega arith
+
+mul-in-window-3 : tie.Need-mul-in-window-3 Inv-loop μ-loop
+mul-in-window-3 c = omega arith
+
+array-read-in-window-4 : tie.Need-array-read-in-window-4 Inv-loop μ-loop
+array-read-in-window-4 c = omega arith
+
+in-window-requires : tie.Need-in-window-requires Inv-loop μ-loop
+in-window-requires c κs = tt
+
+add-i : tie.Need-add-i Inv-loop μ-loop
+add-i c = omega arith
+
+loop-less : tie.Need-loop-less Inv-loop μ-loop
+loop-less c = omega arith
+
+loop-again : tie.Need-loop-again Inv-loop μ-loop
+unfolding inRange
+loop-again c =
+    (omega arith, rw (add-one, c .in-window .ensures, c .before .before .before .before .before .zeros .ensures, c .before .before .before .before .lows .ensures, c .before .before .before .highs .ensures, c .before .before .loop .inv .1))
+
+returns : tie.Need-returns Inv-loop μ-loop
+returns c = let all : c .before .loop .i ≡ count = omega arith in rw all at (c .before .loop .inv .1)
+
+pub all-in-range-spec : {M : Type 1} → statement M
+all-in-range-spec =
+    tie.close
+    (tie.spec
+    Inv-loop
+    μ-loop
+    zeros-requires
+    lows-requires
+    highs-requires
+    loop-holds
+    array-read-in-window
+    mul-in-window
+    array-read-in-window-2
+    mul-in-window-2
+    array-read-in-window-3
+    mul-in-window-3
+    array-read-in-window-4
+    in-window-requires
+    add-i
+    loop-less
+    loop-again
+    returns)
