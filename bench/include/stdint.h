@@ -1,0 +1,18 @@
+/* See stddef.h. */
+#ifndef BENCH_STDINT_H
+#define BENCH_STDINT_H
+typedef __UINT8_TYPE__ uint8_t;
+typedef __UINT16_TYPE__ uint16_t;
+typedef __UINT32_TYPE__ uint32_t;
+typedef __UINT64_TYPE__ uint64_t;
+typedef __INT16_TYPE__ int16_t;
+typedef __INT32_TYPE__ int32_t;
+typedef __INT64_TYPE__ int64_t;
+#define INT16_MIN (-32767 - 1)
+#define INT16_MAX 32767
+#define INT32_MIN (-2147483647 - 1)
+#define INT32_MAX 2147483647
+#define INT64_MAX __INT64_MAX__
+#define UINT16_MAX 65535
+#define UINT32_MAX 4294967295U
+#endif

@@ -1,0 +1,33 @@
+-- The statements of specs/Laws.antt, proved. Assumes nothing.
+use mathlib.Core.Path.{refl}
+use Rattle.listen.specs.Laws.{AnyCutting, AllIsTaken, PatienceEnds, StartIsAsked, NoiseEnds, NoiseIsCounted, TakenIsWithin, FrameIsWhole, EventsAreOnStream}
+use Rattle.listen.proofs.Merging as merging
+use Rattle.listen.proofs.Patience as patience
+use Rattle.listen.proofs.Leaning as leaning
+
+pub any-cutting : AnyCutting
+any-cutting = merging.cutting
+
+pub all-is-taken : AllIsTaken
+all-is-taken = merging.taking
+
+pub patience-ends : PatienceEnds
+patience-ends = patience.ends
+
+pub start-is-asked : StartIsAsked
+start-is-asked = refl
+
+pub noise-ends : NoiseEnds
+noise-ends = patience.noise-ends
+
+pub noise-is-counted : NoiseIsCounted
+noise-is-counted = merging.counting
+
+pub taken-is-within : TakenIsWithin
+taken-is-within = leaning.taken-fits
+
+pub frame-is-whole : FrameIsWhole
+frame-is-whole = leaning.frame-whole
+
+pub events-are-on-stream : EventsAreOnStream
+events-are-on-stream = leaning.on-stream

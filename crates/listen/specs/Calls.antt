@@ -1,0 +1,90 @@
+-- What each public call answers, for every input. What the stream makes of the bytes is `hearing` of wire; here it meets the box's patience.
+-- Assumes nothing.
+use Prim.Native.Nat.{ℕ, zero, suc, _+_, min}
+use mathlib.Core.Bool.{Bool, cond, not, _&&_}
+use mathlib.Core.List.{List, []}
+use lib.ListN.{length}
+use lib.Dec.{ltb, leb, eqb}
+use Rattle.laws.specs.Promise.{Given}
+use Rattle.wire.specs.Frame.{mostData}
+use Rattle.wire.specs.Stream.{outside}
+use Rattle.wire.specs.Calls.{shortBuffer, notAllowed, allowed, heldOf, hearing}
+use Rattle.wire.specs.declared.Event.{Event}
+use Rattle.wire.specs.declared.Heard.{Heard}
+use Rattle.listen.specs.declared.Listener.{Listener}
+use Rattle.listen.specs.declared.Told.{Told}
+use Rattle.listen.specs.declared.Listened.{Listened}
+
+-- The box waits no longer (ours): five reads in a row that gave nothing, each after a second of silence; or 8192 bytes since the last
+-- request and no frame that ends, so that a board which talks without end does not hold up the night.
+
+abbrev pub mostQuiet : ℕ
+mostQuiet = 5
+
+abbrev pub mostNoise : ℕ
+mostNoise = 8192
+
+-- one more read that gave nothing, and so many more bytes: the counts stop at their ends
+abbrev pub quieter : ℕ → ℕ
+quieter quiet = min mostQuiet (suc quiet)
+
+abbrev pub louder : ℕ → ℕ → ℕ
+louder noise taken = min mostNoise (noise + taken)
+
+-- outside a frame, nothing counted
+abbrev pub starting : Listener
+starting = record { held = heldOf outside; quiet = zero; noise = zero }
+
+-- a request was sent: both counts begin anew, the unfinished frame stays
+abbrev pub asking : Listener → Listener
+asking l = record { held = l .held; quiet = zero; noise = zero }
+
+-- a frame held that bytes can leave, and no count past its end
+unfoldable pub listenerAllowed : Listener → Bool
+listenerAllowed l = (leb (l .quiet) mostQuiet && leb (l .noise) mostNoise) && allowed (l .held)
+
+-- 11 and 12: "a state handed in comes back as it was, with counts and lengths 0"
+abbrev pub refusing : Listener → ℕ → Listened
+refusing l number = record { listener = l; told = Told.Refused number; taken = zero }
+
+-- a read that gave nothing
+unfoldable pub afterSilence : ℕ → Told
+afterSilence quiet = cond (leb mostQuiet quiet) Told.NoAnswer Told.Nothing
+
+abbrev pub silent : Listener → Listened
+silent l =
+    record {
+      listener = record { held = l .held; quiet = quieter (l .quiet); noise = l .noise };
+      told = afterSilence (quieter (l .quiet));
+      taken = zero;
+    }
+
+-- a read that gave bytes: a frame that ended well, one that is broken, or none
+unfoldable pub afterNoise : ℕ → Told
+afterNoise noise = cond (leb mostNoise noise) Told.NoAnswer Told.Nothing
+
+abbrev pub toldBy : ℕ → Event → Told
+toldBy noise Event.Nothing = afterNoise noise
+toldBy noise (Event.Frame command len) = Told.Frame command len
+toldBy noise (Event.Refused number) = Told.Broken number
+
+abbrev pub reported : Listener → Heard → Listened
+reported l heard =
+    record {
+      listener = record { held = heard .held; quiet = zero; noise = louder (l .noise) (heard .taken) };
+      told = toldBy (louder (l .noise) (heard .taken)) (heard .event);
+      taken = heard .taken;
+    }
+
+-- the bytes written are those that the stream writes
+abbrev pub wordless : Listened → Given Listened
+wordless answer = record { answer = answer; written = [] }
+
+abbrev pub reporting : Listener → Given Heard → Given Listened
+reporting l given = record { answer = reported l (given .answer); written = given .written }
+
+unfoldable pub listening : Listener → List ℕ → ℕ → Given Listened
+listening l piece room =
+    cond (ltb room mostData) (wordless (refusing l shortBuffer))
+    (cond (not (listenerAllowed l)) (wordless (refusing l notAllowed))
+    (cond (eqb (length piece) zero) (wordless (silent l)) (reporting l (hearing (l .held) piece room))))

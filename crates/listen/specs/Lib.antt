@@ -1,0 +1,4 @@
+-- The stream and the box's patience. Read them in this order.
+pub mod Calls
+pub mod AsHeard
+pub mod Laws

@@ -1,0 +1,120 @@
+// What a call on the stream tells the box.
+ghost use mathlib.Core.Path.{_≡_};
+ghost use Rattle.listen.specs.Calls as calls;
+ghost use Rattle.listen.specs.AsHeard as asHeard;
+use crate::Listened;
+use crate::Listener;
+use crate::Told;
+use crate::counts;
+use crate::numbers;
+use wire::Event;
+use wire::Heard;
+
+// The number of a refusal: the listener as it was, and nothing taken.
+pub(crate) fn refused(listener: Listener, number: u8) -> Listened
+    ensures { λ r. ⌜ r ≡ calls.refusing listener number ⌝ }
+{
+    Listened {
+        listener,
+        told: Told::Refused(number),
+        taken: 0,
+    }
+}
+
+// A read that gave nothing: whether the box waits on.
+fn after_silence(quiet: usize) -> Told
+    ensures { λ r. ⌜ r ≡ calls.afterSilence quiet ⌝ }
+{
+    if numbers::MOST_QUIET <= quiet {
+        return Told::NoAnswer;
+    }
+    Told::Nothing
+}
+
+// Bytes that ended no frame: whether the box waits on.
+fn after_noise(noise: usize) -> Told
+    ensures { λ r. ⌜ r ≡ calls.afterNoise noise ⌝ }
+{
+    if numbers::MOST_NOISE <= noise {
+        return Told::NoAnswer;
+    }
+    Told::Nothing
+}
+
+// What the stream's event tells.
+fn told_by(noise: usize, event: Event) -> Told
+    ensures { λ r. ⌜ r ≡ calls.toldBy noise event ⌝ }
+{
+    match event {
+        Event::Nothing => after_noise(noise),
+        Event::Frame { command, len } => Told::Frame { command, len },
+        Event::Refused(number) => Told::Broken(number),
+    }
+}
+
+// A read that gave nothing.
+fn silent(listener: Listener) -> Listened
+    ensures { λ r. ⌜ r ≡ calls.silent listener ⌝ }
+{
+    let held = listener.held;
+    let quiet = counts::quieter(listener.quiet);
+    Listened {
+        listener: Listener {
+            held,
+            quiet,
+            noise: listener.noise,
+        },
+        told: after_silence(quiet),
+        taken: 0,
+    }
+}
+
+// A read that gave bytes, and what the stream made of them.
+fn reported(listener: Listener, heard: Heard) -> Listened
+    ensures { λ r. ⌜ r ≡ calls.reported listener heard ⌝ }
+{
+    let held = heard.held;
+    let event = heard.event;
+    let noise = counts::louder(listener.noise, heard.taken);
+    Listened {
+        listener: Listener {
+            held,
+            quiet: 0,
+            noise,
+        },
+        told: told_by(noise, event),
+        taken: heard.taken,
+    }
+}
+
+// No frame ended: there were no bytes, or they were noise.
+fn unended(listener: Listener, count: usize, heard: Heard) -> Listened
+    ensures { λ r. ⌜ r ≡ asHeard.unended listener count heard ⌝ }
+{
+    if count == 0 {
+        return silent(listener);
+    }
+    reported(listener, heard)
+}
+
+// A refusal: the call's, or a frame's.
+fn unsound(listener: Listener, number: u8, heard: Heard) -> Listened
+    ensures { λ r. ⌜ r ≡ asHeard.unsound listener number heard ⌝ }
+{
+    if numbers::LAST_OF_FRAME < number {
+        return refused(listener, number);
+    }
+    reported(listener, heard)
+}
+
+// What the stream's answer to so many bytes comes to.
+pub(crate) fn settled(listener: Listener, count: usize, heard: Heard) -> Listened
+    ensures { λ r. ⌜ r ≡ asHeard.settled listener count heard ⌝ }
+{
+    let event = heard.event;
+    match event {
+        Event::Nothing => unended(listener, count, heard),
+        Event::Frame { command: _, len: _ } => reported(listener, heard),
+        Event::Refused(number) => unsound(listener, number, heard),
+    }
+}

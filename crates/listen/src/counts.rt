@@ -1,0 +1,36 @@
+// The two counts of the box's patience.
+ghost use mathlib.Core.Path.{_≡_};
+ghost use mathlib.Core.Bool.{_&&_};
+ghost use lib.Dec.{leb};
+ghost use Rattle.listen.specs.Calls.{mostQuiet, mostNoise, quieter, louder};
+use crate::numbers;
+
+// Whether both counts are within their ends.
+pub(crate) fn are_within(quiet: usize, noise: usize) -> bool
+    ensures { λ r. ⌜ r ≡ (leb quiet mostQuiet && leb noise mostNoise) ⌝ }
+{
+    (quiet <= numbers::MOST_QUIET) & (noise <= numbers::MOST_NOISE)
+}
+
+// One more read that gave nothing.
+pub(crate) fn quieter(quiet: usize) -> usize
+    ensures { λ r. ⌜ r ≡ quieter quiet ⌝ }
+{
+    if numbers::MOST_QUIET <= quiet {
+        return numbers::MOST_QUIET;
+    }
+    quiet + 1
+}
+
+// So many more bytes heard.
+pub(crate) fn louder(noise: usize, taken: usize) -> usize
+    ensures { λ r. ⌜ r ≡ louder noise taken ⌝ }
+{
+    if numbers::MOST_NOISE <= taken {
+        return numbers::MOST_NOISE;
+    }
+    if numbers::MOST_NOISE - taken <= noise {
+        return numbers::MOST_NOISE;
+    }
+    noise + taken
+}

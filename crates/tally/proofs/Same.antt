@@ -1,0 +1,24 @@
+-- Two answers that meet a call's own contract are the same. `Post` is what the call ensures, as its source states it. Assumes nothing.
+use mathlib.Core.Path.{_≡_}
+use mathlib.Core.Bool.{Bool}
+use Rattle.laws.proofs.Promise.{equal-same}
+use Rattle.follow.specs.declared.Follower.{Follower}
+use Rattle.tally.specs.declared.Tally.{Tally}
+use Rattle.tally.specs.declared.Counted.{Counted}
+use Rattle.tally.proofs.Tally.nothing.Reads as nothing
+use Rattle.tally.proofs.Tally.restored.Reads as restored
+use Rattle.tally.proofs.Tally.silent.Reads as silent
+use Rattle.tally.proofs.Tally.unread.Reads as unread
+
+pub nothing-same : (r r′ : Tally) → nothing.Post tt tt r tt → nothing.Post tt tt r′ tt → r ≡ r′
+nothing-same r r′ met met′ = equal-same met met′
+
+pub restored-same : (t : Tally) (f : Follower) (answered : Bool) (r r′ : Counted)
+    → restored.Post tt (t, (f, (answered, tt))) r (t, (f, (answered, tt))) → restored.Post tt (t, (f, (answered, tt))) r′ (t, (f, (answered, tt))) → r ≡ r′
+restored-same t f answered r r′ met met′ = equal-same met met′
+
+pub silent-same : (t : Tally) (r r′ : Counted) → silent.Post tt (t, tt) r (t, tt) → silent.Post tt (t, tt) r′ (t, tt) → r ≡ r′
+silent-same t r r′ met met′ = equal-same met met′
+
+pub unread-same : (t : Tally) (r r′ : Counted) → unread.Post tt (t, tt) r (t, tt) → unread.Post tt (t, tt) r′ (t, tt) → r ≡ r′
+unread-same t r r′ met met′ = equal-same met met′

@@ -1,0 +1,125 @@
+-- What is proved of the definitions, as statements to read. Each is proved under its name in proofs/Theorems.antt.
+-- Assumes nothing.
+use Prim.Native.Nat.{ℕ, zero, _+_, _≤_}
+use mathlib.Core.Path.{_≡_}
+use mathlib.Core.Bool.{Bool, true, false, cond, not, _&&_}
+use mathlib.Core.List.{List, [], _∷_}
+use lib.ListN.{length}
+use Rattle.restore.specs.Order.{dueSets}
+use Rattle.follow.specs.Following.{standing}
+use Rattle.follow.specs.declared.Outcome.{Outcome}
+use Rattle.tally.specs.Results.{Result, restored, silent, unread, nothing, fits}
+use Rattle.tally.specs.Calls.{counting}
+use Rattle.tally.specs.declared.Tally.{Tally}
+
+-- the tally after a row of trailers, one call for each
+abbrev pub tallied : Tally → List Result → Tally
+tallied t [] = t
+tallied t (r ∷ more) = tallied (counting t r .tally) more
+
+-- the results that are counted: all but those of a follower that is not allowed, or that still waits
+abbrev pub fitting : List Result → List Result
+fitting [] = []
+fitting (r ∷ more) = cond (fits r) (r ∷ fitting more) (fitting more)
+
+-- Counted by hand: of how many results a test holds, and the sum of a number of each.
+abbrev pub one : Bool → ℕ
+one true = 1
+one false = 0
+
+abbrev pub number : (Result → Bool) → List Result → ℕ
+number p [] = zero
+number p (r ∷ more) = one (p r) + number p more
+
+abbrev pub addUp : (Result → ℕ) → List Result → ℕ
+addUp n [] = zero
+addUp n (r ∷ more) = n r + addUp n more
+
+-- where a follower stands, by its own word
+abbrev pub isDone : Outcome → Bool
+isDone (Outcome.Waiting due) = false
+isDone Outcome.Equal = false
+isDone Outcome.Done = true
+isDone (Outcome.Stopped due) = false
+isDone (Outcome.Refused number) = false
+
+abbrev pub isEqual : Outcome → Bool
+isEqual (Outcome.Waiting due) = false
+isEqual Outcome.Equal = true
+isEqual Outcome.Done = false
+isEqual (Outcome.Stopped due) = false
+isEqual (Outcome.Refused number) = false
+
+abbrev pub isStopped : Outcome → Bool
+isStopped (Outcome.Waiting due) = false
+isStopped Outcome.Equal = false
+isStopped Outcome.Done = false
+isStopped (Outcome.Stopped due) = true
+isStopped (Outcome.Refused number) = false
+
+-- the kinds of results
+abbrev pub wasDone : Result → Bool
+wasDone (restored f answered) = isDone (standing f)
+wasDone silent = false
+wasDone unread = false
+
+abbrev pub wasEqual : Result → Bool
+wasEqual (restored f answered) = isEqual (standing f)
+wasEqual silent = false
+wasEqual unread = false
+
+-- stopped at another answer
+abbrev pub wasStopped : Result → Bool
+wasStopped (restored f answered) = isStopped (standing f) && answered
+wasStopped silent = false
+wasStopped unread = false
+
+-- no answer: while it was restored, or while it was read
+abbrev pub wasSilent : Result → Bool
+wasSilent (restored f answered) = isStopped (standing f) && not answered
+wasSilent silent = true
+wasSilent unread = false
+
+abbrev pub wasUnread : Result → Bool
+wasUnread (restored f answered) = false
+wasUnread silent = false
+wasUnread unread = true
+
+-- the Sets that a follower counted as confirmed, and those of its list
+abbrev pub confirmedOf : Result → ℕ
+confirmedOf (restored f answered) = f .confirmed
+confirmedOf silent = zero
+confirmedOf unread = zero
+
+abbrev pub dueOf : Result → ℕ
+dueOf (restored f answered) = length (dueSets (f .from) (f .to))
+dueOf silent = zero
+dueOf unread = zero
+
+-- 1. The tally of a yard is the sums of its results and of nothing else: each count is the number of results of its kind, the Sets confirmed
+-- are those that the followers counted and no other, every result is counted once, and no more Sets are confirmed than were due.
+pub record SumsUp (results : List Result) (t : Tally) : Type 0 where
+  pub done-are : t .done ≡ number wasDone results
+  pub equal-are : t .equal ≡ number wasEqual results
+  pub stopped-are : t .stopped ≡ number wasStopped results
+  pub silent-are : t .silent ≡ number wasSilent results
+  pub unread-are : t .unread ≡ number wasUnread results
+  pub confirmed-are : t .confirmed ≡ addUp confirmedOf results
+  pub due-are : t .due ≡ addUp dueOf results
+  pub each-once : t .done + t .equal + t .stopped + t .silent + t .unread ≡ length results
+  pub confirmed-within : t .confirmed ≤ t .due
+
+-- A follower adds at most 26 Sets, so a yard of 38000 trailers stays under the end of every count.
+abbrev pub mostTrailers : ℕ
+mostTrailers = 38000
+
+abbrev pub TallySumsUp : Type 0
+TallySumsUp = (results : List Result) → length results ≤ mostTrailers → SumsUp (fitting results) (tallied nothing results)
+
+-- 2. Where every result is fit to be counted, that is of all of them.
+abbrev pub allFit : List Result → Bool
+allFit [] = true
+allFit (r ∷ more) = fits r && allFit more
+
+abbrev pub AllAreCounted : Type 0
+AllAreCounted = (results : List Result) → length results ≤ mostTrailers → allFit results ≡ true → SumsUp results (tallied nothing results)

@@ -1,0 +1,70 @@
+// The yard's sums: how many trailers came out how, and how many Sets their boards confirmed of how many that were due. The numbers are
+// those of the followers, and of nothing else. Every call takes anything, and its promise fixes its answer (specs/Calls.antt).
+ghost use mathlib.Core.Path.{_≡_};
+ghost use Rattle.tally.specs.Results.{nothing};
+ghost use Rattle.tally.specs.Results as results;
+ghost use Rattle.tally.specs.Calls.{counting};
+use answers::Verdict;
+use follow::Follower;
+
+mod numbers;
+mod share;
+mod sums;
+
+// How many trailers were restored, were equal already, stopped at a Set that the board answered otherwise, gave no answer, and were not
+// begun; and of those followed, how many Sets were confirmed and how many were due.
+pub struct Tally {
+    pub done: usize,
+    pub equal: usize,
+    pub stopped: usize,
+    pub silent: usize,
+    pub unread: usize,
+    pub confirmed: usize,
+    pub due: usize,
+}
+
+// The tally afterwards, and whether the trailer was counted.
+pub struct Counted {
+    pub tally: Tally,
+    pub verdict: Verdict,
+}
+
+impl Tally {
+    // No trailer yet.
+    pub fn nothing() -> Tally
+        ensures { λ r. ⌜ r ≡ nothing ⌝ }
+    {
+        share::tally_of(0, 0, 0, 0, 0)
+    }
+
+    // A trailer whose restore was followed to its end; `answered` says that a follower which stopped heard another answer, and not none.
+    // Refuses 12 for a tally with a count over a million, and for a follower that no start and events give or that still waits.
+    pub fn restored(self, follower: Follower, answered: bool) -> Counted
+        ensures { λ r. ⌜ r ≡ counting self (results.restored follower answered) ⌝ }
+    {
+        if !sums::is_allowed(self) {
+            return sums::refused(self);
+        }
+        sums::with_follower(self, follower, answered)
+    }
+
+    // A trailer that gave no answer while it was read. Refuses 12 alike for the tally.
+    pub fn silent(self) -> Counted
+        ensures { λ r. ⌜ r ≡ counting self results.silent ⌝ }
+    {
+        if !sums::is_allowed(self) {
+            return sums::refused(self);
+        }
+        sums::accepted(sums::plus(self, share::tally_of(0, 0, 0, 1, 0)))
+    }
+
+    // A trailer that was not begun: its file was refused, or its line could not be opened. Refuses 12 alike for the tally.
+    pub fn unread(self) -> Counted
+        ensures { λ r. ⌜ r ≡ counting self results.unread ⌝ }
+    {
+        if !sums::is_allowed(self) {
+            return sums::refused(self);
+        }
+        sums::accepted(sums::plus(self, share::tally_of(0, 0, 0, 0, 1)))
+    }
+}
