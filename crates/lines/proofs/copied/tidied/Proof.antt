@@ -1,0 +1,41 @@
+-- `lines::copied::tidied` meets its contract. Assumes nothing.
+use mathlib.Core.Path.{_≡_, sym}
+use native.Mathlib.Omega.{arith}
+use borrow.Author.Needs.{needs}
+use lib.ListN.{length, length-take}
+use Rattle.lines.specs.Lines.{blank}
+use Rattle.lines.proofs.Adding.{kept-length, tidy-line}
+use Rattle.lines.proofs.copied.tidied.Statement.{statement}
+use Rattle.lines.proofs.copied.tidied.Tie as tie
+
+long : (c : tie.Start) → length (c .args .line .chars) ≡ 120
+long c = search needs
+
+least-requires : tie.Need-least-requires
+least-requires c κs = search needs
+
+array-share-prefix-held : tie.Need-array-share-prefix-held
+array-share-prefix-held c = omega (arith, c .least .ensures, long (c .before .before))
+
+slice-aggregate-copy : tie.Need-slice-aggregate-copy
+slice-aggregate-copy c = sym (kept-length _ (long (c .before .before .before)) _ (c .before .least .ensures))
+
+slice-aggregate-copy-2 : tie.Need-slice-aggregate-copy-2
+slice-aggregate-copy-2 c = search needs
+
+copy-requires : tie.Need-copy-requires
+copy-requires c κs =
+    let c4 = c .before .before .before .before in
+    rw length-take (omega (arith, long c4))
+
+returns : tie.Need-returns
+unfolding blank
+returns c =
+    let c4 = c .before .before .before .before in
+    tidy-line _ (long (c4 .before .before)) _ (c4 .least .ensures) _ (c .before .copy .ensures)
+
+pub tidied-spec : {M : Type 1} → statement M
+tidied-spec =
+    tie.close
+    (tie.spec
+    least-requires array-share-prefix-held slice-aggregate-copy slice-aggregate-copy-2 copy-requires returns)

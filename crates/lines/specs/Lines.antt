@@ -1,0 +1,41 @@
+-- A line that the night box prints (ours): up to 120 characters in an array of fixed room, 0 past them. Assumes nothing.
+use Prim.Native.Nat.{ℕ, min}
+use Prim.Native.Char.{code}
+use Prim.Native.String.{String, [] as end, _∷_ as _then_}
+use mathlib.Core.List.{List, [], _∷_, _++_}
+use lib.ListN.{length, take, replicate}
+use Rattle.lines.specs.declared.Line.{Line}
+
+abbrev pub most : ℕ
+most = 120
+
+abbrev pub newline : ℕ
+newline = 10
+
+-- the characters of a text as it is written here
+abbrev pub chars : String → List ℕ
+chars end = []
+chars (c then more) = code c ∷ chars more
+
+-- nothing stands past the characters
+unfoldable pub blank : List ℕ
+blank = replicate most 0
+
+-- the line of a text: what is past 120 characters is cut
+unfoldable pub lineOf : List ℕ → Line
+lineOf text = record { len = min most (length text); chars = take most (text ++ blank) }
+
+-- the text of a line, of any that a caller can make up
+abbrev pub textOf : Line → List ℕ
+textOf line = take (line .len) (line .chars)
+
+-- a line with some more characters behind it
+unfoldable pub adding : Line → List ℕ → Line
+adding line more = lineOf (textOf line ++ more)
+
+-- a line that is ready to be written out: a newline ends it, also where the text is cut
+unfoldable pub printed : List ℕ → Line
+printed text = lineOf (take 119 text ++ newline ∷ [])
+
+abbrev pub ended : Line → Line
+ended line = printed (textOf line)

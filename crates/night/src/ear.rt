@@ -1,0 +1,67 @@
+// What comes in on a line, byte by byte, until the listener tells something.
+use listen::Listener;
+use listen::Told;
+
+// The data of one frame at most.
+pub(crate) const MOST_DATA: usize = 35;
+
+// The listener's patience ends after some thousand bytes and reads: there are never so many turns.
+const MOST_TURNS: u32 = 1000000;
+
+// What was told, and the data of the frame, if it was one.
+pub(crate) struct News {
+    pub(crate) listener: Listener,
+    pub(crate) told: Told,
+    pub(crate) data: [u8; MOST_DATA],
+}
+
+// One read of one byte, so that nothing is ever left over. A read that gives nothing is a second of silence, or the end.
+fn once(input: i32, listener: Listener) -> News {
+    let mut byte = [0u8; 1];
+    let got = libc::read(input, &mut byte);
+    let len = io::count(got, &byte);
+    let mut data = [0u8; MOST_DATA];
+    let listened = listener.read(&byte[..len], &mut data);
+    let next = listened.listener;
+    let told = listened.told;
+    News {
+        listener: next,
+        told,
+        data,
+    }
+}
+
+// Whether the box waits on.
+fn is_nothing(news: News) -> bool {
+    let told = news.told;
+    match told {
+        Told::Nothing => true,
+        Told::Frame { .. } => false,
+        Told::Broken(_) => false,
+        Told::NoAnswer => false,
+        Told::Refused(_) => false,
+    }
+}
+
+// Reads until something is told.
+pub(crate) fn next(input: i32, listener: Listener) -> News {
+    let mut news = once(input, listener);
+    let mut turns = MOST_TURNS;
+    while turns > 0 && is_nothing(news) {
+        let heard = news.listener;
+        news = once(input, heard);
+        turns -= 1;
+    }
+    news
+}
+
+// The front of a frame's data.
+pub(crate) fn len_of(told: Told) -> usize {
+    match told {
+        Told::Nothing => 0,
+        Told::Frame { command: _, len } => len,
+        Told::Broken(_) => 0,
+        Told::NoAnswer => 0,
+        Told::Refused(_) => 0,
+    }
+}

@@ -1,0 +1,37 @@
+// The night box: reads a board's settings into a file, checks such a file, and puts it back on the board. What it decides, counts and writes
+// is the work of proved libraries; here bytes are moved between the line, the files and the report.
+//
+//     night save LINE FILE      reads all settings and writes FILE once all were answered
+//     night check FILE          says whether FILE is good, or what is wrong in it and where
+//     night restore LINE FILE   puts FILE back, one Set at a time, and says done only for what the board confirmed
+//     night show LINE           who the board is, and its five readings
+//     night yard LIST           restores each trailer of LIST in turn
+//
+// A row of LIST has a name, a line and a file, blanks or tabs between; an empty row and one that begins with # are passed over.
+//
+// LINE is a device, or - for standard input and output; the report then goes to standard error.
+mod checks;
+mod ear;
+mod file;
+mod line;
+mod putback;
+mod reading;
+mod restoring;
+mod save;
+mod show;
+mod words;
+mod yard;
+
+fn main() {
+    let mut what = [0u8; words::MOST_COMMAND];
+    let len = os::arg(words::COMMAND, &mut what);
+    let command = words::asked_for(&what[..len], os::arg_count());
+    match command {
+        words::Command::Save => save::run(),
+        words::Command::Check => checks::run(),
+        words::Command::Restore => putback::run(),
+        words::Command::Show => show::run(),
+        words::Command::Yard => yard::run(),
+        words::Command::Unknown => words::usage(),
+    }
+}

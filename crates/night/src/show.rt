@@ -1,0 +1,177 @@
+// `night show LINE`.
+use crate::ear;
+use crate::line;
+use crate::line::Ends;
+use crate::reading;
+use crate::words;
+use listen::Listener;
+use listen::Told;
+use reply::Reply;
+use reply::Status;
+
+// The read-only ids of document 01: product, serial, version, and the five readings.
+const IDS: [u16; COUNT] = [
+    0x0100,
+    0x010A,
+    0xEEF9,
+    0xED8D,
+    0xED8F,
+    0xED8C,
+    0xEEFF,
+    0x0FFF,
+];
+
+const COUNT: usize = 8;
+
+// An id and the flags stand before the value.
+const FRONT: usize = 3;
+
+const MOST_EVENTS: u32 = 1000000;
+
+// What became of a Get: answered, or to wait on, or no answer at all.
+enum Met {
+    Good,
+    Bad,
+    Waits,
+    Silent,
+}
+
+// What a frame says of the id that is asked for.
+fn met_by(command: u8, data: &[u8], id: u16) -> Met {
+    let said = reply::read(command, data);
+    match said {
+        Reply::Get { status, id: named } => {
+            if named == id {
+                judged(status)
+            } else {
+                Met::Waits
+            }
+        }
+        Reply::Done => Met::Waits,
+        Reply::Unknown { command: _ } => Met::Waits,
+        Reply::Error { code: _ } => Met::Waits,
+        Reply::Ping { version: _ } => Met::Waits,
+        Reply::Set { status: _, id: _ } => Met::Waits,
+        Reply::Async { status: _, id: _ } => Met::Waits,
+        Reply::Refused(_) => Met::Waits,
+    }
+}
+
+fn judged(status: Status) -> Met {
+    match status {
+        Status::Good => Met::Good,
+        Status::UnknownId => Met::Bad,
+        Status::NotSupported => Met::Bad,
+        Status::ParameterError => Met::Bad,
+    }
+}
+
+// What was told, of the id that is asked for.
+fn told_of(told: Told, data: &[u8], id: u16) -> Met {
+    match told {
+        Told::Nothing => Met::Waits,
+        Told::Frame { command, len } => framed(command, data, len, id),
+        Told::Broken(_) => Met::Waits,
+        Told::NoAnswer => Met::Silent,
+        Told::Refused(_) => Met::Silent,
+    }
+}
+
+// A frame, of which the data are the front of a buffer.
+fn framed(command: u8, data: &[u8], len: usize, id: u16) -> Met {
+    let n = words::front(len, data);
+    met_by(command, &data[..n], id)
+}
+
+// Shows the value in a reply's data.
+fn show(report: i32, id: u16, data: &[u8], len: usize) {
+    let n = words::front(len, data);
+    if n < FRONT {
+        return;
+    }
+    words::tell(report, report::value(id, &data[FRONT..n]));
+}
+
+// The listener after an event, and whether to go on listening for this id, or for any.
+struct Heard {
+    listener: Listener,
+    waits: bool,
+    silent: bool,
+}
+
+// The next event, shown if it answers.
+fn event(ends: Ends, listener: Listener, id: u16) -> Heard {
+    let news = ear::next(ends.input, listener);
+    let listener = news.listener;
+    let told = news.told;
+    let data = news.data;
+    let met = told_of(told, &data, id);
+    let len = ear::len_of(told);
+    match met {
+        Met::Good => show(ends.report, id, &data, len),
+        Met::Bad => words::tell(ends.report, report::value(id, &[])),
+        Met::Waits => {}
+        Met::Silent => words::say(ends.report, b"no answer: look at the line and its plug"),
+    }
+    Heard {
+        listener,
+        waits: is_waiting(met),
+        silent: is_silent(met),
+    }
+}
+
+fn is_waiting(met: Met) -> bool {
+    match met {
+        Met::Good => false,
+        Met::Bad => false,
+        Met::Waits => true,
+        Met::Silent => false,
+    }
+}
+
+fn is_silent(met: Met) -> bool {
+    match met {
+        Met::Good => false,
+        Met::Bad => false,
+        Met::Waits => false,
+        Met::Silent => true,
+    }
+}
+
+// Asks for an id, and listens until it is answered or there is no answer.
+fn ask_for(ends: Ends, listener: Listener, id: u16) -> Heard {
+    reading::ask(ends.output, id);
+    let mut heard = event(ends, listener.asked(), id);
+    let mut turns = MOST_EVENTS;
+    while turns > 0 && heard.waits {
+        let here = heard.listener;
+        heard = event(ends, here, id);
+        turns -= 1;
+    }
+    heard
+}
+
+// Asks for one after the other, until the board is silent.
+fn show_all(ends: Ends) {
+    let mut listener = Listener::start();
+    let mut i = 0;
+    while i < COUNT {
+        let heard = ask_for(ends, listener, IDS[i]);
+        if heard.silent {
+            return;
+        }
+        let next = heard.listener;
+        listener = next;
+        i += 1;
+    }
+}
+
+// Who the board is, and its readings.
+pub(crate) fn run() {
+    let ends = line::first();
+    if !ends.open {
+        return;
+    }
+    show_all(ends);
+    line::close(ends);
+}

@@ -1,0 +1,81 @@
+// The program's words, and what it says.
+ghost use Rattle.io.specs.Counts.{Counts};
+use lines::Line;
+
+// Their places.
+pub(crate) const COMMAND: usize = 1;
+
+pub(crate) const FIRST: usize = 2;
+
+pub(crate) const SECOND: usize = 3;
+
+pub(crate) const MOST_COMMAND: usize = 16;
+
+// What there is to do.
+pub(crate) enum Command {
+    Save,
+    Check,
+    Restore,
+    Show,
+    Yard,
+    Unknown,
+}
+
+// The command of a word, where it has the words that it needs behind it.
+pub(crate) fn asked_for(word: &[u8], count: usize) -> Command {
+    if count == 4 && check::same(word, b"save") {
+        return Command::Save;
+    }
+    if count == 3 && check::same(word, b"check") {
+        return Command::Check;
+    }
+    if count == 4 && check::same(word, b"restore") {
+        return Command::Restore;
+    }
+    if count == 3 && check::same(word, b"show") {
+        return Command::Show;
+    }
+    if count == 3 && check::same(word, b"yard") {
+        return Command::Yard;
+    }
+    Command::Unknown
+}
+
+// How the program is used.
+pub(crate) fn usage() {
+    say(
+        libc::STDERR_FILENO,
+        b"usage: night save LINE FILE | check FILE | restore LINE FILE | show LINE | yard LIST",
+    );
+}
+
+// A line of fixed text.
+pub(crate) fn say(report: i32, text: &[u8]) {
+    io::write_all(report, text);
+    io::write_all(report, b"\n");
+}
+
+// A line of the report.
+pub(crate) fn tell(report: i32, line: Line) {
+    let chars = line.chars;
+    put(report, &chars, line.len);
+}
+
+// How much of a buffer is meant: `len` bytes at its front, or all of it where it has less.
+pub(crate) fn front(len: usize, of: &[u8]) -> usize
+    ensures { λ r. ⌜ Counts r (now (of .entry)) ⌝ }
+{
+    if len < of.len() { len } else { of.len() }
+}
+
+// Writes the front of a buffer; false where that failed.
+pub(crate) fn put(fd: i32, text: &[u8], len: usize) -> bool {
+    let n = front(len, text);
+    io::write_all(fd, &text[..n])
+}
+
+// The name that a line begins with.
+pub(crate) fn name(report: i32, name: &[u8]) {
+    io::write_all(report, name);
+    io::write_all(report, b": ");
+}

@@ -1,0 +1,2 @@
+-- The settings as the lines that are printed name them (ours).
+pub mod Names

@@ -1,0 +1,2 @@
+-- The read-only values in words (ours).
+pub mod Values

@@ -1,0 +1,2 @@
+-- What a backup is, in words (ours).
+pub mod Texts
