@@ -13,8 +13,8 @@ use wire::Written;
 // The room that a frame takes.
 pub(crate) const FRAME_ROOM: usize = 75;
 
-// The listener's patience ends long before.
-const MOST_EVENTS: u32 = 1000000;
+// So many frames that say nothing of what was asked are no answer.
+pub(crate) const MOST_EVENTS: u32 = 1000;
 
 // A reading on its way.
 struct Step {
@@ -91,6 +91,20 @@ fn answer(input: i32, step: Step) -> Step {
     step
 }
 
+// A board that talks of other things without end has given no answer.
+fn patient(step: Step, answered: usize) -> Step {
+    if !waits(step, answered) {
+        return step;
+    }
+    let listener = step.listener;
+    let collected = step.collected;
+    let collector = collected.collector;
+    Step {
+        listener,
+        collected: collector.no_answer(),
+    }
+}
+
 // Shows the number that was answered for a setting, if one was.
 fn show(report: i32, collected: Collected, index: usize) {
     let collector = collected.collector;
@@ -108,13 +122,11 @@ fn ask_for(ends: Ends, step: Step, setting: Setting) -> Step {
     ask(ends.output, setting.id);
     let listener = step.listener;
     let collected = step.collected;
-    answer(
-        ends.input,
-        Step {
-            listener: listener.asked(),
-            collected,
-        },
-    )
+    let asked = Step {
+        listener: listener.asked(),
+        collected,
+    };
+    patient(answer(ends.input, asked), collected.answered)
 }
 
 // The same, and the answer is shown.

@@ -17,9 +17,6 @@ use wire::Written;
 // The room that the longest list takes.
 const LIST_ROOM: usize = 390;
 
-// The listener's patience ends long before.
-const MOST_EVENTS: u32 = 1000000;
-
 // A restore on its way, and the data of the frame heard last, none if that was no frame.
 pub(crate) struct Restored {
     pub(crate) listener: Listener,
@@ -80,12 +77,28 @@ fn answer(input: i32, way: Restored) -> Restored {
     let before = way.followed;
     let confirmed = before.confirmed;
     let mut way = way;
-    let mut turns = MOST_EVENTS;
+    let mut turns = reading::MOST_EVENTS;
     while turns > 0 && waits(way, confirmed) {
         way = event(input, way);
         turns -= 1;
     }
     way
+}
+
+// A board that talks of other things without end has given no answer.
+fn patient(way: Restored, confirmed: usize) -> Restored {
+    if !waits(way, confirmed) {
+        return way;
+    }
+    let listener = way.listener;
+    let followed = way.followed;
+    let follower = followed.follower;
+    Restored {
+        listener,
+        followed: follower.no_answer(),
+        said: [0u8; ear::MOST_DATA],
+        len: 0,
+    }
 }
 
 // Sends a Set.
@@ -107,15 +120,13 @@ fn send_one(ends: Ends, way: Restored, wanted: Wanted) -> Restored {
     let listener = way.listener;
     let followed = way.followed;
     let said = way.said;
-    answer(
-        ends.input,
-        Restored {
-            listener: listener.asked(),
-            followed,
-            said,
-            len: way.len,
-        },
-    )
+    let sent = Restored {
+        listener: listener.asked(),
+        followed,
+        said,
+        len: way.len,
+    };
+    patient(answer(ends.input, sent), followed.confirmed)
 }
 
 // Shows a Set that the board has confirmed: the follower's count has gone past those before it.

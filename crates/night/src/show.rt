@@ -26,8 +26,6 @@ const COUNT: usize = 8;
 // An id and the flags stand before the value.
 const FRONT: usize = 3;
 
-const MOST_EVENTS: u32 = 1000000;
-
 // What became of a Get: answered, or to wait on, or no answer at all.
 enum Met {
     Good,
@@ -138,17 +136,32 @@ fn is_silent(met: Met) -> bool {
     }
 }
 
-// Asks for an id, and listens until it is answered or there is no answer.
-fn ask_for(ends: Ends, listener: Listener, id: u16) -> Heard {
+// Asks for an id, and listens until it is answered, there is no answer, or too much of something else.
+fn listen_for(ends: Ends, listener: Listener, id: u16) -> Heard {
     reading::ask(ends.output, id);
     let mut heard = event(ends, listener.asked(), id);
-    let mut turns = MOST_EVENTS;
+    let mut turns = reading::MOST_EVENTS;
     while turns > 0 && heard.waits {
         let here = heard.listener;
         heard = event(ends, here, id);
         turns -= 1;
     }
     heard
+}
+
+// The same; a board that talks of other things without end has given no answer.
+fn ask_for(ends: Ends, listener: Listener, id: u16) -> Heard {
+    let heard = listen_for(ends, listener, id);
+    if !heard.waits {
+        return heard;
+    }
+    words::say(ends.report, b"no answer: the board talks of other things");
+    let listener = heard.listener;
+    Heard {
+        listener,
+        waits: false,
+        silent: true,
+    }
 }
 
 // Asks for one after the other, until the board is silent.

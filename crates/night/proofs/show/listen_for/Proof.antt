@@ -1,8 +1,8 @@
--- `night::show::ask_for` meets its contract. Assumes nothing.
+-- `night::show::listen_for` meets its contract. Assumes nothing.
 use native.Mathlib.Omega.{arith}
 use borrow.Author.Needs.{needs}
-use Rattle.night.proofs.show.ask_for.Statement.{statement}
-use Rattle.night.proofs.show.ask_for.Tie as tie
+use Rattle.night.proofs.show.listen_for.Statement.{statement}
+use Rattle.night.proofs.show.listen_for.Tie as tie
 
 abbrev Inv-loop : tie.InvT-loop
 Inv-loop ends id heard₀ turns₀ heard turns = Unit {0}
@@ -40,8 +40,8 @@ returns c = search needs
 returns-2 : tie.Need-returns-2 Inv-loop μ-loop
 returns-2 c = search needs
 
-pub ask-for-spec : {M : Type 1} → statement M
-ask-for-spec =
+pub listen-for-spec : {M : Type 1} → statement M
+listen-for-spec =
     tie.close
     (tie.spec
     Inv-loop
