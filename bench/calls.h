@@ -1,13 +1,8 @@
-/* What the two archives export. Refusals of the first three stand in the high half of the answer. */
+/* What the bench's archive exports, beside the three calls of the firmware's. */
 #ifndef REEDSATCHEL_BENCH_CALLS_H
 #define REEDSATCHEL_BENCH_CALLS_H
 
-#include <stddef.h>
-#include <stdint.h>
-
-uint32_t reedsatchel_write_frame(uint8_t command, const uint8_t *bytes, size_t count, uint8_t *out, size_t room);
-uint32_t reedsatchel_read_frame(const uint8_t *frame, size_t length, uint8_t *into, size_t room);
-uint32_t reedsatchel_nearest(uint16_t id, uint16_t wished, uint16_t partner);
+#include "reedsatchel.h"
 
 /* Reads bytes from outside a frame, call k handed at most sizes[k] of those not taken yet; into is lent to every call. Answers the number
  * of frames read well. */

@@ -14,8 +14,8 @@ use Rattle.settings.proofs.Tables.{set-accepted}
 use Rattle.wire.specs.Numbers.{little, fromLittle}
 use Rattle.answers.specs.Answers.{said, setCode, setsSetting, frameAnswer}
 use Rattle.answers.specs.Laws.{GetAnswersHeld, SetStoresIt, SetRefusedNamesNearest}
-use Rattle.answers.specs.declared.Identity.{Identity}
-use Rattle.answers.specs.declared.Readings.{Readings}
+use Rattle.who.specs.declared.Identity.{Identity}
+use Rattle.who.specs.declared.Readings.{Readings}
 use Rattle.answers.proofs.Bytes.{length-little}
 use Rattle.answers.proofs.Deciding.{gets-is, sets-is, sets-right}
 

@@ -12,13 +12,13 @@ use lib.ListN.{length, getD, take, length-append, length-take}
 use Rattle.laws.specs.Lists.{every}
 use Rattle.laws.proofs.Bools.{and-left, and-right, both, pick}
 use Rattle.laws.proofs.Lists.{every-append}
-use Rattle.answers.specs.Parts.{printed, serialOf, identityAllowed}
+use Rattle.who.specs.Parts.{printed, serialOf, identityAllowed}
 use Rattle.wire.specs.Numbers.{little, fromLittle}
 use Rattle.answers.specs.Values.{productValue, serialValue, readOnly}
 use Rattle.answers.specs.AsHeld.{valueOf, lookedOf}
-use Rattle.answers.specs.declared.Identity.{Identity}
-use Rattle.answers.specs.declared.Readings.{Readings}
-use Rattle.answers.proofs.Serials.{serial-within}
+use Rattle.who.specs.declared.Identity.{Identity}
+use Rattle.who.specs.declared.Readings.{Readings}
+use Rattle.who.proofs.Serials.{serial-within}
 
 abbrev pub byte : ℕ → Bool
 byte b = ltb b 256

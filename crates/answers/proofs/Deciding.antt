@@ -15,12 +15,13 @@ use Rattle.settings.specs.declared.Answer.{Answer}
 use Rattle.settings.specs.declared.Change.{Change}
 use Rattle.settings.specs.declared.Table.{Table}
 use Rattle.answers.specs.Answers.{silent, sent, staying, said, getCode, setCode, malformed, unknownId, notSupported, wrongWidth, getsOther, getsFound, getAnswer, setsOther, stored, setsSetting, setsFound, setAnswer, frameAnswer}
-use Rattle.answers.specs.Parts.{identityAllowed}
+use Rattle.who.specs.Parts.{identityAllowed}
 use Rattle.wire.specs.Numbers.{fromLittle}
-use Rattle.answers.specs.Calls.{answering, notAllowed}
+use Rattle.who.specs.Calls.{notAllowed}
+use Rattle.answers.specs.Calls.{answering}
 use Rattle.answers.specs.AsHeld.{valueOf, lookedOf, replyOf, saidOf, replying, decidedOf}
-use Rattle.answers.specs.declared.Identity.{Identity}
-use Rattle.answers.specs.declared.Readings.{Readings}
+use Rattle.who.specs.declared.Identity.{Identity}
+use Rattle.who.specs.declared.Readings.{Readings}
 use Rattle.answers.specs.declared.Outcome.{Outcome}
 use Rattle.answers.specs.declared.Reply.{Reply}
 use Rattle.answers.proofs.Fronts.{said-is}

@@ -16,14 +16,14 @@ use Rattle.settings.specs.declared.Table.{Table}
 use Rattle.settings.specs.declared.Setting.{Setting}
 use Rattle.settings.specs.declared.Found.{Found}
 use Rattle.settings.specs.declared.Answer.{Answer}
-use Rattle.answers.specs.Parts.{identityAllowed}
+use Rattle.who.specs.Parts.{identityAllowed}
 use Rattle.wire.specs.Numbers.{little, fromLittle}
 use Rattle.answers.specs.Values.{readOnly}
 use Rattle.answers.specs.Answers.{sent, Decision, said, getCode, setCode, pingCode, versionCode, productCode, restartCode, asyncCode, tells, restarts, getsOther, getsFound, getAnswer, setsOther, stored, setsSetting, setsFound, setAnswer, frameAnswer}
 use Rattle.answers.specs.AsHeld.{Settled}
 use Rattle.answers.specs.Laws.{Fits, nothing, a-frame, an-error, RepliesFit}
-use Rattle.answers.specs.declared.Identity.{Identity}
-use Rattle.answers.specs.declared.Readings.{Readings}
+use Rattle.who.specs.declared.Identity.{Identity}
+use Rattle.who.specs.declared.Readings.{Readings}
 use Rattle.answers.proofs.Bytes.{byte, length-little, bytes-little, Small, small-some, small-read}
 use Rattle.answers.proofs.Found.{found-settled}
 

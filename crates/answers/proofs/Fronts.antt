@@ -7,7 +7,7 @@ use lib.ListN.{length, getD, set, take, drop, length-set, drop-of-length-le}
 use lib.Seq.{sets, sets-eq}
 use Rattle.laws.specs.Promise.{overlaid}
 use Rattle.laws.proofs.Lists.{sets-turn, sets-end}
-use Rattle.answers.specs.Parts.{noSerial}
+use Rattle.who.specs.Parts.{noSerial}
 use Rattle.answers.specs.Answers.{said}
 use Rattle.answers.specs.AsHeld.{valueOf, noData, replyOf, saidOf}
 

@@ -2,7 +2,6 @@
 pub mod Complements
 pub mod Serials
 pub mod Fronts
-pub mod Identities
 pub mod Bytes
 pub mod Found
 pub mod Deciding

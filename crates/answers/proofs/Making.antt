@@ -22,8 +22,8 @@ use Rattle.wire.specs.Numbers.{fromLittle}
 use Rattle.answers.specs.Values.{readOnly}
 use Rattle.answers.specs.Answers.{Sent, Decision, staying, pingCode, versionCode, productCode, restartCode, getCode, setCode, asyncCode, tells, restarts, getsOther, getsFound, getAnswer, setsOther, stored, setsSetting, setsFound, setAnswer, frameAnswer, makesFound, makes}
 use Rattle.answers.specs.Laws.{Stays, RefusedStays, AnswerMakes, MakesKeepsAllowed}
-use Rattle.answers.specs.declared.Identity.{Identity}
-use Rattle.answers.specs.declared.Readings.{Readings}
+use Rattle.who.specs.declared.Identity.{Identity}
+use Rattle.who.specs.declared.Readings.{Readings}
 use Rattle.answers.specs.declared.Outcome.{Outcome}
 
 module _ (readings : Readings) (table : Table) (identity : Identity) where

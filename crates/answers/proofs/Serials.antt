@@ -2,77 +2,29 @@
 use mathlib.Core.Path.{_≡_, sym, ap, _∙_}
 use mathlib.Core.Bool.{true}
 use mathlib.Core.List.{List, [], _∷_, _++_, append-assoc, append-nil}
-use Prim.Native.Nat.{ℕ, zero, suc, _≤_, _<_, _-_}
+use Prim.Native.Nat.{ℕ, suc, _≤_, _<_, _-_}
 use native.Mathlib.Omega.{arith}
-use borrow.Author.Tests.{leb-true, le-leb, lt-ltb, le-ltb}
-use lib.Dec.{leb, eqb}
-use lib.ListN.{length, take, drop, replicate, length-take, length-drop, length-append, take-append-drop}
-use Rattle.laws.specs.Lists.{every}
-use Rattle.laws.specs.Promise.{overlaid}
-use Rattle.laws.proofs.Bools.{and-left, and-right, both}
-use Rattle.laws.proofs.Lists.{every-zero}
-use Rattle.answers.specs.Parts.{printed, serialFits, noSerial, identityOf, serialOf, identityAllowed}
+use borrow.Author.Tests.{lt-ltb, le-ltb}
+use lib.ListN.{length, take, replicate, length-append, take-append-drop}
+use Rattle.who.specs.Parts.{serialOf, identityAllowed}
+use Rattle.who.specs.declared.Identity.{Identity}
+use Rattle.who.proofs.Serials.{filled, rest-zero, size, serial-alone}
 use Rattle.answers.specs.Values.{serialValue}
 use Rattle.answers.specs.AsHeld.{valueOf}
-use Rattle.answers.specs.declared.Identity.{Identity}
-
-drop-replicate : (n m a : ℕ) → drop n (replicate m a) ≡ replicate (m - n) a
-drop-replicate zero m a = let same : m ≡ m - 0 = omega arith in ap (λ (k : ℕ). replicate k a) same
-drop-replicate (suc n) zero a = let none : 0 ≡ 0 - suc n = omega arith in ap (λ (k : ℕ). replicate k a) none
-drop-replicate (suc n) (suc m) a = let same : m - n ≡ suc m - suc n = omega arith in drop-replicate n m a ∙ ap (λ (k : ℕ). replicate k a) same
-
--- what stands in an array of 32 with zeros behind it
-filled : (front s : List ℕ) → s ≡ front ++ replicate (32 - length front) 0 → overlaid front noSerial ≡ s
-unfolding overlaid noSerial
-filled front s e = ap (λ (t : List ℕ). front ++ t) (drop-replicate (length front) 32 0) ∙ sym e
-
-pub serial-within : (identity : Identity) → identityAllowed identity ≡ true → identity .len ≤ 32
-unfolding identityAllowed serialOf
-serial-within identity ok = leb-true (identity .len) 32 (and-left (leb (identity .len) 32) _ ok)
 
 module _ (identity : Identity) (long : length (identity .serial) ≡ 32) (ok : identityAllowed identity ≡ true) where
-  zeros-behind : every (eqb 0) (drop (identity .len) (identity .serial)) ≡ true
-  unfolding identityAllowed serialOf
-  zeros-behind = and-right (every printed (take (identity .len) (identity .serial))) _ (and-right (leb (identity .len) 32) _ ok)
-
-  rest-zero : drop (identity .len) (identity .serial) ≡ replicate (32 - identity .len) 0
-  rest-zero = every-zero _ zeros-behind ∙ ap (λ (k : ℕ). replicate k 0) (length-drop (identity .len) (identity .serial) ∙ ap (λ (k : ℕ). k - identity .len) long)
-
-  size : length (take (identity .len) (identity .serial)) ≡ identity .len
-  size = let less : identity .len ≤ 32 = serial-within identity ok in length-take (identity .len) (identity .serial) ∙ omega (arith, long)
-
   pub serial-short-value : identity .len < 32 → valueOf (serialValue identity) ≡ record { len = suc (identity .len); bytes = identity .serial }
   unfolding valueOf serialValue serialOf
   serial-short-value h =
       let value : List ℕ = take (identity .len) (identity .serial) ++ 0 ∷ [] in
-      let count : length value ≡ suc (identity .len) = length-append (take (identity .len) (identity .serial)) (0 ∷ []) ∙ omega (arith, size) in
+      let count : length value ≡ suc (identity .len) = length-append (take (identity .len) (identity .serial)) (0 ∷ []) ∙ omega (arith, size identity long ok) in
       let one : 32 - identity .len ≡ suc (32 - length value) = omega arith in
       let is : identity .serial ≡ value ++ replicate (32 - length value) 0 =
       sym (take-append-drop (identity .len) (identity .serial))
-      ∙ ap (λ (t : List ℕ). take (identity .len) (identity .serial) ++ t) (rest-zero ∙ ap (λ (k : ℕ). replicate k 0) one)
+      ∙ ap (λ (t : List ℕ). take (identity .len) (identity .serial) ++ t) (rest-zero identity long ok ∙ ap (λ (k : ℕ). replicate k 0) one)
       ∙ sym (append-assoc (take (identity .len) (identity .serial)) (0 ∷ []) (replicate (32 - length value) 0)) in
       rw (lt-ltb (identity .len) 32 h) (λ i. record { len = count i; bytes = filled value (identity .serial) is i })
 
-  serial-alone : overlaid (take (identity .len) (identity .serial)) noSerial ≡ identity .serial
-  serial-alone =
-      let value : List ℕ = take (identity .len) (identity .serial) in
-      let none : 32 - identity .len ≡ 32 - length value = omega (arith, size) in
-      filled value (identity .serial)
-      (sym (take-append-drop (identity .len) (identity .serial)) ∙ ap (λ (t : List ℕ). value ++ t) (rest-zero ∙ ap (λ (k : ℕ). replicate k 0) none))
-
   pub serial-full-value : 32 ≤ identity .len → valueOf (serialValue identity) ≡ record { len = identity .len; bytes = identity .serial }
   unfolding valueOf serialValue serialOf
-  serial-full-value h = rw (le-ltb (identity .len) 32 h, append-nil) (λ i. record { len = size i; bytes = serial-alone i })
-
-  -- so the identity is that of its serial, which fits
-  pub identity-back : identityOf (identity .product) (identity .version) (serialOf identity) ≡ identity
-  unfolding identityOf serialOf
-  identity-back = λ i. record { product = identity .product; version = identity .version; len = size i; serial = serial-alone i }
-
-  pub serial-fits-back : serialFits (serialOf identity) ≡ true
-  unfolding serialFits identityAllowed serialOf
-  serial-fits-back =
-      let few : identity .len ≤ 32 = serial-within identity ok in
-      let short : length (take (identity .len) (identity .serial)) ≤ 32 = rw size few in
-      both _ _ (le-leb (length (take (identity .len) (identity .serial))) 32 short)
-      (and-left (every printed (take (identity .len) (identity .serial))) _ (and-right (leb (identity .len) 32) _ ok))
+  serial-full-value h = rw (le-ltb (identity .len) 32 h, append-nil) (λ i. record { len = size identity long ok i; bytes = serial-alone identity long ok i })

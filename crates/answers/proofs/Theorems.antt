@@ -1,15 +1,8 @@
 -- The statements of specs/Laws.antt, proved. Assumes nothing.
-use Rattle.answers.specs.Laws.{NamedIsAllowed, SerialIsKept, RepliesFit, RefusedStays, AnswerMakes, MakesKeepsAllowed, GetAnswersHeld, SetStoresIt, SetRefusedNamesNearest}
-use Rattle.answers.proofs.Identities.{named-allowed, serial-back}
+use Rattle.answers.specs.Laws.{RepliesFit, RefusedStays, AnswerMakes, MakesKeepsAllowed, GetAnswersHeld, SetStoresIt, SetRefusedNamesNearest}
 use Rattle.answers.proofs.Fitting
 use Rattle.answers.proofs.Making.{refused-stays, answer-makes, makes-allowed}
 use Rattle.answers.proofs.Asking.{get-held, set-stores, set-names}
-
-pub named-is-allowed : NamedIsAllowed
-named-is-allowed = named-allowed
-
-pub serial-is-kept : SerialIsKept
-serial-is-kept = serial-back
 
 pub replies-fit : RepliesFit
 replies-fit = Fitting.replies-fit

@@ -12,11 +12,11 @@ use Rattle.settings.specs.declared.Table.{Table}
 use Rattle.settings.specs.declared.Setting.{Setting}
 use Rattle.settings.specs.declared.Found.{Found}
 use Rattle.settings.specs.declared.Answer.{Answer}
-use Rattle.answers.specs.Parts.{noReadings}
+use Rattle.who.specs.Parts.{noReadings}
 use Rattle.wire.specs.Numbers.{little, fromLittle}
 use Rattle.answers.specs.Values.{readOnly}
-use Rattle.answers.specs.declared.Identity.{Identity}
-use Rattle.answers.specs.declared.Readings.{Readings}
+use Rattle.who.specs.declared.Identity.{Identity}
+use Rattle.who.specs.declared.Readings.{Readings}
 use Rattle.answers.specs.declared.Outcome.{Outcome}
 
 -- what is sent in reply: nothing, a command with its data, or the error frame

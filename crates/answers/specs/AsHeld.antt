@@ -8,12 +8,12 @@ use Rattle.laws.specs.Promise.{overlaid}
 use Rattle.settings.specs.Columns.{count}
 use Rattle.settings.specs.declared.Table.{Table}
 use Rattle.settings.specs.declared.Setting.{Setting}
-use Rattle.answers.specs.Parts.{noSerial}
+use Rattle.who.specs.Parts.{noSerial}
 use Rattle.wire.specs.Numbers.{little}
 use Rattle.answers.specs.Answers.{Sent, silent, sent, error, Decision}
 use Rattle.answers.specs.declared.values.Value.{Value}
 use Rattle.answers.specs.declared.values.Looked.{Looked}
-use Rattle.answers.specs.declared.Readings.{Readings}
+use Rattle.who.specs.declared.Readings.{Readings}
 use Rattle.answers.specs.declared.Outcome.{Outcome}
 use Rattle.answers.specs.declared.Reply.{Reply}
 use Rattle.answers.specs.declared.Sends.{Sends}

@@ -9,22 +9,14 @@ use Rattle.wire.specs.Laws.{Writable}
 use Rattle.settings.specs.Columns.{count, idAt, widthAt}
 use Rattle.settings.specs.Rules.{allowed, allowedFor, numberAt, partnerNumber, changed, Nearest}
 use Rattle.settings.specs.declared.Table.{Table}
-use Rattle.answers.specs.Parts.{identityOf, serialOf, identityAllowed}
+use Rattle.who.specs.Parts.{identityAllowed}
 use Rattle.wire.specs.Numbers.{little}
 use Rattle.answers.specs.Answers.{Sent, silent, sent, error, Decision, staying, said, getCode, setCode, frameAnswer, makes}
-use Rattle.answers.specs.Calls.{naming}
-use Rattle.answers.specs.declared.Identity.{Identity}
-use Rattle.answers.specs.declared.Readings.{Readings}
+use Rattle.who.specs.declared.Identity.{Identity}
+use Rattle.who.specs.declared.Readings.{Readings}
 use Rattle.answers.specs.declared.Outcome.{Outcome}
 
--- 1. Every identity that is named is allowed, an accepted and a refused one; the serial of an accepted one is the one that was given.
-abbrev pub NamedIsAllowed : Type 0
-NamedIsAllowed = (product version : ℕ) (serial : List ℕ) → identityAllowed (naming product version serial .identity) ≡ true
-
-abbrev pub SerialIsKept : Type 0
-SerialIsKept = (product version : ℕ) (serial : List ℕ) → serialOf (identityOf product version serial) ≡ serial
-
--- 2. Every reply fits a frame.
+-- 1. Every reply fits a frame.
 pub data Fits : Sent → Type 0 where
   nothing : Fits silent
   a-frame : {command : ℕ} {bytes : List ℕ} → Writable command bytes → Fits (sent command bytes)
@@ -35,7 +27,7 @@ RepliesFit =
     (readings : Readings) (table : Table) (identity : Identity) (command : ℕ) (bytes : List ℕ) → identityAllowed identity ≡ true → command < 256
     → Fits (frameAnswer readings table identity command bytes .reply)
 
--- 3. "On 1 to 10 the settings and readings stay."
+-- 2. "On 1 to 10 the settings and readings stay."
 pub record Stays (readings : Readings) (table : Table) (d : Decision) : Type 0 where
   pub table-stays : d .table ≡ table
   pub readings-stay : d .readings ≡ readings
@@ -46,7 +38,7 @@ RefusedStays =
     → frameAnswer readings table identity command bytes .outcome ≡ Outcome.Refused number
     → Stays readings table (frameAnswer readings table identity command bytes)
 
--- 4. The table afterwards is what a complete, valid Set makes of it, whatever else the frame is; and it stays allowed.
+-- 3. The table afterwards is what a complete, valid Set makes of it, whatever else the frame is; and it stays allowed.
 abbrev pub AnswerMakes : Type 0
 AnswerMakes =
     (readings : Readings) (table : Table) (identity : Identity) (command : ℕ) (bytes : List ℕ)
@@ -57,13 +49,13 @@ MakesKeepsAllowed =
     (table : Table) (command : ℕ) (bytes : List ℕ) → length (table .numbers) ≡ count
     → (allowed table ≡ true → allowed (makes table command bytes) ≡ true) × (length (makes table command bytes .numbers) ≡ count)
 
--- 5. A good Get answers the number now held.
+-- 4. A good Get answers the number now held.
 abbrev pub GetAnswersHeld : Type 0
 GetAnswersHeld =
     (readings : Readings) (table : Table) (identity : Identity) (k : ℕ) → k < count
     → frameAnswer readings table identity getCode (said (idAt k) 0 []) ≡ staying readings table Outcome.Answered (sent getCode (said (idAt k) 0 (little (widthAt k) (numberAt table k))))
 
--- 6. A good Set answers what it stored and stores what it answered, that setting alone; one that is not allowed stores nothing, and answers
+-- 5. A good Set answers what it stored and stores what it answered, that setting alone; one that is not allowed stores nothing, and answers
 -- flag 04 and the nearest allowed number.
 abbrev pub SetStoresIt : Type 0
 SetStoresIt =

@@ -1,5 +1,4 @@
--- Document 01: who a board is, what it reads out, and what it answers to a whole frame. Read them in this order.
-pub mod Parts
+-- Document 01: what a board reads out, and what it answers to a whole frame. Read them in this order; who it is stands in `who`.
 pub mod Values
 pub mod Answers
 pub mod Requests

@@ -5,9 +5,9 @@ use mathlib.Core.List.{List, [], _∷_, _++_}
 use mathlib.Core.Option.{Option, none, some}
 use lib.Dec.{eqb, ltb}
 use Rattle.wire.specs.Numbers.{little, complement}
-use Rattle.answers.specs.Parts.{mostSerial, serialOf}
-use Rattle.answers.specs.declared.Identity.{Identity}
-use Rattle.answers.specs.declared.Readings.{Readings}
+use Rattle.who.specs.Parts.{mostSerial, serialOf}
+use Rattle.who.specs.declared.Identity.{Identity}
+use Rattle.who.specs.declared.Readings.{Readings}
 
 -- "0100: four bytes 00, product low, product high, FF"
 abbrev pub productValue : Identity → List ℕ

@@ -2,13 +2,11 @@
 ghost use mathlib.Core.Path.{_≡_};
 ghost use mathlib.Core.Bool.{true};
 ghost use Prim.Native.Nat.{_≤_};
-ghost use Rattle.answers.specs.Parts.{identityAllowed};
+ghost use Rattle.who.specs.Parts.{identityAllowed};
 ghost use Rattle.answers.specs.Answers as answers;
 ghost use Rattle.answers.specs.AsHeld.{decidedOf, replying, saidOf};
 use crate::Decided;
-use crate::Identity;
 use crate::Outcome;
-use crate::Readings;
 use crate::Reply;
 use crate::Sends;
 use crate::gets;
@@ -18,6 +16,8 @@ use crate::sets;
 use crate::values;
 use crate::values::Value;
 use settings::Table;
+use who::Identity;
+use who::Readings;
 
 // A reply is sent.
 pub(crate) fn sends(readings: Readings, table: Table, outcome: Outcome, reply: Reply) -> Decided

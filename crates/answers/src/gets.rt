@@ -1,14 +1,12 @@
 // A Get: the value that an id stands for.
 ghost use mathlib.Core.Path.{_≡_};
 ghost use mathlib.Core.Bool.{true};
-ghost use Rattle.answers.specs.Parts.{identityAllowed};
+ghost use Rattle.who.specs.Parts.{identityAllowed};
 ghost use Rattle.answers.specs.Values.{readOnly};
 ghost use Rattle.answers.specs.Answers as answers;
 ghost use Rattle.answers.specs.AsHeld.{decidedOf, valueOf, Settled};
 use crate::Decided;
-use crate::Identity;
 use crate::Outcome;
-use crate::Readings;
 use crate::decisions;
 use crate::numbers;
 use crate::values;
@@ -16,6 +14,8 @@ use crate::values::Value;
 use settings::Found;
 use settings::Setting;
 use settings::Table;
+use who::Identity;
+use who::Readings;
 
 // The number that a setting holds, in its width.
 pub(crate) fn held(table: Table, setting: Setting) -> Value

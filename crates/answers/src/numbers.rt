@@ -1,11 +1,7 @@
 // The numbers that document 01 fixes for a board's answers.
 
-// A serial has at most 32 bytes of 0x20..0x7E.
+// A serial has at most 32 bytes, and so has every read-only value.
 pub(crate) const MOST_SERIAL: usize = 32;
-
-pub(crate) const FIRST_PRINTED: u8 = 0x20;
-
-pub(crate) const LAST_PRINTED: u8 = 0x7E;
 
 // The data of a frame.
 pub(crate) const MOST_DATA: usize = 35;

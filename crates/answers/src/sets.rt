@@ -1,14 +1,12 @@
 // A Set: the table decides.
 ghost use mathlib.Core.Path.{_≡_};
 ghost use mathlib.Core.Bool.{true};
-ghost use Rattle.answers.specs.Parts.{identityAllowed};
+ghost use Rattle.who.specs.Parts.{identityAllowed};
 ghost use Rattle.answers.specs.Values.{readOnly};
 ghost use Rattle.answers.specs.Answers as answers;
 ghost use Rattle.answers.specs.AsHeld.{decidedOf, Settled};
 use crate::Decided;
-use crate::Identity;
 use crate::Outcome;
-use crate::Readings;
 use crate::decisions;
 use crate::gets;
 use crate::numbers;
@@ -17,6 +15,8 @@ use settings::Answer;
 use settings::Found;
 use settings::Setting;
 use settings::Table;
+use who::Identity;
+use who::Readings;
 
 // What the table made of a number, answered.
 fn stored(

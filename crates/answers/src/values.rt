@@ -5,14 +5,14 @@ ghost use mathlib.Core.List.{[]};
 ghost use mathlib.Core.Option.{none};
 ghost use Prim.Native.Nat.{_≤_};
 ghost use lib.ListN.{length};
-ghost use Rattle.answers.specs.Parts.{identityAllowed};
+ghost use Rattle.who.specs.Parts.{identityAllowed};
 ghost use Rattle.wire.specs.Numbers.{little, fromLittle, complement};
 ghost use Rattle.answers.specs.Values.{productValue, serialValue, readOnly};
 ghost use Rattle.answers.specs.AsHeld.{valueOf, lookedOf};
-use crate::Identity;
-use crate::Readings;
 use crate::numbers;
 use crate::numbers::MOST_SERIAL;
+use who::Identity;
+use who::Readings;
 
 // A value of up to 32 bytes, at the front of the array.
 pub(crate) struct Value {

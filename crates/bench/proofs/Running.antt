@@ -16,8 +16,8 @@ use mir.Syntax.{w64}
 use Rattle.laws.specs.Promise.{Given, Gives, overlaid}
 use Rattle.laws.proofs.Lists.{drop-turn, sets-append, part-to-end}
 use Rattle.laws.proofs.Promise.{overlaid-sets}
-use Rattle.wire.specs.Calls.{unfinished}
-use Rattle.wire.proofs.Streams.{taken-within}
+use Rattle.stream.specs.Calls.{unfinished}
+use Rattle.stream.proofs.Streams.{taken-within}
 use Rattle.settings.specs.Columns.{factory}
 use Rattle.board.specs.Parts.{boardAllowed}
 use Rattle.board.specs.Calls.{starting, storing, decidedBy, heardBy, answering}

@@ -12,14 +12,14 @@ use lib.Dec.{ltb}
 use Rattle.laws.specs.Promise.{Given, Gives, overlaid}
 use Rattle.laws.proofs.Lists.{take-min, drop-turn}
 use Rattle.wire.specs.Reading.{Ended, good, refused}
-use Rattle.wire.specs.Stream.{Unfinished, outside, taken, framesFrom}
-use Rattle.wire.specs.Calls.{allowed, heldOf, unfinished, heardOf, unheard, hearing, eventOf, dataOfFirst}
-use Rattle.wire.specs.Laws.{frameIn, hears}
-use Rattle.wire.specs.declared.Event.{Event}
-use Rattle.wire.specs.declared.Held.{Held}
-use Rattle.wire.specs.declared.Heard.{Heard}
-use Rattle.wire.proofs.Answers.{hearing-short, hearing-stray, hearing-heard}
-use Rattle.wire.proofs.Streams.{taken-within}
+use Rattle.stream.specs.Stream.{Unfinished, outside, taken, framesFrom}
+use Rattle.stream.specs.Calls.{allowed, heldOf, unfinished, heardOf, unheard, hearing, eventOf, dataOfFirst}
+use Rattle.stream.specs.Laws.{frameIn, hears}
+use Rattle.stream.specs.declared.Event.{Event}
+use Rattle.stream.specs.declared.Held.{Held}
+use Rattle.stream.specs.declared.Heard.{Heard}
+use Rattle.stream.proofs.Answers.{hearing-short, hearing-stray, hearing-heard}
+use Rattle.stream.proofs.Streams.{taken-within}
 use Rattle.bench.specs.Calls.{goodIn, goodOnes, laidOver, Streamed, streaming}
 
 -- a piece of so many bytes, or of what is left, is the first so many of them

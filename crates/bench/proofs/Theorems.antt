@@ -10,12 +10,12 @@ use Rattle.laws.specs.Lists.{every}
 use Rattle.laws.specs.Cutting.{Offer, calls, ready}
 use Rattle.laws.proofs.Bools.{and-left, and-right, both}
 use Rattle.wire.specs.Frame.{mostData}
-use Rattle.wire.specs.Stream.{outside}
-use Rattle.wire.specs.Calls.{heldOf}
-use Rattle.wire.proofs.Theorems as wire
+use Rattle.stream.specs.Stream.{outside}
+use Rattle.stream.specs.Calls.{heldOf}
+use Rattle.stream.proofs.Theorems as stream
 use Rattle.settings.specs.Columns.{factory}
 use Rattle.settings.specs.Rules.{allowed}
-use Rattle.answers.specs.Parts.{serialFits}
+use Rattle.who.specs.Parts.{serialFits}
 use Rattle.board.specs.Parts.{freshBoard, sampleFits, boardAllowed}
 use Rattle.board.specs.Calls.{refusedStart, starting, storing, answering}
 use Rattle.board.specs.declared.Board.{Board}
@@ -32,7 +32,7 @@ use Rattle.bench.proofs.Told.{replies-append, call-told}
 pub stream-is-counted : StreamIsCounted
 unfolding streaming
 stream-is-counted bytes sizes room =
-    let cut = wire.any-cutting [] bytes (offers sizes room) in
+    let cut = stream.any-cutting [] bytes (offers sizes room) in
     record { within = cut .within; frames-are = cut .events-are; count-is = ap goodOnes (cut .events-are) }
 
 offers-ready : (sizes : List ℕ) (room : ℕ) → every (λ size. leb 1 size) sizes ≡ true → leb mostData room ≡ true → ready (λ r. leb mostData r) (offers sizes room) ≡ true
@@ -47,7 +47,7 @@ offers-many (size ∷ more) room = ap suc (offers-many more room)
 pub stream-reads-all : StreamReadsAll
 unfolding streaming
 stream-reads-all bytes sizes room some enough many =
-    ap (λ s. s .events) (wire.all-is-taken [] bytes (offers sizes room) (offers-ready sizes room some (le-leb mostData room enough)) (rw (offers-many sizes room) many))
+    ap (λ s. s .events) (stream.all-is-taken [] bytes (offers sizes room) (offers-ready sizes room some (le-leb mostData room enough)) (rw (offers-many sizes room) many))
 
 -- the board: the row of calls that is made, with what is left of the room
 abbrev offersFor : Board → List ℕ → List ℕ → ℕ → List (Offer ℕ)

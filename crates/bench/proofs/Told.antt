@@ -13,8 +13,8 @@ use Rattle.wire.specs.Digits.{isDigit}
 use Rattle.wire.specs.Frame.{colon, newline}
 use Rattle.wire.specs.Numbers.{little, fromLittle}
 use Rattle.wire.specs.Reading.{Ended, good, refused, badCount, sumsUp, bodySays, brokenSays}
-use Rattle.wire.specs.Stream.{Unfinished, outside, inside, next, endedBy, framesFrom, taken}
-use Rattle.wire.specs.Calls.{unfinished}
+use Rattle.stream.specs.Stream.{Unfinished, outside, inside, next, endedBy, framesFrom, taken}
+use Rattle.stream.specs.Calls.{unfinished}
 use Rattle.settings.specs.Columns.{count}
 use Rattle.settings.specs.Rules.{allowed, allowedFor, partnerNumber, changed, nearestOf}
 use Rattle.settings.specs.Calls.{finding, setTo}
@@ -26,8 +26,8 @@ use Rattle.settings.proofs.Theorems.{found-has-id}
 use Rattle.answers.specs.Answers as answers
 use Rattle.answers.specs.Answers.{Sent, sent, error, Decision, staying, frameAnswer}
 use Rattle.answers.specs.Values.{readOnly}
-use Rattle.answers.specs.declared.Identity.{Identity}
-use Rattle.answers.specs.declared.Readings.{Readings}
+use Rattle.who.specs.declared.Identity.{Identity}
+use Rattle.who.specs.declared.Readings.{Readings}
 use Rattle.answers.specs.declared.Outcome.{Outcome}
 use Rattle.board.specs.Parts.{boardAllowed}
 use Rattle.board.specs.Calls.{replyBytes, endedIn, deciding, decidedBy, heardBy, answering}

@@ -6,9 +6,9 @@ use lib.ListN.{length, take, drop}
 use Rattle.laws.specs.Promise.{overlaid}
 use Rattle.laws.specs.Cutting.{Offer, calls}
 use Rattle.wire.specs.Reading.{Ended, good, refused}
-use Rattle.wire.specs.Laws.{hears}
-use Rattle.wire.specs.declared.Event.{Event}
-use Rattle.wire.specs.declared.Held.{Held}
+use Rattle.stream.specs.Laws.{hears}
+use Rattle.stream.specs.declared.Event.{Event}
+use Rattle.stream.specs.declared.Held.{Held}
 use Rattle.settings.specs.Columns.{factory}
 use Rattle.board.specs.Calls.{starting, storing, answering}
 use Rattle.board.specs.declared.Board.{Board}

@@ -10,9 +10,9 @@ use Rattle.laws.specs.Lists.{every}
 use Rattle.laws.specs.Cutting.{calls}
 use Rattle.wire.specs.Frame.{mostData}
 use Rattle.wire.specs.Reading.{Ended}
-use Rattle.wire.specs.Stream.{outside, framesOf}
-use Rattle.wire.specs.Calls.{heldOf}
-use Rattle.wire.specs.Laws.{hears}
+use Rattle.stream.specs.Stream.{outside, framesOf}
+use Rattle.stream.specs.Calls.{heldOf}
+use Rattle.stream.specs.Laws.{hears}
 use Rattle.board.specs.declared.Board.{Board}
 use Rattle.board.specs.declared.Sample.{Sample}
 use Rattle.demands.specs.Talk.{saidToAll}

@@ -4,14 +4,14 @@ ghost use Prim.Native.Nat.{ℕ, min};
 ghost use mathlib.Core.Path.{_≡_};
 ghost use lib.ListN.{length};
 ghost use Rattle.laws.specs.Promise.{Gives};
-ghost use Rattle.wire.specs.Calls.{heldOf};
-ghost use Rattle.wire.specs.Stream.{outside};
+ghost use Rattle.stream.specs.Calls.{heldOf};
+ghost use Rattle.stream.specs.Stream.{outside};
 ghost use Rattle.board.specs.AsHeld.{whole};
 ghost use Rattle.bench.specs.Calls.{goodIn, Streamed, streaming, begunBoard, running};
 use board::Board;
 use board::Sample;
-use wire::Event;
-use wire::Held;
+use stream::Event;
+use stream::Held;
 
 // Reads `bytes` from outside a frame in as many calls as there are sizes, each handed at most so many of the bytes not taken yet; `into`
 // is lent to every call. Answers the number of frames read well.

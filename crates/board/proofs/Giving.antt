@@ -9,16 +9,16 @@ use lib.Seq.{take-length}
 use lib.IntN.{pos}
 use Rattle.laws.specs.Promise.{Given}
 use Rattle.laws.proofs.Bools.{both}
-use Rattle.wire.specs.Stream.{outside, framesOf, leftBy}
-use Rattle.wire.specs.Calls as wire
-use Rattle.wire.proofs.Reached.{left-quietly, unfinished-kept}
-use Rattle.wire.proofs.Streams.{quiet-all}
+use Rattle.stream.specs.Stream.{outside, framesOf, leftBy}
+use Rattle.stream.specs.Calls as stream
+use Rattle.stream.proofs.Reached.{left-quietly, unfinished-kept}
+use Rattle.stream.proofs.Streams.{quiet-all}
 use Rattle.settings.specs.Columns.{count}
 use Rattle.settings.specs.Rules.{allowed}
 use Rattle.settings.specs.declared.Table.{Table}
-use Rattle.answers.specs.Parts.{serialFits, serialOf}
-use Rattle.answers.specs.declared.Identity.{Identity}
-use Rattle.answers.proofs.Serials.{identity-back, serial-fits-back}
+use Rattle.who.specs.Parts.{serialFits, serialOf}
+use Rattle.who.specs.declared.Identity.{Identity}
+use Rattle.who.proofs.Serials.{identity-back, serial-fits-back}
 use Rattle.board.specs.Parts.{freshBoard, sampleFits, readingsOf, boardAllowed}
 use Rattle.board.specs.Calls.{refusedStart, starting, storing, endedIn, deciding, decidedBy, heardBy, answering}
 use Rattle.board.specs.Laws.{Given-by, a-start, a-store, a-call, Typed, AllowedIsGiven}
@@ -77,7 +77,7 @@ sampleOf board =
 
 -- a board at rest, but else the same
 abbrev resting : Board → Board
-resting board = record { identity = board .identity; table = board .table; readings = board .readings; held = wire.heldOf outside }
+resting board = record { identity = board .identity; table = board .table; readings = board .readings; held = stream.heldOf outside }
 
 module _ (board : Board) (typed : Typed board) (ok : boardAllowed board ≡ true) where
   started-is : starting (board .identity .product) (board .identity .version) (serialOf (board .identity)) (board .table) .board ≡ freshBoard (board .identity) (board .table)
@@ -104,10 +104,10 @@ module _ (board : Board) (typed : Typed board) (ok : boardAllowed board ≡ true
   given-store : Given-by (resting board)
   given-store = subst Given-by stored-is (a-store (sampleOf board) given-start)
 
-  at-rest : wire.unfinished (wire.heldOf outside) ≡ outside
+  at-rest : stream.unfinished (stream.heldOf outside) ≡ outside
   at-rest = unfinished-kept outside
 
-  heard-is : (bytes : List ℕ) → wire.heldOf (leftBy bytes) ≡ board .held → framesOf bytes ≡ [] → heardBy (resting board) bytes .answer .board ≡ board
+  heard-is : (bytes : List ℕ) → stream.heldOf (leftBy bytes) ≡ board .held → framesOf bytes ≡ [] → heardBy (resting board) bytes .answer .board ≡ board
   unfolding heardBy decidedBy deciding
   heard-is bytes e quiet = rw (at-rest, quiet-all outside bytes quiet, take-length, quiet, e)
 

@@ -10,9 +10,9 @@ use lib.Dec.{ltb}
 use Rattle.laws.specs.Promise.{Given}
 use Rattle.laws.proofs.Bools.{both}
 use Rattle.wire.specs.Reading.{Ended, good, refused}
-use Rattle.wire.specs.Stream.{taken}
-use Rattle.wire.specs.Calls as wire
-use Rattle.wire.proofs.Reached.{heard-allowed}
+use Rattle.stream.specs.Stream.{taken}
+use Rattle.stream.specs.Calls as stream
+use Rattle.stream.proofs.Reached.{heard-allowed}
 use Rattle.settings.specs.Columns.{count}
 use Rattle.settings.specs.Rules.{allowed}
 use Rattle.answers.specs.Laws.{Stays}
@@ -56,7 +56,7 @@ heard-board-allowed : (board : Board) (piece : List ℕ) → length (board .tabl
     → boardAllowed (heardBy board piece .answer .board) ≡ true
 unfolding boardAllowed heardBy decidedBy
 heard-board-allowed board piece long ok =
-    let u = wire.unfinished (board .held) in
+    let u = stream.unfinished (board .held) in
     both _ _ (both _ _ (identity-allowed board ok) (decided-allowed board long (table-allowed board ok) (endedIn board piece)))
     (heard-allowed (board .held) (held-allowed board ok) (take (taken u piece) piece))
 

@@ -1,25 +1,26 @@
 -- A piece of input heard by a board, by what happened on its line. Assumes nothing.
 use mathlib.Core.Path.{_≡_, refl, sym, ap, subst, _∙_}
-use mathlib.Core.Bool.{true, false, _&&_}
+use mathlib.Core.Bool.{Bool, true, false, _&&_, false≢true}
 use mathlib.Core.List.{List, [], _∷_}
 use Prim.Native.Nat.{ℕ, _≤_, _<_}
 use native.Mathlib.Omega.{arith}
-use borrow.Author.Tests.{leb-true, lt-ltb, le-ltb}
+use borrow.Author.Tests.{leb-true, lt-ltb, le-ltb, eqb-true}
 use lib.ListN.{length, take}
+use lib.Dec.{eqb}
 use Rattle.laws.specs.Promise.{Given, Gives, overlaid}
 use Rattle.laws.proofs.Promise.{gives-none}
-use Rattle.laws.proofs.Bools.{and-left, and-right}
+use Rattle.laws.proofs.Bools.{and-left, and-right, both}
 use Rattle.wire.specs.Reading.{Ended, good, refused}
-use Rattle.wire.specs.Stream.{taken}
-use Rattle.wire.specs.Calls as wire
-use Rattle.wire.specs.Laws.{Writables, whole}
-use Rattle.wire.specs.declared.Event.{Event}
-use Rattle.wire.specs.declared.Held.{Held}
-use Rattle.wire.specs.declared.Heard.{Heard}
-use Rattle.wire.proofs.Answers.{hearing-heard}
-use Rattle.wire.proofs.Theorems.{heard-is-writable}
+use Rattle.stream.specs.Stream.{taken}
+use Rattle.stream.specs.Calls as stream
+use Rattle.stream.specs.Laws.{Writables, whole}
+use Rattle.stream.specs.declared.Event.{Event}
+use Rattle.stream.specs.declared.Held.{Held}
+use Rattle.stream.specs.declared.Heard.{Heard}
+use Rattle.stream.proofs.Answers.{hearing-stray, hearing-heard}
+use Rattle.stream.proofs.Theorems.{heard-is-writable, refused-is-small}
 use Rattle.settings.specs.Rules.{allowed}
-use Rattle.answers.specs.Parts.{identityAllowed}
+use Rattle.who.specs.Parts.{identityAllowed}
 use Rattle.answers.specs.Answers.{silent, error, staying, frameAnswer}
 use Rattle.answers.specs.declared.Outcome.{Outcome}
 use Rattle.board.specs.Parts.{boardAllowed}
@@ -35,16 +36,13 @@ module _ (board : Board) (ok : boardAllowed board ≡ true) where
   unfolding boardAllowed
   two-allowed = and-left (identityAllowed (board .identity) && allowed (board .table)) _ ok
 
-  pub parts-allowed : (identityAllowed (board .identity) && allowed (board .table)) ≡ true
-  parts-allowed = two-allowed
-
   pub identity-allowed : identityAllowed (board .identity) ≡ true
   identity-allowed = and-left (identityAllowed (board .identity)) _ two-allowed
 
   pub table-allowed : allowed (board .table) ≡ true
   table-allowed = and-right (identityAllowed (board .identity)) _ two-allowed
 
-  pub held-allowed : wire.allowed (board .held) ≡ true
+  pub held-allowed : stream.allowed (board .held) ≡ true
   unfolding boardAllowed
   held-allowed = and-right (identityAllowed (board .identity) && allowed (board .table)) _ ok
 
@@ -54,13 +52,13 @@ moved board held = record { identity = board .identity; table = board .table; re
 
 -- what a board decides, by what happened
 module _ (board : Board) where
-  event-nothing : (fs : List Ended) → wire.eventOf fs ≡ Event.Nothing → deciding board fs ≡ staying (board .readings) (board .table) Outcome.Nothing silent
+  event-nothing : (fs : List Ended) → stream.eventOf fs ≡ Event.Nothing → deciding board fs ≡ staying (board .readings) (board .table) Outcome.Nothing silent
   unfolding deciding
   event-nothing [] e = refl
   event-nothing (good command bytes ∷ rest) e = let z : _≡_ {A = ℕ} 0 1 = cc in absurd (omega arith)
   event-nothing (refused number ∷ rest) e = let z : _≡_ {A = ℕ} 0 1 = cc in absurd (omega arith)
 
-  event-refused : (fs : List Ended) (n : ℕ) → wire.eventOf fs ≡ Event.Refused n
+  event-refused : (fs : List Ended) (n : ℕ) → stream.eventOf fs ≡ Event.Refused n
       → deciding board fs ≡ staying (board .readings) (board .table) (Outcome.Refused n) error
   unfolding deciding
   event-refused [] n e = let z : _≡_ {A = ℕ} 0 1 = cc in absurd (omega arith)
@@ -69,11 +67,11 @@ module _ (board : Board) where
       let is : number ≡ n = cc in ap (λ (m : ℕ). staying (board .readings) (board .table) (Outcome.Refused m) error) is
 
   record Whole (fs : List Ended) (command len : ℕ) : Type 0 where
-    decides : deciding board fs ≡ frameAnswer (board .readings) (board .table) (board .identity) command (wire.dataOfFirst fs)
-    count : length (wire.dataOfFirst fs) ≡ len
+    decides : deciding board fs ≡ frameAnswer (board .readings) (board .table) (board .identity) command (stream.dataOfFirst fs)
+    count : length (stream.dataOfFirst fs) ≡ len
     few : len ≤ 35
 
-  event-frame : (fs : List Ended) → Writables fs → (command len : ℕ) → wire.eventOf fs ≡ Event.Frame command len → Whole fs command len
+  event-frame : (fs : List Ended) → Writables fs → (command len : ℕ) → stream.eventOf fs ≡ Event.Frame command len → Whole fs command len
   unfolding deciding
   event-frame [] w command len e = let z : _≡_ {A = ℕ} 0 1 = cc in absurd (omega arith)
   event-frame (refused number ∷ rest) w command len e = let z : _≡_ {A = ℕ} 0 1 = cc in absurd (omega arith)
@@ -87,15 +85,15 @@ module _ (board : Board) where
       }
 
 -- a piece heard by an allowed board
-module _ (board : Board) (piece : List ℕ) (ok : boardAllowed board ≡ true) {h : Heard} (is : h ≡ wire.hearing (board .held) piece 35 .answer) where
-  heard-as : wire.hearing (board .held) piece 35 ≡ wire.heardOf (wire.unfinished (board .held)) piece
+module _ (board : Board) (piece : List ℕ) (ok : boardAllowed board ≡ true) {h : Heard} (is : h ≡ stream.hearing (board .held) piece 35 .answer) where
+  heard-as : stream.hearing (board .held) piece 35 ≡ stream.heardOf (stream.unfinished (board .held)) piece
   heard-as = hearing-heard (board .held) piece 35 (leb-true 35 35 refl) (held-allowed board ok)
 
   heard-by : heardBy board piece ≡ decidedBy board (h .held) (deciding board (endedIn board piece)) (h .taken)
   unfolding heardBy
   heard-by = rw (is, heard-as)
 
-  event-is : wire.eventOf (endedIn board piece) ≡ h .event
+  event-is : stream.eventOf (endedIn board piece) ≡ h .event
   event-is = rw (is, heard-as)
 
   pub heard-nothing : h .event ≡ Event.Nothing → {buffer : List ℕ}
@@ -112,27 +110,78 @@ module _ (board : Board) (piece : List ℕ) (ok : boardAllowed board ≡ true) {
 
   module _ (command len : ℕ) (e : h .event ≡ Event.Frame command len) where
     framed-whole : Whole board (endedIn board piece) command len
-    framed-whole = event-frame board (endedIn board piece) (heard-is-writable (wire.unfinished (board .held)) (take (taken (wire.unfinished (board .held)) piece) piece)) command len (event-is ∙ e)
+    framed-whole = event-frame board (endedIn board piece) (heard-is-writable (stream.unfinished (board .held)) (take (taken (stream.unfinished (board .held)) piece) piece)) command len (event-is ∙ e)
 
     pub framed-few : len ≤ 35
     framed-few = framed-whole .few
 
-    frame-is : (buffer : List ℕ) {bytes : List ℕ} → bytes ≡ overlaid (wire.hearing (board .held) piece 35 .written) buffer
+    frame-is : (buffer : List ℕ) {bytes : List ℕ} → bytes ≡ overlaid (stream.hearing (board .held) piece 35 .written) buffer
         → decidedBy (moved board (h .held)) (h .held) (frameAnswer (board .readings) (board .table) (board .identity) command (take len bytes)) (h .taken)
         ≡ heardBy board piece
     unfolding decidedBy
     frame-is buffer {bytes} filled =
-        let written : wire.hearing (board .held) piece 35 .written ≡ wire.dataOfFirst (endedIn board piece) = rw heard-as in
-        let front : take len bytes ≡ wire.dataOfFirst (endedIn board piece) =
-        rw (filled, written, sym (framed-whole .count)) (front-back (wire.dataOfFirst (endedIn board piece)) buffer) in
+        let written : stream.hearing (board .held) piece 35 .written ≡ stream.dataOfFirst (endedIn board piece) = rw heard-as in
+        let front : take len bytes ≡ stream.dataOfFirst (endedIn board piece) =
+        rw (filled, written, sym (framed-whole .count)) (front-back (stream.dataOfFirst (endedIn board piece)) buffer) in
         sym (heard-by ∙ rw (framed-whole .decides, front))
 
-    pub heard-frame : (buffer : List ℕ) {bytes : List ℕ} → bytes ≡ overlaid (wire.hearing (board .held) piece 35 .written) buffer → {out after : List ℕ} {r : Answered}
+    pub heard-frame : (buffer : List ℕ) {bytes : List ℕ} → bytes ≡ overlaid (stream.hearing (board .held) piece 35 .written) buffer → {out after : List ℕ} {r : Answered}
         → Gives Answered
         (decidedBy (moved board (h .held)) (h .held) (frameAnswer (board .readings) (board .table) (board .identity) command (take len bytes)) (h .taken))
         out r after
         → Gives Answered (heardBy board piece) out r after
     heard-frame buffer filled {out} {after} {r} g = subst (λ (given : Given Answered). Gives Answered given out r after) (frame-is buffer filled) g
+
+-- The same where only identity and settings are known to be allowed: the line tells whether the held frame is, by refusing 12.
+abbrev strays : Event → Bool
+strays Event.Nothing = false
+strays (Event.Frame command len) = false
+strays (Event.Refused number) = eqb number 12
+
+module _ (board : Board) (piece : List ℕ) (fit : (identityAllowed (board .identity) && allowed (board .table)) ≡ true)
+    {h : Heard} (is : h ≡ stream.hearing (board .held) piece 35 .answer) where
+  stray-is : stream.allowed (board .held) ≡ false → h ≡ stream.unheard (board .held) 12 .answer
+  stray-is e = is ∙ ap (λ (g : Given Heard). g .answer) (hearing-stray (board .held) piece 35 (leb-true 35 35 refl) e)
+
+  not-stray : strays (h .event) ≡ false → stream.allowed (board .held) ≡ true
+  not-stray e = by (stream.allowed (board .held)) refl
+    where
+      by : (t : Bool) → stream.allowed (board .held) ≡ t → stream.allowed (board .held) ≡ true
+      by true p = p
+      by false p = absurd (false≢true (sym (rw (stray-is p) at e)))
+
+  is-stray : (n : ℕ) → h .event ≡ Event.Refused n → n ≡ 12 → stream.allowed (board .held) ≡ false
+  is-stray n e twelve = by (stream.allowed (board .held)) refl
+    where
+      by : (t : Bool) → stream.allowed (board .held) ≡ t → stream.allowed (board .held) ≡ false
+      by false p = p
+      by true p = let small : n ≤ 4 = refused-is-small (board .held) piece 35 n p (leb-true 35 35 refl) (rw is at e) in absurd (omega arith)
+
+  module _ (e : strays (h .event) ≡ false) where
+    all-allowed : boardAllowed board ≡ true
+    unfolding boardAllowed
+    all-allowed = both _ _ fit (not-stray e)
+
+    pub whole-few : (command len : ℕ) → h .event ≡ Event.Frame command len → len ≤ 35
+    whole-few command len f = framed-few board piece all-allowed is command len f
+
+    pub if-heard : {buffer after : List ℕ} {r : Answered} → (boardAllowed board ≡ true → Gives Answered (heardBy board piece) buffer r after)
+        → Gives Answered (held.heardIfHeld board piece) buffer r after
+    unfolding held.heardIfHeld
+    if-heard g = rw (not-stray e) (g all-allowed)
+
+  pub if-refused : (n : ℕ) → h .event ≡ Event.Refused n → {buffer after : List ℕ} {len : ℕ} → Gives ℕ (held.whole (held.faultBytes n)) buffer len after
+      → Gives Answered (held.heardIfHeld board piece) buffer (record { board = moved board (h .held); outcome = Outcome.Refused n; len = len; taken = h .taken }) after
+  unfolding held.heardIfHeld held.faultBytes
+  if-refused n e {buffer} {after} {len} g = by (eqb n 12) refl
+    where
+      by : (t : Bool) → eqb n 12 ≡ t → Gives Answered (held.heardIfHeld board piece) buffer (record { board = moved board (h .held); outcome = Outcome.Refused n; len = len; taken = h .taken }) after
+      by true p =
+          let twelve : n ≡ 12 = eqb-true n 12 p in
+          let stray = is-stray n e twelve in
+          let none : Gives ℕ (held.whole []) buffer len after = rw p at g in
+          rw (stray, stray-is stray, twelve) (record { answered = rw (none .answered); left = none .left })
+      by false p = if-heard (rw (e, p)) (λ ok. heard-refused board piece ok is n e (rw p at g))
 
 -- the call, by its refusals
 module _ (board : Board) (piece : List ℕ) (room : ℕ) where
@@ -147,3 +196,15 @@ module _ (board : Board) (piece : List ℕ) (room : ℕ) where
   pub answering-heard : 75 ≤ room → boardAllowed board ≡ true → answering board piece room ≡ heardBy board piece
   unfolding answering
   answering-heard h e = rw (le-ltb room 75 h, e)
+
+  pub answering-unfit : 75 ≤ room → (identityAllowed (board .identity) && allowed (board .table)) ≡ false → answering board piece room ≡ unanswered board 12
+  unfolding boardAllowed
+  answering-unfit h e = answering-stray h (rw e)
+
+  pub answering-fit : 75 ≤ room → (identityAllowed (board .identity) && allowed (board .table)) ≡ true → answering board piece room ≡ held.heardIfHeld board piece
+  unfolding boardAllowed held.heardIfHeld
+  answering-fit h e = by (stream.allowed (board .held)) refl
+    where
+      by : (t : Bool) → stream.allowed (board .held) ≡ t → answering board piece room ≡ held.heardIfHeld board piece
+      by true p = rw p (answering-heard h (rw (e, p)))
+      by false p = rw p (answering-stray h (rw (e, p)))

@@ -10,12 +10,13 @@ use lib.Seq.{take-length}
 use Rattle.wire.specs.Digits.{digit}
 use Rattle.wire.specs.Frame.{check, body, frame}
 use Rattle.wire.specs.Reading.{Ended, good, refused}
-use Rattle.wire.specs.Stream.{outside, framesOf, leftBy, taken}
-use Rattle.wire.specs.Calls as wire
-use Rattle.wire.specs.Laws.{Writable, Writables, nothing, whole}
+use Rattle.stream.specs.Stream.{outside, framesOf, leftBy, taken}
+use Rattle.stream.specs.Calls as stream
+use Rattle.wire.specs.Laws.{Writable}
+use Rattle.stream.specs.Laws.{Writables, nothing, whole}
 use Rattle.wire.proofs.Frames.{length-frame}
-use Rattle.wire.proofs.Reached.{unfinished-kept}
-use Rattle.wire.proofs.Theorems.{written-is-heard, heard-is-writable}
+use Rattle.stream.proofs.Reached.{unfinished-kept}
+use Rattle.stream.proofs.Theorems.{written-is-heard, heard-is-writable}
 use Rattle.settings.specs.Columns.{count, idAt, widthAt}
 use Rattle.settings.proofs.Theorems.{rows-hold}
 use Rattle.wire.specs.Numbers.{little}
@@ -74,7 +75,7 @@ decided-fits board ok (refused number ∷ rest) w = an-error
 heard-readable : (board : Board) (piece : List ℕ) → boardAllowed board ≡ true → Readable (deciding board (endedIn board piece) .reply) (heardBy board piece .written)
 unfolding heardBy decidedBy
 heard-readable board piece ok =
-    let u = wire.unfinished (board .held) in
+    let u = stream.unfinished (board .held) in
     readable _ (decided-fits board ok (endedIn board piece) (heard-is-writable u (take (taken u piece) piece)))
 
 pub reply-read : ReplyIsRead
@@ -82,8 +83,8 @@ reply-read board piece room ok h = rw (answering-heard board piece room h ok) (h
 
 -- a whole frame at a board that is at rest
 module _ (board : Board) (command : ℕ) (bytes : List ℕ) (rest : atRest board) (w : Writable command bytes) where
-  at-outside : wire.unfinished (board .held) ≡ outside
-  at-outside = ap wire.unfinished rest ∙ unfinished-kept outside
+  at-outside : stream.unfinished (board .held) ≡ outside
+  at-outside = ap stream.unfinished rest ∙ unfinished-kept outside
 
   whole-heard : heardBy board (frame command bytes)
       ≡ decidedBy board (board .held) (frameAnswer (board .readings) (board .table) (board .identity) command bytes) (length (frame command bytes))

@@ -4,17 +4,17 @@ use mathlib.Core.Bool.{Bool, true, false, _&&_}
 use mathlib.Core.List.{List, []}
 use Prim.Native.Nat.{ℕ}
 use Rattle.laws.proofs.Bools.{and-left, and-right, both}
-use Rattle.wire.proofs.Reached.{left-allowed}
+use Rattle.stream.proofs.Reached.{left-allowed}
 use Rattle.settings.proofs.Theorems.{factory-is-allowed}
 use Rattle.settings.specs.Columns.{factory}
 use Rattle.settings.specs.Rules.{allowed}
 use Rattle.settings.specs.declared.Table.{Table}
-use Rattle.answers.specs.Parts.{serialFits, identityOf, noIdentity, identityAllowed}
-use Rattle.answers.specs.Calls.{notAllowed, naming}
-use Rattle.answers.specs.declared.Identity.{Identity}
-use Rattle.answers.specs.declared.Verdict.{Verdict}
-use Rattle.answers.specs.declared.Named.{Named}
-use Rattle.answers.proofs.Identities.{serial-back, identity-fits, nobody-allowed, named-accepted, named-refused}
+use Rattle.who.specs.Parts.{serialFits, identityOf, noIdentity, identityAllowed}
+use Rattle.who.specs.Calls.{notAllowed, naming}
+use Rattle.who.specs.declared.Identity.{Identity}
+use Rattle.who.specs.declared.Verdict.{Verdict}
+use Rattle.who.specs.declared.Named.{Named}
+use Rattle.who.proofs.Identities.{serial-back, identity-fits, nobody-allowed, named-accepted, named-refused}
 use Rattle.board.specs.Parts.{freshBoard, sampleFits, boardAllowed}
 use Rattle.board.specs.Calls.{refusedStart, starting, storing, withReadings}
 use Rattle.board.specs.Laws.{StartIsAllowed, StartHoldsIt, StoreStores, StoreKeepsAllowed}

@@ -4,10 +4,10 @@ use mathlib.Core.Bool.{Bool, true, false, not}
 use mathlib.Core.List.{[]}
 use borrow.Author.Tests.{leb-true}
 use lib.Seq.{take-nil}
-use Rattle.wire.specs.Calls.{allowed, hearing}
-use Rattle.wire.specs.declared.Held.{Held}
-use Rattle.wire.specs.declared.Event.{Event}
-use Rattle.wire.proofs.Answers.{hearing-stray, hearing-heard}
+use Rattle.stream.specs.Calls.{allowed, hearing}
+use Rattle.stream.specs.declared.Held.{Held}
+use Rattle.stream.specs.declared.Event.{Event}
+use Rattle.stream.proofs.Answers.{hearing-stray, hearing-heard}
 
 abbrev pub refuses : Event → Bool
 refuses Event.Nothing = false

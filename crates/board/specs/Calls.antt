@@ -7,17 +7,18 @@ use lib.Dec.{ltb}
 use Rattle.laws.specs.Promise.{Given}
 use Rattle.wire.specs.Frame.{frame, frameRoom}
 use Rattle.wire.specs.Reading.{Ended, good, refused}
-use Rattle.wire.specs.Stream.{framesFrom, leftFrom, taken}
-use Rattle.wire.specs.Calls.{heldOf, unfinished, shortBuffer}
-use Rattle.wire.specs.declared.Held.{Held}
+use Rattle.stream.specs.Stream.{framesFrom, leftFrom, taken}
+use Rattle.wire.specs.Calls.{shortBuffer}
+use Rattle.stream.specs.Calls.{heldOf, unfinished}
+use Rattle.stream.specs.declared.Held.{Held}
 use Rattle.settings.specs.Columns.{factory}
 use Rattle.settings.specs.Rules.{allowed}
 use Rattle.settings.specs.declared.Table.{Table}
-use Rattle.answers.specs.Parts.{serialFits, identityOf, noIdentity}
+use Rattle.who.specs.Parts.{serialFits, identityOf, noIdentity}
 use Rattle.answers.specs.Answers.{Sent, silent, sent, error, Decision, staying, frameAnswer}
-use Rattle.answers.specs.Calls.{notAllowed}
+use Rattle.who.specs.Calls.{notAllowed}
 use Rattle.answers.specs.declared.Outcome.{Outcome}
-use Rattle.answers.specs.declared.Verdict.{Verdict}
+use Rattle.who.specs.declared.Verdict.{Verdict}
 use Rattle.board.specs.Parts.{freshBoard, sampleFits, readingsOf, boardAllowed}
 use Rattle.board.specs.declared.Board.{Board}
 use Rattle.board.specs.declared.Sample.{Sample}

@@ -10,17 +10,17 @@ use lib.IntN.{pos, negsuc}
 use Rattle.laws.specs.Promise.{Given}
 use Rattle.wire.specs.Frame.{frame, frameRoom}
 use Rattle.wire.specs.Reading.{Ended, good}
-use Rattle.wire.specs.Stream.{outside, framesOf, leftBy}
-use Rattle.wire.specs.Calls.{mostHeld, heldOf}
+use Rattle.stream.specs.Stream.{outside, framesOf, leftBy}
+use Rattle.stream.specs.Calls.{mostHeld, heldOf}
 use Rattle.wire.specs.Laws.{Writable}
 use Rattle.settings.specs.Columns.{count, idAt, widthAt}
 use Rattle.settings.specs.Rules.{allowed, allowedFor, numberAt, partnerNumber, changed, Nearest}
 use Rattle.settings.specs.declared.Table.{Table}
-use Rattle.answers.specs.Parts.{mostSerial, serialFits, serialOf, noReadings}
+use Rattle.who.specs.Parts.{mostSerial, serialFits, serialOf, noReadings}
 use Rattle.wire.specs.Numbers.{little}
 use Rattle.answers.specs.Answers.{Sent, silent, sent, error, said, getCode, setCode, frameAnswer}
 use Rattle.answers.specs.Requests.{getRequest, setRequest}
-use Rattle.answers.specs.declared.Verdict.{Verdict}
+use Rattle.who.specs.declared.Verdict.{Verdict}
 use Rattle.answers.specs.declared.Outcome.{Outcome}
 use Rattle.board.specs.Parts.{within, sampleFits, readingsOf, boardAllowed}
 use Rattle.board.specs.Calls.{starting, storing, endedIn, deciding, decidedBy, answering}

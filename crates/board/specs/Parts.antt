@@ -3,13 +3,13 @@
 use mathlib.Core.Bool.{Bool, _&&_}
 use lib.IntN.{ℤ, pos, negsuc, natAbs}
 use lib.Signed.{leZ}
-use Rattle.wire.specs.Calls as wire
-use Rattle.wire.specs.Stream.{outside}
+use Rattle.stream.specs.Calls as stream
+use Rattle.stream.specs.Stream.{outside}
 use Rattle.settings.specs.Rules.{allowed}
 use Rattle.settings.specs.declared.Table.{Table}
-use Rattle.answers.specs.Parts.{identityAllowed, noReadings}
-use Rattle.answers.specs.declared.Identity.{Identity}
-use Rattle.answers.specs.declared.Readings.{Readings}
+use Rattle.who.specs.Parts.{identityAllowed, noReadings}
+use Rattle.who.specs.declared.Identity.{Identity}
+use Rattle.who.specs.declared.Readings.{Readings}
 use Rattle.board.specs.declared.Sample.{Sample}
 use Rattle.board.specs.declared.Board.{Board}
 
@@ -31,8 +31,8 @@ readingsOf given =
 -- "A state handed in is allowed when its settings, identity and readings are and its held frame is one that bytes could have left": readings
 -- at the published widths always are.
 unfoldable pub boardAllowed : Board → Bool
-boardAllowed board = identityAllowed (board .identity) && allowed (board .table) && wire.allowed (board .held)
+boardAllowed board = identityAllowed (board .identity) && allowed (board .table) && stream.allowed (board .held)
 
 -- "started with an identity [..] and a table [..], with readings 0 and no frame"
 unfoldable pub freshBoard : Identity → Table → Board
-freshBoard identity table = record { identity = identity; table = table; readings = noReadings; held = wire.heldOf outside }
+freshBoard identity table = record { identity = identity; table = table; readings = noReadings; held = stream.heldOf outside }

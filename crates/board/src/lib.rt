@@ -3,18 +3,21 @@
 ghost use mathlib.Core.Path.{_≡_};
 ghost use lib.ListN.{length};
 ghost use Rattle.laws.specs.Promise.{Gives};
-ghost use Rattle.wire.specs.Calls as wire;
+ghost use mathlib.Core.Bool.{_&&_};
+ghost use Rattle.stream.specs.Calls as stream;
 ghost use Rattle.settings.specs.Columns.{factory};
+ghost use Rattle.settings.specs.Rules.{allowed};
+ghost use Rattle.who.specs.Parts.{identityAllowed};
 ghost use Rattle.board.specs.Parts.{freshBoard, boardAllowed};
 ghost use Rattle.board.specs.Calls.{starting, refusedStart, storing, answering, unanswered};
 ghost use Rattle.board.specs.declared.Answered.{Answered};
-use answers::Identity;
 use answers::Outcome;
-use answers::Readings;
-use answers::Verdict;
 use settings::Table;
-use wire::Event;
-use wire::Held;
+use stream::Event;
+use stream::Held;
+use who::Identity;
+use who::Readings;
+use who::Verdict;
 
 mod line;
 mod measured;
@@ -111,7 +114,7 @@ impl Board {
         if reply.len() < numbers::REPLY_ROOM {
             return unanswered(self, numbers::SHORT_BUFFER);
         }
-        if !is_allowed(self) {
+        if !is_fit(self) {
             return unanswered(self, numbers::NOT_ALLOWED);
         }
         line::heard(self, piece, reply)
@@ -154,19 +157,25 @@ fn unanswered(board: Board, number: u8) -> Answered
     }
 }
 
-// An allowed board: identity, settings and held frame are; readings at their widths always are.
-fn is_allowed(board: Board) -> bool
-    ensures { λ r. ⌜ r ≡ boardAllowed board ⌝ }
+// Identity and settings are allowed; readings at their widths always are.
+fn is_fit(board: Board) -> bool
+    ensures { λ r. ⌜ r ≡ (identityAllowed (board .identity) && allowed (board .table)) ⌝ }
 {
     let identity = board.identity;
     let table = board.table;
-    let held = board.held;
-    identity.is_allowed() & table.is_allowed() & is_held(held)
+    identity.is_allowed() & table.is_allowed()
+}
+
+// An allowed board: its held frame is allowed besides.
+fn is_allowed(board: Board) -> bool
+    ensures { λ r. ⌜ r ≡ boardAllowed board ⌝ }
+{
+    is_fit(board) & is_held(board.held)
 }
 
 // An unfinished frame that bytes can leave: the stream refuses every other.
 fn is_held(held: Held) -> bool
-    ensures { λ r. ⌜ r ≡ wire.allowed held ⌝ }
+    ensures { λ r. ⌜ r ≡ stream.allowed held ⌝ }
 {
     let mut room = [0u8; numbers::MOST_DATA];
     let heard = held.hear(&[], &mut room);

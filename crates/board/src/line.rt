@@ -5,11 +5,10 @@ ghost use Prim.Native.Nat.{ℕ, _≤_};
 ghost use lib.ListN.{length};
 ghost use Rattle.laws.specs.Promise.{Gives};
 ghost use Rattle.settings.specs.Rules.{allowed};
-ghost use Rattle.answers.specs.Parts.{identityAllowed};
+ghost use Rattle.who.specs.Parts.{identityAllowed};
 ghost use Rattle.answers.specs.Answers.{frameAnswer};
-ghost use Rattle.board.specs.Parts.{boardAllowed};
-ghost use Rattle.board.specs.Calls.{errorFrame, heardBy, decidedBy};
-ghost use Rattle.board.specs.AsHeld.{whole, sentBy};
+ghost use Rattle.board.specs.Calls.{errorFrame, decidedBy};
+ghost use Rattle.board.specs.AsHeld.{whole, sentBy, faultBytes, heardIfHeld};
 ghost use Rattle.answers.specs.declared.Sends.{Sends};
 ghost use Rattle.board.specs.declared.Answered.{Answered};
 use crate::Answered;
@@ -18,7 +17,7 @@ use crate::numbers;
 use answers::Outcome;
 use answers::Reply;
 use answers::Sends;
-use wire::Event;
+use stream::Event;
 use wire::Written;
 
 // The error frame at the buffer's front, as it stands.
@@ -27,6 +26,17 @@ fn put_error(out: &mut [u8]) -> usize
     ensures { λ r. ⌜ Gives ℕ (whole errorFrame) (now (out .entry)) r (now (out .exit)) ⌝ }
 {
     bytes::copy(b":4AAAAFD\n", out)
+}
+
+// What the board sends where the line refuses: the error frame for a frame (1 to 4), and nothing for a held frame that is not allowed.
+fn put_fault(number: u8, out: &mut [u8]) -> usize
+    requires { ⌜ 75 ≤ length (now out) ⌝ }
+    ensures { λ r. ⌜ Gives ℕ (whole (faultBytes number)) (now (out .entry)) r (now (out .exit)) ⌝ }
+{
+    if number == numbers::NOT_ALLOWED {
+        return 0;
+    }
+    put_error(out)
 }
 
 // The frame of a reply at the buffer's front.
@@ -81,10 +91,11 @@ fn framed(board: Board, command: u8, bytes: &[u8], taken: usize, out: &mut [u8])
     }
 }
 
-// A piece of input heard by an allowed board.
+// A piece of input heard by a board whose identity and settings are allowed. 12 of its held frame is the line's own: it hands that frame
+// back as it was, and has taken nothing.
 pub(crate) fn heard(board: Board, piece: &[u8], out: &mut [u8]) -> Answered
-    requires { ⌜ (75 ≤ length (now out)) × (boardAllowed board ≡ true) ⌝ }
-    ensures { λ r. ⌜ Gives Answered (heardBy board (now (piece .entry))) (now (out .entry)) r (now (out .exit)) ⌝ }
+    requires { ⌜ (75 ≤ length (now out)) × ((identityAllowed (board .identity) && allowed (board .table)) ≡ true) ⌝ }
+    ensures { λ r. ⌜ Gives Answered (heardIfHeld board (now (piece .entry))) (now (out .entry)) r (now (out .exit)) ⌝ }
 {
     let identity = board.identity;
     let table = board.table;
@@ -112,7 +123,7 @@ pub(crate) fn heard(board: Board, piece: &[u8], out: &mut [u8]) -> Answered
         Event::Refused(number) => Answered {
             board: after,
             outcome: Outcome::Refused(number),
-            len: put_error(out),
+            len: put_fault(number, out),
             taken,
         },
     }

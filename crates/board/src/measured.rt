@@ -5,7 +5,7 @@ ghost use lib.IntN.{pos, negsuc, natAbs};
 ghost use Rattle.board.specs.Parts.{within, sampleFits, readingsOf};
 use crate::Sample;
 use crate::numbers;
-use answers::Readings;
+use who::Readings;
 
 // A number within two ends.
 fn is_within(low: i64, x: i64, high: i64) -> bool

@@ -9,9 +9,9 @@ use lib.Seq.{take-take, take-add}
 use Rattle.laws.proofs.Bools.{pick}
 use Rattle.laws.proofs.Cutting as cutting
 use Rattle.wire.specs.Reading.{Ended, good, refused}
-use Rattle.wire.specs.Stream.{Unfinished, outside, framesFrom, leftFrom, framesOf}
-use Rattle.wire.specs.Calls.{heldOf}
-use Rattle.wire.proofs.Streams.{frames-append}
+use Rattle.stream.specs.Stream.{Unfinished, outside, framesFrom, leftFrom, framesOf}
+use Rattle.stream.specs.Calls.{heldOf}
+use Rattle.stream.proofs.Streams.{frames-append}
 use Rattle.settings.specs.Columns.{count}
 use Rattle.settings.specs.Rules.{allowed}
 use Rattle.settings.specs.declared.Table.{Table}

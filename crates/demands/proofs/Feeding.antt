@@ -14,8 +14,8 @@ use Rattle.laws.proofs.Cutting as cutting
 use Rattle.laws.proofs.Bools.{and-left, and-right}
 use Rattle.wire.specs.Frame.{frameRoom}
 use Rattle.wire.specs.Reading.{Ended}
-use Rattle.wire.specs.Stream.{Unfinished, outside, framesFrom, leftFrom, framesOf, taken}
-use Rattle.wire.specs.Calls.{heldOf, unfinished}
+use Rattle.stream.specs.Stream.{Unfinished, outside, framesFrom, leftFrom, framesOf, taken}
+use Rattle.stream.specs.Calls.{heldOf, unfinished}
 use Rattle.settings.specs.declared.Table.{Table}
 use Rattle.answers.specs.Requests.{setRequest}
 use Rattle.board.specs.Parts.{boardAllowed}
@@ -33,8 +33,8 @@ use Rattle.demands.specs.Talk.{Deed, stores, calls, Said, Talk, talk, af
 use Rattle.demands.specs.Demand3.{isCalls, AnyCutting, isFeeding, acceptedSet, ListIsAccepted, repliesOf, eventFor, followed, Confirmed, ListIsConfirmed}
 use Rattle.laws.proofs.Bools.{both}
 use Rattle.wire.specs.Frame.{mostData}
-use Rattle.wire.specs.Laws.{hears, Writables, nothing, broken, whole}
-use Rattle.wire.proofs.Theorems.{all-is-taken, heard-is-writable}
+use Rattle.stream.specs.Laws.{hears, Writables, nothing, broken, whole}
+use Rattle.stream.proofs.Theorems.{all-is-taken, heard-is-writable}
 use Rattle.reply.specs.Events as events
 use Rattle.reply.specs.Events.{Event, OnStream}
 use Rattle.restore.specs.Order.{order, wanted}

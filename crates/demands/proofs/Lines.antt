@@ -4,12 +4,12 @@ use Rattle.laws.specs.Promise.{overlaid}
 use Rattle.wire.specs.Digits.{digit, nibble}
 use Rattle.wire.specs.Frame.{check, body, frame}
 use Rattle.wire.specs.Reading.{bodySays}
-use Rattle.wire.specs.Stream.{taken}
-use Rattle.wire.specs.Calls.{noChars, heldOf, unfinished}
-use Rattle.wire.specs.Calls as wire
+use Rattle.stream.specs.Stream.{taken}
+use Rattle.stream.specs.Calls.{noChars, heldOf, unfinished}
+use Rattle.stream.specs.Calls as stream
 use Rattle.settings.specs.Rules.{inRange, lowAgrees, highAgrees, agrees, allowedFor, allowed, nearestOf}
 use Rattle.settings.specs.Calls.{placing, placeOf, finding, setTo, partnerFits, nearing}
-use Rattle.answers.specs.Parts.{serialFits, noSerial, identityOf, serialOf, identityAllowed}
+use Rattle.who.specs.Parts.{serialFits, noSerial, identityOf, serialOf, identityAllowed}
 use Rattle.answers.specs.Answers.{tells, restarts, getAnswer, setsSetting, setAnswer, frameAnswer}
 use Rattle.board.specs.Parts.{boardAllowed, freshBoard}
 use Rattle.board.specs.Calls.{starting, deciding, decidedBy, heardBy, answering}
@@ -17,7 +17,7 @@ use Rattle.restore.specs.Order.{differs, higherFirst, exchanged, placed, turnsF
 use Rattle.demands.specs.Lines.{ThirteenHold}
 
 pub thirteen-lines-hold : ThirteenHold
-unfolding overlaid digit nibble check body frame bodySays taken noChars heldOf unfinished wire.allowed
+unfolding overlaid digit nibble check body frame bodySays taken noChars heldOf unfinished stream.allowed
     inRange lowAgrees highAgrees agrees allowedFor allowed nearestOf placing placeOf finding setTo partnerFits nearing
     serialFits noSerial identityOf serialOf identityAllowed tells restarts getAnswer setsSetting setAnswer frameAnswer
     boardAllowed freshBoard starting deciding decidedBy heardBy answering differs higherFirst exchanged placed turnsFrom order

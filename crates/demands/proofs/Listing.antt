@@ -11,9 +11,9 @@ use Rattle.laws.specs.Lists.{every}
 use Rattle.laws.proofs.Bools.{and-left, and-right}
 use Rattle.wire.specs.Numbers.{little}
 use Rattle.wire.specs.Reading.{Ended, good}
-use Rattle.wire.specs.Stream.{outside, framesOf, leftBy}
+use Rattle.stream.specs.Stream.{outside, framesOf, leftBy}
 use Rattle.wire.specs.Laws.{Writable}
-use Rattle.wire.proofs.Theorems.{written-is-heard}
+use Rattle.stream.proofs.Theorems.{written-is-heard}
 use Rattle.settings.specs.Columns.{count, idAt, widthAt}
 use Rattle.settings.specs.Rules.{allowedFor, allowed, partnerNumber, changed}
 use Rattle.settings.specs.Calls.{setTo}

@@ -10,8 +10,8 @@ use lib.Seq.{take-all}
 use lib.Dec.{eqb, leb, ltb}
 use Rattle.wire.specs.Numbers.{fromLittle}
 use Rattle.wire.specs.Reading.{Ended, good, refused}
-use Rattle.wire.specs.Stream.{Unfinished, framesFrom, firstEnd, taken}
-use Rattle.wire.proofs.Theorems.{first-end-is-first}
+use Rattle.stream.specs.Stream.{Unfinished, framesFrom, firstEnd, taken}
+use Rattle.stream.proofs.Theorems.{first-end-is-first}
 use Rattle.settings.specs.Columns.{count, widthAt}
 use Rattle.settings.specs.Rules.{allowedFor, allowed, partnerNumber, changed}
 use Rattle.settings.specs.Calls.{settingAt, placing, finding, setTo}

@@ -12,17 +12,17 @@ use Rattle.wire.specs.Digits.{digit, nibble}
 use Rattle.wire.specs.Frame.{check, body, frame}
 use Rattle.wire.specs.Numbers.{little}
 use Rattle.wire.specs.Reading.{bodySays}
-use Rattle.wire.specs.Stream.{outside, taken}
-use Rattle.wire.specs.Calls.{noChars, heldOf, unfinished, hearing}
-use Rattle.wire.specs.declared.Heard.{Heard}
-use Rattle.wire.proofs.Answers.{hearing-heard}
-use Rattle.wire.specs.Calls as wire
+use Rattle.stream.specs.Stream.{outside, taken}
+use Rattle.stream.specs.Calls.{noChars, heldOf, unfinished, hearing}
+use Rattle.stream.specs.declared.Heard.{Heard}
+use Rattle.stream.proofs.Answers.{hearing-heard}
+use Rattle.stream.specs.Calls as stream
 use Rattle.settings.specs.Columns.{count, factory}
 use Rattle.settings.specs.Rules.{inRange, lowAgrees, highAgrees, agrees, allowedFor, allowed, numberAt, changed}
 use Rattle.settings.specs.Calls.{placing, placeOf, finding, setTo}
 use Rattle.settings.specs.declared.Table.{Table}
 use Rattle.settings.proofs.Theorems.{factory-is-allowed}
-use Rattle.answers.specs.Parts.{serialFits, noSerial, identityOf, serialOf, identityAllowed}
+use Rattle.who.specs.Parts.{serialFits, noSerial, identityOf, serialOf, identityAllowed}
 use Rattle.answers.specs.Answers.{said, getCode, setsSetting, setAnswer, frameAnswer}
 use Rattle.answers.specs.Requests.{setRequest}
 use Rattle.answers.specs.declared.Outcome.{Outcome}
@@ -111,7 +111,7 @@ abbrev twoCalls : List Deed
 twoCalls = calls 15 75 ∷ calls 15 75 ∷ []
 
 first-set-alone : Decides firstSetAlone → ⊥
-unfolding overlaid digit nibble check body frame bodySays taken noChars heldOf unfinished wire.allowed
+unfolding overlaid digit nibble check body frame bodySays taken noChars heldOf unfinished stream.allowed
     inRange lowAgrees highAgrees agrees allowedFor allowed placing placeOf finding setTo
     serialFits noSerial identityOf serialOf identityAllowed setsSetting setAnswer frameAnswer
     boardAllowed freshBoard starting deciding decidedBy heardBy answering isComplete isValid makes made
@@ -121,7 +121,7 @@ first-set-alone h =
     false≢true e
 
 stores-nothing-decides : Decides storesNothing → ⊥
-unfolding overlaid digit nibble check body frame bodySays taken noChars heldOf unfinished wire.allowed
+unfolding overlaid digit nibble check body frame bodySays taken noChars heldOf unfinished stream.allowed
     inRange lowAgrees highAgrees agrees allowedFor allowed placing placeOf finding setTo
     serialFits noSerial identityOf serialOf identityAllowed setsSetting setAnswer frameAnswer
     boardAllowed freshBoard starting deciding decidedBy heardBy answering isComplete isValid makes made
@@ -131,7 +131,7 @@ stores-nothing-decides h =
     false≢true e
 
 never-changes : Decides neverChanges → ⊥
-unfolding overlaid digit nibble check body frame bodySays taken noChars heldOf unfinished wire.allowed
+unfolding overlaid digit nibble check body frame bodySays taken noChars heldOf unfinished stream.allowed
     inRange lowAgrees highAgrees agrees allowedFor allowed placing placeOf finding setTo
     serialFits noSerial identityOf serialOf identityAllowed setsSetting setAnswer frameAnswer
     boardAllowed freshBoard starting deciding decidedBy heardBy answering isComplete isValid makes made
@@ -148,7 +148,7 @@ takes-all h =
     false≢true f
 
 hears-all : HearsToTheEnd hearsAll → ⊥
-unfolding wire.allowed heldOf noChars unfinished taken frame body check digit
+unfolding stream.allowed heldOf noChars unfinished taken frame body check digit
 hears-all h =
     let e = h (heldOf outside) twoSets 35 refl (leb-true 35 35 refl) in
     let f : _≡_ {A = Bool} false true = ap (λ (n : ℕ). eqb n 15) e in

@@ -11,11 +11,11 @@ use Rattle.laws.specs.Promise.{Given}
 use Rattle.laws.specs.Cutting.{Step, Offer, calls}
 use Rattle.laws.proofs.Cutting as cutting
 use Rattle.wire.specs.Reading.{Ended, good, refused}
-use Rattle.wire.specs.Stream.{Unfinished, framesFrom, leftFrom, taken}
-use Rattle.wire.specs.Calls.{heldOf, unfinished}
-use Rattle.wire.specs.declared.Held.{Held}
-use Rattle.wire.proofs.Streams.{left-append, frames-append, taken-within}
-use Rattle.wire.proofs.Reached.{kept, unfinished-kept, kept-frames, kept-left}
+use Rattle.stream.specs.Stream.{Unfinished, framesFrom, leftFrom, taken}
+use Rattle.stream.specs.Calls.{heldOf, unfinished}
+use Rattle.stream.specs.declared.Held.{Held}
+use Rattle.stream.proofs.Streams.{left-append, frames-append, taken-within}
+use Rattle.stream.proofs.Reached.{kept, unfinished-kept, kept-frames, kept-left}
 use Rattle.answers.specs.Answers.{Decision}
 use Rattle.board.specs.Parts.{boardAllowed}
 use Rattle.board.specs.Calls.{deciding, decidedBy, heardBy, answering}

@@ -14,10 +14,12 @@ use Rattle.laws.proofs.Lists.{upTo-at}
 use Rattle.wire.specs.Frame.{frame}
 use Rattle.wire.specs.Numbers.{little, fromLittle}
 use Rattle.wire.specs.Reading.{Ended, good, refused}
-use Rattle.wire.specs.Stream.{taken}
-use Rattle.wire.specs.Calls.{unfinished}
-use Rattle.wire.specs.Laws.{Bytes, Writables, whole}
-use Rattle.wire.proofs.Theorems.{written-is-heard, all-is-taken, heard-is-writable, little-is-read}
+use Rattle.stream.specs.Stream.{taken}
+use Rattle.stream.specs.Calls.{unfinished}
+use Rattle.wire.specs.Laws.{Bytes}
+use Rattle.stream.specs.Laws.{Writables, whole}
+use Rattle.wire.proofs.Theorems.{little-is-read}
+use Rattle.stream.proofs.Theorems.{written-is-heard, all-is-taken, heard-is-writable}
 use Rattle.settings.specs.Columns.{count, idAt, widthAt}
 use Rattle.settings.specs.Calls.{placeOf, finding, setTo}
 use Rattle.settings.specs.declared.Table.{Table}
@@ -29,8 +31,8 @@ use Rattle.answers.specs.Answers as answers
 use Rattle.answers.specs.Answers.{sent, error, Decision, said, frameAnswer}
 use Rattle.answers.specs.Requests.{setData}
 use Rattle.answers.specs.Values.{readOnly}
-use Rattle.answers.specs.declared.Identity.{Identity}
-use Rattle.answers.specs.declared.Readings.{Readings}
+use Rattle.who.specs.declared.Identity.{Identity}
+use Rattle.who.specs.declared.Readings.{Readings}
 use Rattle.answers.proofs.Bytes.{length-little}
 use Rattle.answers.proofs.Fitting.{writable-said}
 use Rattle.board.specs.Calls.{endedIn, deciding}

@@ -12,10 +12,11 @@ use Rattle.laws.specs.Cutting.{Offer, ready}
 use Rattle.wire.specs.Frame.{mostNibble, mostData, frame}
 use Rattle.wire.specs.Numbers.{little, fromLittle}
 use Rattle.wire.specs.Reading.{good}
-use Rattle.wire.specs.Stream.{outside, framesOf}
-use Rattle.wire.specs.Calls.{heldOf}
+use Rattle.stream.specs.Stream.{outside, framesOf}
+use Rattle.stream.specs.Calls.{heldOf}
 use Rattle.wire.specs.Laws as wire
-use Rattle.wire.specs.Laws.{Bytes, hears}
+use Rattle.wire.specs.Laws.{Bytes}
+use Rattle.stream.specs.Laws.{hears}
 use Rattle.settings.specs.Columns.{count, widthAt}
 use Rattle.answers.specs.Answers.{Sent, silent, sent, error, said, getCode, setCode}
 use Rattle.answers.specs.Requests.{getRequest, setData, setRequest}

@@ -12,13 +12,13 @@ use Rattle.laws.specs.Cutting as Cutting
 use Rattle.laws.specs.Cutting.{Offer, ready}
 use Rattle.wire.specs.Frame.{mostData, frameRoom}
 use Rattle.wire.specs.Reading.{Ended, good, refused}
-use Rattle.wire.specs.Stream.{Unfinished, outside, framesFrom, leftFrom, framesOf}
-use Rattle.wire.specs.Calls.{heldOf}
-use Rattle.wire.specs.Laws.{hears}
+use Rattle.stream.specs.Stream.{Unfinished, outside, framesFrom, leftFrom, framesOf}
+use Rattle.stream.specs.Calls.{heldOf}
+use Rattle.stream.specs.Laws.{hears}
 use Rattle.settings.specs.Columns.{count, roleAt}
 use Rattle.settings.specs.Rules.{inRange, agrees, allowed, numberAt, partnerNumber}
 use Rattle.settings.specs.declared.Table.{Table}
-use Rattle.answers.specs.Parts.{serialFits}
+use Rattle.who.specs.Parts.{serialFits}
 use Rattle.answers.specs.Requests.{setRequest}
 use Rattle.answers.specs.declared.Outcome.{Outcome}
 use Rattle.board.specs.Parts.{boardAllowed}

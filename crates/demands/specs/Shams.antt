@@ -12,11 +12,11 @@ use Rattle.laws.specs.Lists.{same}
 use Rattle.laws.specs.Promise.{Given}
 use Rattle.wire.specs.Frame.{mostData, frameRoom, frame}
 use Rattle.wire.specs.Numbers.{little}
-use Rattle.wire.specs.Stream.{taken}
-use Rattle.wire.specs.Calls as wire
-use Rattle.wire.specs.Calls.{unfinished, hearing}
-use Rattle.wire.specs.declared.Held.{Held}
-use Rattle.wire.specs.declared.Heard.{Heard}
+use Rattle.stream.specs.Stream.{taken}
+use Rattle.stream.specs.Calls as stream
+use Rattle.stream.specs.Calls.{unfinished, hearing}
+use Rattle.stream.specs.declared.Held.{Held}
+use Rattle.stream.specs.declared.Heard.{Heard}
 use Rattle.settings.specs.Columns.{count, idAt, widthAt, factories}
 use Rattle.settings.specs.Rules.{allowedFor, numberAt, partnerNumber, changed}
 use Rattle.settings.specs.declared.Table.{Table}
@@ -57,7 +57,7 @@ TakesToTheEnd answer =
 -- the same of the box's call on its stream
 abbrev pub HearsToTheEnd : (Held → List ℕ → ℕ → Given Heard) → Type 0
 HearsToTheEnd hear =
-    (held : Held) (piece : List ℕ) (room : ℕ) → wire.allowed held ≡ true → mostData ≤ room → hear held piece room .answer .taken ≡ taken (unfinished held) piece
+    (held : Held) (piece : List ℕ) (room : ℕ) → stream.allowed held ≡ true → mostData ≤ room → hear held piece room .answer .taken ≡ taken (unfinished held) piece
 
 -- demand 2's reply count
 abbrev pub Counts : (Table → Table → List Event → ℕ) → Type 0

@@ -8,8 +8,8 @@ use lib.Dec.{ltb}
 use Rattle.laws.specs.Promise.{Given}
 use Rattle.answers.specs.declared.Outcome.{Outcome}
 use Rattle.wire.specs.Reading.{Ended}
-use Rattle.wire.specs.Stream.{Unfinished}
-use Rattle.wire.specs.Calls.{heldOf}
+use Rattle.stream.specs.Stream.{Unfinished}
+use Rattle.stream.specs.Calls.{heldOf}
 use Rattle.board.specs.Calls.{replyBytes, deciding, storing, answering}
 use Rattle.board.specs.declared.Board.{Board}
 use Rattle.board.specs.declared.Sample.{Sample}

@@ -4,22 +4,25 @@ use mathlib.Core.Bool.{true}
 use mathlib.Core.List.{List, [], _∷_, _++_, append-assoc, append-nil}
 use Prim.Native.Nat.{ℕ, zero, suc, _+_, _-_, _≤_, _<_, min}
 use native.Mathlib.Nat.{zero-min, min-zero, suc-min-suc}
+use Prim.Native.String.{String}
 use native.Mathlib.Omega.{arith}
+use borrow.Author.Tests.{ltb-true}
 use borrow.Rule.Slice.PartMut.{putMid}
-use lib.ListN.{length, take, drop, replicate, length-take, length-drop, length-append, length-replicate, drop-of-length-le}
+use lib.ListN.{length, getD, take, drop, replicate, length-take, length-drop, length-append, length-replicate, drop-of-length-le}
 use lib.Seq.{take-all, length-take-le, take-append-add, take-take, take-append-le}
-use lib.Dec.{eqb}
+use lib.Dec.{eqb, ltb}
 use Rattle.laws.specs.Lists.{every}
 use Rattle.laws.specs.Promise.{overlaid}
+use Rattle.laws.proofs.Bools.{and-left, and-right}
 use Rattle.laws.proofs.Lists.{padded, take-replicate, take-min, take-again, every-zero, zeros-behind}
-use Rattle.lines.specs.Lines.{most, newline, blank, lineOf, textOf, adding, printed, ended}
+use Rattle.lines.specs.Lines.{most, mostText, newline, chars, blank, lineOf, textOf, adding, printed, ended, Says}
 use Rattle.lines.specs.declared.Line.{Line}
 
 -- a line by its two parts
 abbrev pub line : ℕ → List ℕ → Line
 line len chars = record { len = len; chars = chars }
 
--- the text of a line is its first 120 characters
+-- the text of a line is its first 160 characters
 pub text-back : (text : List ℕ) → textOf (lineOf text) ≡ take most text
 unfolding lineOf
 text-back text =
@@ -110,7 +113,7 @@ module _ (l : Line) (tidy : l ≡ lineOf (textOf l)) where
   tidy-text : length (textOf l) ≡ l .len
   tidy-text = length-take-le (l .len) (l .chars) (omega (arith, tidy-few, tidy-long))
 
-  -- more characters behind them, none past the 120th
+  -- more characters behind them, none past the 160th
   module _ (more : List ℕ) (n : ℕ) (least : n ≡ min (length more) (most - l .len)) where
     more-len : l .len + n ≡ min most (length (textOf l ++ more))
     more-len = rw (length-append, tidy-text) (omega (arith, tidy-few))
@@ -129,24 +132,66 @@ module _ (l : Line) (tidy : l ≡ lineOf (textOf l)) where
     unfolding adding lineOf
     more-line last e = ap₂ line more-len (more-chars last e)
 
--- a line that is ended, cut at 119 characters before the newline
+-- a line that is ended, cut at 159 characters before the newline
 take-less : (k n : ℕ) (xs : List ℕ) → take k (take n xs) ≡ take (min n k) xs
 take-less zero n xs = rw min-zero
 take-less (suc k) zero xs = rw zero-min
 take-less (suc k) (suc n) [] = rw suc-min-suc
 take-less (suc k) (suc n) (x ∷ xs) = rw (suc-min-suc, take-less k n xs)
 
-pub ended-line : {n : Line} (l : Line) (k : ℕ) → k ≡ min (l .len) 119 → n ≡ adding (line k (l .chars)) (newline ∷ []) → n ≡ ended l
+pub ended-line : {n : Line} (l : Line) (k : ℕ) → k ≡ min (l .len) mostText → n ≡ adding (line k (l .chars)) (newline ∷ []) → n ≡ ended l
 unfolding adding printed
 ended-line l k e f =
-    f ∙ ap (λ (t : List ℕ). lineOf (t ++ newline ∷ [])) (ap (λ (i : ℕ). take i (l .chars)) e ∙ sym (take-less 119 (l .len) (l .chars)))
+    f ∙ ap (λ (t : List ℕ). lineOf (t ++ newline ∷ [])) (ap (λ (i : ℕ). take i (l .chars)) e ∙ sym (take-less mostText (l .len) (l .chars)))
 
 pub finished : {l n : Line} (text : List ℕ) → l ≡ lineOf text → n ≡ ended l → n ≡ printed text
 unfolding printed
 finished text e f =
     f ∙ ap ended e ∙ ap printed (text-back text)
-    ∙ ap (λ (t : List ℕ). lineOf (t ++ newline ∷ [])) (take-take 119 120 text (omega arith))
+    ∙ ap (λ (t : List ℕ). lineOf (t ++ newline ∷ [])) (take-take mostText most text (omega arith))
 
 -- a whole sentence, from its start to its newline
 pub sentence : {l m n : Line} (text : List ℕ) → l ≡ lineOf [] → m ≡ adding l text → n ≡ ended m → n ≡ printed text
 sentence text e f g = finished text (from-start text e f) g
+
+-- What can be read of a printed line.
+
+pub printed-text : (text : List ℕ) → textOf (printed text) ≡ take mostText text ++ newline ∷ []
+unfolding printed
+printed-text text =
+    text-back (take mostText text ++ newline ∷ [])
+    ∙ take-all most (take mostText text ++ newline ∷ []) (rw (length-append, length-take) (omega arith))
+
+-- words without a newline that stand in it are words of its text
+in-front : (k : ℕ) (t w : List ℕ) → every (ltb newline) w ≡ true → take (length w) (take k t ++ newline ∷ []) ≡ w → take (length w) t ≡ w
+in-front k t [] h e = refl
+in-front zero t (c ∷ w) h e =
+    let same : newline ≡ c = ap (λ (l : List ℕ). getD l 0 0) e in
+    let over : newline < c = ltb-true newline c (and-left (ltb newline c) (every (ltb newline) w) h) in
+    absurd (omega arith)
+in-front (suc k) [] (c ∷ w) h e =
+    let same : newline ≡ c = ap (λ (l : List ℕ). getD l 0 0) e in
+    let over : newline < c = ltb-true newline c (and-left (ltb newline c) (every (ltb newline) w) h) in
+    absurd (omega arith)
+in-front (suc k) (y ∷ t) (c ∷ w) h e =
+    let same : y ≡ c = ap (λ (l : List ℕ). getD l 0 0) e in
+    ap₂ (λ (d : ℕ) (l : List ℕ). d ∷ l) same (in-front k t w (and-right (ltb newline c) (every (ltb newline) w) h) (ap (λ (l : List ℕ). drop 1 l) e))
+
+behind-front : (k : ℕ) (b t w : List ℕ) → every (ltb newline) w ≡ true → take (length w) (drop (length b) (take k (b ++ t) ++ newline ∷ [])) ≡ w → take (length w) t ≡ w
+behind-front k [] t w h e = in-front k t w h e
+behind-front zero (x ∷ []) t w h e = none-of w t h e
+  where
+    none-of : (w t : List ℕ) → every (ltb newline) w ≡ true → take (length w) [] ≡ w → take (length w) t ≡ w
+    none-of [] t h e = refl
+    none-of (c ∷ w) t h e = let z : _≡_ {A = ℕ} 0 (suc (length w)) = ap (λ (l : List ℕ). length l) e in absurd (omega arith)
+behind-front zero (x ∷ y ∷ b) t w h e = behind-front zero (y ∷ b) t w h (shorter (length b) w e)
+  where
+    shorter : (n : ℕ) (w : List ℕ) → take (length w) [] ≡ w → take (length w) (drop n []) ≡ w
+    shorter zero w e = e
+    shorter (suc n) w e = e
+behind-front (suc k) (x ∷ b) t w h e = behind-front k b t w h e
+
+pub says-text : (b t : List ℕ) (words : String) → every (ltb newline) (chars words) ≡ true → Says (printed (b ++ t)) (length b) words → take (length (chars words)) t ≡ chars words
+says-text b t words h e =
+    behind-front mostText b t (chars words) h
+    (ap (λ (l : List ℕ). take (length (chars words)) (drop (length b) l)) (sym (printed-text (b ++ t))) ∙ e)

@@ -9,6 +9,7 @@ use Rattle.lines.specs.declared.Line.{Line}
 use Rattle.lines.proofs.Line.start.Reads as start
 use Rattle.lines.proofs.Line.put.Reads as put
 use Rattle.lines.proofs.Line.put_number.Reads as put-number
+use Rattle.lines.proofs.Line.put_of.Reads as put-of
 use Rattle.lines.proofs.Line.put_pointed.Reads as put-pointed
 use Rattle.lines.proofs.Line.put_byte.Reads as put-byte
 use Rattle.lines.proofs.Line.put_id.Reads as put-id
@@ -23,6 +24,10 @@ put-same κs line text r r′ met met′ = equal-same met met′
 
 pub put-number-same : (line : Line) (n : ℕ) (r r′ : Line) → put-number.Post tt (line, (n, tt)) r (line, (n, tt)) → put-number.Post tt (line, (n, tt)) r′ (line, (n, tt)) → r ≡ r′
 put-number-same line n r r′ met met′ = equal-same met met′
+
+pub put-of-same : (line : Line) (done due : ℕ) (r r′ : Line)
+    → put-of.Post tt (line, (done, (due, tt))) r (line, (done, (due, tt))) → put-of.Post tt (line, (done, (due, tt))) r′ (line, (done, (due, tt))) → r ≡ r′
+put-of-same line done due r r′ met met′ = equal-same met met′
 
 pub put-pointed-same : (line : Line) (n decimals : ℕ) (r r′ : Line)
     → put-pointed.Post tt (line, (n, (decimals, tt))) r (line, (n, (decimals, tt))) → put-pointed.Post tt (line, (n, (decimals, tt))) r′ (line, (n, (decimals, tt))) → r ≡ r′

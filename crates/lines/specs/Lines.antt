@@ -1,13 +1,18 @@
--- A line that the night box prints (ours): up to 120 characters in an array of fixed room, 0 past them. Assumes nothing.
-use Prim.Native.Nat.{ℕ, min}
+-- A line that the night box prints (ours): up to 160 characters in an array of fixed room, 0 past them. Assumes nothing.
+use Prim.Native.Nat.{ℕ, _-_, min}
 use Prim.Native.Char.{code}
 use Prim.Native.String.{String, [] as end, _∷_ as _then_}
+use mathlib.Core.Path.{_≡_}
 use mathlib.Core.List.{List, [], _∷_, _++_}
-use lib.ListN.{length, take, replicate}
+use lib.ListN.{length, take, drop, replicate}
 use Rattle.lines.specs.declared.Line.{Line}
 
 abbrev pub most : ℕ
-most = 120
+most = 160
+
+-- the last place is the newline's
+abbrev pub mostText : ℕ
+mostText = most - 1
 
 abbrev pub newline : ℕ
 newline = 10
@@ -21,7 +26,7 @@ chars (c then more) = code c ∷ chars more
 unfoldable pub blank : List ℕ
 blank = replicate most 0
 
--- the line of a text: what is past 120 characters is cut
+-- the line of a text: what is past 160 characters is cut
 unfoldable pub lineOf : List ℕ → Line
 lineOf text = record { len = min most (length text); chars = take most (text ++ blank) }
 
@@ -35,7 +40,11 @@ adding line more = lineOf (textOf line ++ more)
 
 -- a line that is ready to be written out: a newline ends it, also where the text is cut
 unfoldable pub printed : List ℕ → Line
-printed text = lineOf (take 119 text ++ newline ∷ [])
+printed text = lineOf (take mostText text ++ newline ∷ [])
 
 abbrev pub ended : Line → Line
 ended line = printed (textOf line)
+
+-- these words stand in a line behind so many characters
+abbrev pub Says : Line → ℕ → String → Type 0
+Says line n words = take (length (chars words)) (drop n (textOf line)) ≡ chars words

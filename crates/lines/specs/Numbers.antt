@@ -19,6 +19,10 @@ decimalFrom (suc more) n = cond (ltb n 10) (lastDigit n) (decimalFrom more (n / 
 abbrev pub decimal : ℕ → List ℕ
 decimal n = decimalFrom 19 n
 
+-- `7 of 12`
+unfoldable pub ofText : ℕ → ℕ → List ℕ
+ofText done due = decimal done ++ chars " of " ++ decimal due
+
 -- how many steps a unit has at so many decimals: 0, 1, 2, and 3 for any other
 abbrev pub steps : ℕ → ℕ
 steps decimals = cond (eqb decimals 0) 1 (cond (eqb decimals 1) 10 (cond (eqb decimals 2) 100 1000))

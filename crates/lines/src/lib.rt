@@ -3,13 +3,13 @@
 ghost use mathlib.Core.Path.{_≡_};
 ghost use mathlib.Core.List.{[]};
 ghost use Rattle.lines.specs.Lines.{lineOf, textOf, adding, ended};
-ghost use Rattle.lines.specs.Numbers.{decimal, pointed, hexByte, hexId};
+ghost use Rattle.lines.specs.Numbers.{decimal, ofText, pointed, hexByte, hexId};
 
 mod copied;
 mod numbers;
 
 // The most characters of a line; what a text has past them is cut.
-pub const MOST: usize = 120;
+pub const MOST: usize = 160;
 
 // The characters of a line; 0 past them.
 pub struct Line {
@@ -40,6 +40,13 @@ impl Line {
         ensures { λ r. ⌜ r ≡ adding self (decimal n) ⌝ }
     {
         numbers::put_digits(self, n, numbers::MOST_DIGITS - 1)
+    }
+
+    // The line with how many of how many behind it.
+    pub fn put_of(self, done: usize, due: usize) -> Line
+        ensures { λ r. ⌜ r ≡ adding self (ofText done due) ⌝ }
+    {
+        self.put_number(done).put(b" of ").put_number(due)
     }
 
     // The line with a whole number of steps behind it, in the unit: 0 to 3 decimals, and more are taken for 3.

@@ -10,13 +10,14 @@ use lib.Seq.{take-all}
 use lib.Dec.{ltb, leb, eqb}
 use Rattle.laws.specs.Promise.{Given}
 use Rattle.wire.specs.Reading.{Ended, good, refused}
-use Rattle.wire.specs.Stream.{framesFrom, taken}
-use Rattle.wire.specs.Calls.{allowed, unfinished, hearing, eventOf, dataOfFirst}
-use Rattle.wire.specs.Laws.{Writable, Writables, whole}
-use Rattle.wire.specs.declared.Event.{Event}
-use Rattle.wire.proofs.Theorems.{heard-is-writable}
-use Rattle.wire.proofs.Answers.{hearing-heard}
-use Rattle.wire.proofs.Streams.{taken-within}
+use Rattle.stream.specs.Stream.{framesFrom, taken}
+use Rattle.stream.specs.Calls.{allowed, unfinished, hearing, eventOf, dataOfFirst}
+use Rattle.wire.specs.Laws.{Writable}
+use Rattle.stream.specs.Laws.{Writables, whole}
+use Rattle.stream.specs.declared.Event.{Event}
+use Rattle.stream.proofs.Theorems.{heard-is-writable}
+use Rattle.stream.proofs.Answers.{hearing-heard}
+use Rattle.stream.proofs.Streams.{taken-within}
 use Rattle.reply.specs.Events.{OnStream, nothing, a-frame, a-refusal, a-silence}
 use Rattle.listen.specs.declared.Listener.{Listener}
 use Rattle.listen.specs.declared.Told.{Told}

@@ -12,21 +12,21 @@ use Rattle.laws.specs.Promise.{Given}
 use Rattle.laws.specs.Cutting.{Step, Offer, calls, ready}
 use Rattle.laws.proofs.Bools.{both}
 use Rattle.wire.specs.Reading.{Ended}
-use Rattle.wire.specs.Stream.{leftBy}
-use Rattle.wire.specs.Calls.{allowed, heldOf, hearing}
-use Rattle.wire.specs.Laws.{frameIn, hears}
-use Rattle.wire.specs.Laws as stream
-use Rattle.wire.specs.declared.Held.{Held}
-use Rattle.wire.specs.declared.Event.{Event}
-use Rattle.wire.proofs.Theorems as wire
-use Rattle.wire.proofs.Answers.{hearing-short}
-use Rattle.wire.proofs.Reached.{left-allowed}
+use Rattle.stream.specs.Stream.{leftBy}
+use Rattle.stream.specs.Calls.{allowed, heldOf, hearing}
+use Rattle.stream.specs.Laws.{frameIn, hears}
+use Rattle.stream.specs.Laws as stream
+use Rattle.stream.specs.declared.Held.{Held}
+use Rattle.stream.specs.declared.Event.{Event}
+use Rattle.stream.proofs.Theorems as streams
+use Rattle.stream.proofs.Answers.{hearing-short}
+use Rattle.stream.proofs.Reached.{left-allowed}
 use Rattle.listen.specs.declared.Listener.{Listener}
 use Rattle.listen.specs.declared.Told.{Told}
 use Rattle.listen.specs.declared.Listened.{Listened}
 use Rattle.listen.specs.Calls.{mostQuiet, mostNoise, quieter, louder, afterNoise, afterSilence, toldBy, listenerAllowed, listening}
 use Rattle.listen.specs.Laws.{framesIn, Turn, readied, listens, listenerAt, AnyCutting, AllIsTaken, unasked, NoiseIsCounted}
-use Rattle.listen.proofs.Steps.{one-cut, left-small}
+use Rattle.listen.proofs.Steps.{one-cut, small-refusal}
 use Rattle.listen.proofs.Settling.{listening-short, listening-silent, listening-heard, filled, none-heard}
 
 -- what is told, read as frames
@@ -98,7 +98,7 @@ module _ (earlier : List ℕ) (quiet noise : ℕ) (few : quiet ≤ mostQuiet) (l
         rw (listening-heard now (b ∷ bs) room enough (in-ends quiet noise few low) (left-allowed earlier) (filled b bs))
         (record {
           held-alike = refl;
-          events-alike = frames-told (louder noise (heard .answer .taken)) (heard .answer .event) (heard .written) (left-small earlier (b ∷ bs) room enough);
+          events-alike = frames-told (louder noise (heard .answer .taken)) (heard .answer .event) (heard .written) (small-refusal (heldOf (leftBy earlier)) (left-allowed earlier) (b ∷ bs) room enough);
           taken-alike = refl;
           quiet-few = omega arith;
           noise-counted = refl;
@@ -187,7 +187,7 @@ unfolding listenerAllowed
 cutting earlier bytes quiet noise few low offers =
     let all : Step Listener Ended = calls listens (listenerAt earlier quiet noise) bytes offers in
     let alike = all-alike earlier (listenerAt earlier quiet noise) refl few low bytes offers in
-    let cut : stream.Cut earlier bytes (calls hears (heldOf (leftBy earlier)) bytes (rooms offers)) = wire.any-cutting earlier bytes (rooms offers) in
+    let cut : stream.Cut earlier bytes (calls hears (heldOf (leftBy earlier)) bytes (rooms offers)) = streams.any-cutting earlier bytes (rooms offers) in
     let holds : all .state .held ≡ heldOf (leftBy (earlier ++ take (all .taken) bytes)) = alike .held-alike ∙ rw (alike .taken-alike) (cut .state-is) in
     record {
       within = rw (alike .taken-alike) (cut .within);
@@ -207,7 +207,7 @@ rooms-many (o ∷ more) = ap suc (rooms-many more)
 pub taking : AllIsTaken
 taking earlier bytes quiet noise few low offers serves enough =
     let alike = all-alike earlier (listenerAt earlier quiet noise) refl few low bytes offers in
-    let all = wire.all-is-taken earlier bytes (rooms offers) (sym (rooms-ready offers) ∙ serves) (rw (rooms-many offers) enough) in
+    let all = streams.all-is-taken earlier bytes (rooms offers) (sym (rooms-ready offers) ∙ serves) (rw (rooms-many offers) enough) in
     (alike .taken-alike ∙ ap (λ s. s .taken) all, alike .events-alike ∙ ap (λ s. s .events) all)
 
 pub counting : NoiseIsCounted

@@ -10,12 +10,12 @@ use lib.Seq.{take-all}
 use lib.Dec.{leb}
 use Rattle.laws.specs.Promise.{Given}
 use Rattle.laws.proofs.Bools.{and-left, and-right, both, same-test}
-use Rattle.wire.specs.Stream.{taken, framesFrom}
-use Rattle.wire.specs.Calls.{allowed, unfinished, hearing}
-use Rattle.wire.specs.declared.Event.{Event}
-use Rattle.wire.specs.declared.Held.{Held}
-use Rattle.wire.proofs.Answers.{hearing-heard}
-use Rattle.wire.proofs.Streams.{quiet-all}
+use Rattle.stream.specs.Stream.{taken, framesFrom}
+use Rattle.stream.specs.Calls.{allowed, unfinished, hearing}
+use Rattle.stream.specs.declared.Event.{Event}
+use Rattle.stream.specs.declared.Held.{Held}
+use Rattle.stream.proofs.Answers.{hearing-heard}
+use Rattle.stream.proofs.Streams.{quiet-all}
 use Rattle.listen.specs.declared.Listener.{Listener}
 use Rattle.listen.specs.declared.Told.{Told}
 use Rattle.listen.specs.declared.Listened.{Listened}

@@ -10,11 +10,11 @@ use lib.Dec.{ltb, leb, eqb}
 use lib.Seq.{take-nil}
 use Rattle.laws.specs.Promise.{Gives}
 use Rattle.laws.proofs.Promise.{gives-bytes}
-use Rattle.wire.specs.Calls.{allowed, hearing, unheard}
-use Rattle.wire.specs.declared.Event.{Event}
-use Rattle.wire.specs.declared.Held.{Held}
-use Rattle.wire.specs.declared.Heard.{Heard}
-use Rattle.wire.proofs.Answers.{hearing-stray, hearing-heard}
+use Rattle.stream.specs.Calls.{allowed, hearing, unheard}
+use Rattle.stream.specs.declared.Event.{Event}
+use Rattle.stream.specs.declared.Held.{Held}
+use Rattle.stream.specs.declared.Heard.{Heard}
+use Rattle.stream.proofs.Answers.{hearing-stray, hearing-heard}
 use Rattle.listen.specs.declared.Listener.{Listener}
 use Rattle.listen.specs.declared.Listened.{Listened}
 use Rattle.listen.specs.Calls.{mostQuiet, mostNoise, listenerAllowed, refusing, silent, reported, wordless, reporting, listening}
@@ -81,7 +81,7 @@ filled b bs = ne-eqb (length (b ∷ bs)) 0 (λ e. omega arith)
 pub none-heard : (held : Held) (room : ℕ) → 35 ≤ room → allowed held ≡ true → (hearing held [] room .answer .event ≡ Event.Nothing) × (hearing held [] room .written ≡ [])
 none-heard held room enough ok = rw (hearing-heard held [] room enough ok, take-nil) (refl, refl)
 
-module _ (l : Listener) (room : ℕ) (enough : 35 ≤ room) (within : (leb (l .quiet) mostQuiet && leb (l .noise) mostNoise) ≡ true) (long : length (l .held .chars) ≡ 74) where
+module _ (l : Listener) (room : ℕ) (enough : 35 ≤ room) (within : (leb (l .quiet) mostQuiet && leb (l .noise) mostNoise) ≡ true) where
   abbrev Settles : List ℕ → Type 0
   Settles piece =
       listening l piece room
@@ -97,7 +97,7 @@ module _ (l : Listener) (room : ℕ) (enough : 35 ≤ room) (within : (leb (l .q
       rw (listening-silent l [] room enough within ok refl, settled-none l (hearing (l .held) [] room .answer) (none .0), none .1)
   good-settles (b ∷ bs) ok =
       let some : eqb (length (b ∷ bs)) 0 ≡ false = filled b bs in
-      rw (listening-heard l (b ∷ bs) room enough within ok some, settled-some l (length (b ∷ bs)) (hearing (l .held) (b ∷ bs) room .answer) some (small-refusal (l .held) long ok (b ∷ bs) room enough))
+      rw (listening-heard l (b ∷ bs) room enough within ok some, settled-some l (length (b ∷ bs)) (hearing (l .held) (b ∷ bs) room .answer) some (small-refusal (l .held) ok (b ∷ bs) room enough))
 
   settles : (piece : List ℕ) → Settles piece
   settles piece = by (allowed (l .held)) refl
@@ -106,10 +106,10 @@ module _ (l : Listener) (room : ℕ) (enough : 35 ≤ room) (within : (leb (l .q
       by true e = good-settles piece e
       by false e = stray-settles piece e
 
-pub gives-settled : (l : Listener) (piece : List ℕ) (room : ℕ) → 35 ≤ room → (leb (l .quiet) mostQuiet && leb (l .noise) mostNoise) ≡ true → length (l .held .chars) ≡ 74
+pub gives-settled : (l : Listener) (piece : List ℕ) (room : ℕ) → 35 ≤ room → (leb (l .quiet) mostQuiet && leb (l .noise) mostNoise) ≡ true
     → {heard : Heard} {r : Listened} {buffer left : List ℕ} → Gives Heard (hearing (l .held) piece room) buffer heard left → r ≡ settled l (length piece) heard
     → Gives Listened (listening l piece room) buffer r left
-gives-settled l piece room enough within long {heard} {r} {buffer} {left} g e =
+gives-settled l piece room enough within {heard} {r} {buffer} {left} g e =
     gives-bytes r (hearing (l .held) piece room .written) left
-    (rw (e, g .answered) (settles l room enough within long piece))
+    (rw (e, g .answered) (settles l room enough within piece))
     (g .left)

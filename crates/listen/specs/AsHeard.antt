@@ -2,8 +2,8 @@
 use Prim.Native.Nat.{ℕ, zero}
 use mathlib.Core.Bool.{cond}
 use lib.Dec.{ltb, eqb}
-use Rattle.wire.specs.declared.Event.{Event}
-use Rattle.wire.specs.declared.Heard.{Heard}
+use Rattle.stream.specs.declared.Event.{Event}
+use Rattle.stream.specs.declared.Heard.{Heard}
 use Rattle.listen.specs.declared.Listener.{Listener}
 use Rattle.listen.specs.declared.Listened.{Listened}
 use Rattle.listen.specs.Calls.{refusing, silent, reported}

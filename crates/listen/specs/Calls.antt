@@ -1,4 +1,4 @@
--- What each public call answers, for every input. What the stream makes of the bytes is `hearing` of wire; here it meets the box's patience.
+-- What each public call answers, for every input. What the stream makes of the bytes is `hearing` of stream; here it meets the box's patience.
 -- Assumes nothing.
 use Prim.Native.Nat.{ℕ, zero, suc, _+_, min}
 use mathlib.Core.Bool.{Bool, cond, not, _&&_}
@@ -7,16 +7,17 @@ use lib.ListN.{length}
 use lib.Dec.{ltb, leb, eqb}
 use Rattle.laws.specs.Promise.{Given}
 use Rattle.wire.specs.Frame.{mostData}
-use Rattle.wire.specs.Stream.{outside}
-use Rattle.wire.specs.Calls.{shortBuffer, notAllowed, allowed, heldOf, hearing}
-use Rattle.wire.specs.declared.Event.{Event}
-use Rattle.wire.specs.declared.Heard.{Heard}
+use Rattle.stream.specs.Stream.{outside}
+use Rattle.wire.specs.Calls.{shortBuffer, notAllowed}
+use Rattle.stream.specs.Calls.{allowed, heldOf, hearing}
+use Rattle.stream.specs.declared.Event.{Event}
+use Rattle.stream.specs.declared.Heard.{Heard}
 use Rattle.listen.specs.declared.Listener.{Listener}
 use Rattle.listen.specs.declared.Told.{Told}
 use Rattle.listen.specs.declared.Listened.{Listened}
 
--- The box waits no longer (ours): five reads in a row that gave nothing, each after a second of silence; or 8192 bytes since the last
--- request and no frame that ends, so that a board which talks without end does not hold up the night.
+-- The box waits no longer (ours): five reads in a row that gave nothing, each after a second of silence; or a read that ends no frame once
+-- 8192 bytes have come since the last request, those of frames among them, so that a board which talks without end holds nothing up.
 
 abbrev pub mostQuiet : ℕ
 mostQuiet = 5

@@ -9,8 +9,8 @@ use lib.Dec.{leb, eqb}
 use Rattle.laws.specs.Cutting.{Step, Offer, calls, ready}
 use Rattle.wire.specs.Frame.{mostData}
 use Rattle.wire.specs.Reading.{Ended, good, refused}
-use Rattle.wire.specs.Stream.{framesFrom, leftBy}
-use Rattle.wire.specs.Calls.{allowed, heldOf, unfinished}
+use Rattle.stream.specs.Stream.{framesFrom, leftBy}
+use Rattle.stream.specs.Calls.{allowed, heldOf, unfinished}
 use Rattle.wire.specs.Laws.{Writable}
 use Rattle.reply.specs.Events.{Event, heard, refusedFrame, noAnswer, OnStream}
 use Rattle.listen.specs.Calls.{mostQuiet, mostNoise, starting, asking, listenerAllowed, listening}

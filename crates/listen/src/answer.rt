@@ -7,8 +7,8 @@ use crate::Listener;
 use crate::Told;
 use crate::counts;
 use crate::numbers;
-use wire::Event;
-use wire::Heard;
+use stream::Event;
+use stream::Heard;
 
 // The number of a refusal: the listener as it was, and nothing taken.
 pub(crate) fn refused(listener: Listener, number: u8) -> Listened

@@ -6,7 +6,7 @@ ghost use lib.ListN.{length};
 ghost use Rattle.laws.specs.Promise.{Gives};
 ghost use Rattle.listen.specs.Calls.{starting, asking, listening};
 ghost use Rattle.listen.specs.declared.Listened.{Listened};
-use wire::Held;
+use stream::Held;
 
 mod answer;
 mod counts;

@@ -12,5 +12,5 @@ pub(crate) fn run() {
     }
     let backup = text.backup;
     let verdict = backup.verdict;
-    words::tell(libc::STDOUT_FILENO, report::checked(verdict));
+    words::tell(libc::STDOUT_FILENO, verdicts::checked(verdict));
 }

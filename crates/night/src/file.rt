@@ -1,4 +1,5 @@
 // Files: a backup text read, and one kept.
+ghost use Rattle.io.specs.Counts.{Counts};
 use crate::words;
 use backup::Backup;
 use backup::Verdict;
@@ -20,9 +21,34 @@ pub(crate) struct Text {
     pub(crate) backup: Backup,
 }
 
-// Reads a backup text. One that fills the buffer is longer than any that is good, and is refused for it.
-pub(crate) fn read(path: &[u8]) -> Text {
+// What became of a file that was to be kept: it is as it was, or has the new text; unsure where a power cut may undo that.
+pub(crate) enum Kept {
+    Not,
+    Unsure,
+    Whole,
+}
+
+// Whether a file was read to its end, or as far as there was room: at the end a read gives nothing, and does not fail.
+pub(crate) fn is_read(fd: i32, len: usize, room: usize) -> bool {
+    if len == room {
+        return true;
+    }
+    let mut byte = [0u8; 1];
+    libc::read(fd, &mut byte) == 0
+}
+
+// The text of an open file. One that fills the buffer is longer than any that is good, and is refused for it.
+fn text_of(fd: i32) -> Text {
     let mut text = io::buffer();
+    let len = io::read_full(fd, &mut text);
+    Text {
+        is: is_read(fd, len, text.len()),
+        backup: backup::read(&text[..len]),
+    }
+}
+
+// Reads a backup text; where there is none to read, it says so.
+pub(crate) fn read(path: &[u8]) -> Text {
     let fd = os::open_read(path);
     if fd < 0 {
         os::fail(path);
@@ -31,12 +57,13 @@ pub(crate) fn read(path: &[u8]) -> Text {
             backup: backup::read(&[]),
         };
     }
-    let len = io::read_full(fd, &mut text);
+    let text = text_of(fd);
     libc::close(fd);
-    Text {
-        is: true,
-        backup: backup::read(&text[..len]),
+    if !text.is {
+        words::name(libc::STDERR_FILENO, path);
+        words::say(libc::STDERR_FILENO, b"it cannot be read");
     }
+    text
 }
 
 // Whether a text is good.
@@ -71,8 +98,48 @@ fn write(fd: i32, text: &[u8]) -> bool {
     0 <= libc::fsync(fd)
 }
 
+// How much of a path names its folder: up to its last slash, or nothing.
+fn folder_of(path: &[u8]) -> usize
+    ensures { λ r. ⌜ Counts r (now (path .entry)) ⌝ }
+{
+    let mut len = path.len();
+    while len > 0 && path[len - 1] != b'/' {
+        len -= 1;
+    }
+    words::front(len, path)
+}
+
+// Sees that the names in a folder are on the disk.
+fn sync_folder(path: &[u8]) -> bool {
+    let fd = os::open_read(path);
+    if fd < 0 {
+        return false;
+    }
+    let synced = 0 <= libc::fsync(fd);
+    libc::close(fd);
+    synced
+}
+
+// The same for the folder that a file stands in.
+fn sync_around(path: &[u8]) -> bool {
+    let len = folder_of(path);
+    if len == 0 {
+        return sync_folder(b".");
+    }
+    sync_folder(&path[..len])
+}
+
+// A file that has its new name: it is kept for good once its folder is on the disk.
+fn renamed(path: &[u8]) -> Kept {
+    if sync_around(path) {
+        return Kept::Whole;
+    }
+    os::fail(path);
+    Kept::Unsure
+}
+
 // Writes a text to a temporary file beside `path`, and only when it is whole gives it that name: what had it stays till then.
-fn replace(path: &[u8], text: &[u8]) -> bool {
+fn replace(path: &[u8], text: &[u8]) -> Kept {
     let mut name = io::buffer();
     let len = temporary(path, &mut name);
     let n = words::front(len, &name);
@@ -80,34 +147,34 @@ fn replace(path: &[u8], text: &[u8]) -> bool {
 }
 
 // The same, with the name of the temporary file to be.
-fn replace_by(name: &mut [u8], path: &[u8], text: &[u8]) -> bool {
+fn replace_by(name: &mut [u8], path: &[u8], text: &[u8]) -> Kept {
     let fd = os::create_temp(name);
     if fd < 0 {
         os::fail(path);
-        return false;
+        return Kept::Not;
     }
     let whole = write(fd, text);
     libc::close(fd);
     if whole && 0 <= os::rename(name, path) {
-        return true;
+        return renamed(path);
     }
     os::fail(path);
     os::unlink(name);
-    false
+    Kept::Not
 }
 
 // Keeps a table as a backup text.
-pub(crate) fn keep(path: &[u8], table: Table) -> bool {
+pub(crate) fn keep(path: &[u8], table: Table) -> Kept {
     let mut text = [0u8; TEXT_ROOM];
     let written = backup::write(table, &mut text);
     match written {
         Written::Text(len) => replace_front(path, &text, len),
-        Written::Refused(_) => false,
+        Written::Refused(_) => Kept::Not,
     }
 }
 
 // The front of a buffer as a file.
-fn replace_front(path: &[u8], text: &[u8], len: usize) -> bool {
+fn replace_front(path: &[u8], text: &[u8], len: usize) -> Kept {
     let n = words::front(len, text);
     replace(path, &text[..n])
 }

@@ -1,11 +1,33 @@
 // The serial line, or standard input and output in its place.
+use crate::words;
 
-// Where to read, to write and to report.
+// Where to read, to write and to report; and where it is not open, whether it is a file.
 pub(crate) struct Ends {
     pub(crate) open: bool,
+    pub(crate) file: bool,
     pub(crate) input: i32,
     pub(crate) output: i32,
     pub(crate) report: i32,
+}
+
+// Whether what was opened has a place to stand at, as a file has and a serial line has not.
+fn is_file(fd: i32) -> bool {
+    0 <= libc::lseek(fd, 0, libc::SEEK_CUR)
+}
+
+// What was opened for reading and writing; a file is closed again, before anything is written over it.
+fn ends_of(fd: i32) -> Ends {
+    let file = 0 <= fd && is_file(fd);
+    if file {
+        libc::close(fd);
+    }
+    Ends {
+        open: 0 <= fd && !file,
+        file,
+        input: fd,
+        output: fd,
+        report: libc::STDOUT_FILENO,
+    }
 }
 
 // Opens a line: a device that is read and written, or - for standard input and output.
@@ -13,6 +35,7 @@ pub(crate) fn open(path: &[u8]) -> Ends {
     if check::same(path, b"-") {
         return Ends {
             open: true,
+            file: false,
             input: libc::STDIN_FILENO,
             output: libc::STDOUT_FILENO,
             report: libc::STDERR_FILENO,
@@ -22,19 +45,28 @@ pub(crate) fn open(path: &[u8]) -> Ends {
     if fd < 0 {
         os::fail(path);
     }
-    Ends {
-        open: 0 <= fd,
-        input: fd,
-        output: fd,
-        report: libc::STDOUT_FILENO,
+    ends_of(fd)
+}
+
+// Says that a line could not be had, and what follows from it.
+fn complain(ends: Ends, path: &[u8]) {
+    if ends.file {
+        io::write_all(ends.report, path);
+        words::say(ends.report, b" is a file and no line: nothing was sent");
+    } else {
+        words::say(ends.report, b"nothing was sent: the line cannot be opened");
     }
 }
 
-// Opens the line of the first word.
+// Opens the line of the first word, and complains where it cannot be had.
 pub(crate) fn first() -> Ends {
     let mut path = io::buffer();
-    let len = os::arg(crate::words::FIRST, &mut path);
-    open(&path[..len])
+    let len = os::arg(words::FIRST, &mut path);
+    let ends = open(&path[..len]);
+    if !ends.open {
+        complain(ends, &path[..len]);
+    }
+    ends
 }
 
 // Closes a device; standard input and output stay.

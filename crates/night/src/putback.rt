@@ -8,16 +8,23 @@ use crate::words;
 use collect::Outcome;
 use settings::Table;
 
-// Reads the file, reads the board, shows the list, sends it and follows it.
+// Opens the line first: where the two words are swapped, the device is not read as a file.
 pub(crate) fn run() {
+    let ends = line::first();
+    if !ends.open {
+        return;
+    }
+    put_back(ends);
+    line::close(ends);
+}
+
+// Reads the file, reads the board, shows the list, sends it and follows it.
+fn put_back(ends: Ends) {
     let mut path = io::buffer();
     let len = os::arg(words::SECOND, &mut path);
     let text = file::read(&path[..len]);
     if !text.is {
-        return;
-    }
-    let ends = line::first();
-    if !ends.open {
+        words::say(ends.report, b"nothing was sent: the file cannot be read");
         return;
     }
     let backup = text.backup;
@@ -26,9 +33,8 @@ pub(crate) fn run() {
     if file::is_good(verdict) {
         restore(ends, table);
     } else {
-        words::tell(ends.report, report::checked(verdict));
+        words::tell(ends.report, verdicts::checked(verdict));
     }
-    line::close(ends);
 }
 
 // Reads the board, and goes on if all its settings were answered.
@@ -43,15 +49,15 @@ fn restore(ends: Ends, to: Table) {
         }
         Outcome::Waiting(_) => words::tell(
             ends.report,
-            report::collected(outcome, collected.answered),
+            endings::collected(outcome, collected.answered),
         ),
         Outcome::Stopped(_) => words::tell(
             ends.report,
-            report::collected(outcome, collected.answered),
+            endings::collected(outcome, collected.answered),
         ),
         Outcome::Refused(_) => words::tell(
             ends.report,
-            report::collected(outcome, collected.answered),
+            endings::collected(outcome, collected.answered),
         ),
     }
 }

@@ -227,35 +227,12 @@ pub(crate) fn follow(ends: Ends, from: Table, to: Table, shown: bool) -> Restore
 pub(crate) fn tell_end(report: i32, name: &[u8], restored: Restored) {
     let followed = restored.followed;
     let follower = followed.follower;
-    let outcome = followed.outcome;
     let said = restored.said;
-    let from = follower.from;
-    let to = follower.to;
-    let due = due_of(from, to);
-    ended(
-        report,
-        name,
-        outcome,
-        followed.confirmed,
-        due,
-        &said,
-        restored.len,
-    );
+    ended(report, name, follower, &said, restored.len);
 }
 
 // The same, with the front of a buffer as what the board said.
-fn ended(
-    report: i32,
-    name: &[u8],
-    outcome: Outcome,
-    confirmed: usize,
-    due: usize,
-    said: &[u8],
-    len: usize,
-) {
+fn ended(report: i32, name: &[u8], follower: Follower, said: &[u8], len: usize) {
     let n = words::front(len, said);
-    words::tell(
-        report,
-        report::followed(name, outcome, confirmed, due, &said[..n]),
-    );
+    words::tell(report, endings::followed(name, follower, &said[..n]));
 }

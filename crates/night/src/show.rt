@@ -4,6 +4,7 @@ use crate::line;
 use crate::line::Ends;
 use crate::reading;
 use crate::words;
+use lines::Line;
 use listen::Listener;
 use listen::Told;
 use reply::Reply;
@@ -81,20 +82,53 @@ fn framed(command: u8, data: &[u8], len: usize, id: u16) -> Met {
     met_by(command, &data[..n], id)
 }
 
-// Shows the value in a reply's data.
-fn show(report: i32, id: u16, data: &[u8], len: usize) {
-    let n = words::front(len, data);
-    if n < FRONT {
-        return;
-    }
-    words::tell(report, report::value(id, &data[FRONT..n]));
+// Whether two lines say the same.
+fn is_same(one: Line, other: Line) -> bool {
+    let chars = one.chars;
+    let others = other.chars;
+    let n = words::front(one.len, &chars);
+    let m = words::front(other.len, &others);
+    check::same(&chars[..n], &others[..m])
 }
 
-// The listener after an event, and whether to go on listening for this id, or for any.
+// Says what a value is, and whether it was understood: then other words are said than of a value without bytes, which none is.
+fn tell(report: i32, id: u16, value: &[u8]) -> bool {
+    let said = readings::value(id, value);
+    words::tell(report, said);
+    !is_same(said, readings::value(id, &[]))
+}
+
+// Shows the value in a reply's data, and whether it was understood.
+fn show(report: i32, id: u16, data: &[u8], len: usize) -> bool {
+    let n = words::front(len, data);
+    if n < FRONT {
+        return false;
+    }
+    tell(report, id, &data[FRONT..n])
+}
+
+// Shows what became of a Get, and whether it gave a value that was understood.
+fn show_met(report: i32, met: Met, id: u16, data: &[u8], len: usize) -> bool {
+    match met {
+        Met::Good => show(report, id, data, len),
+        Met::Bad => {
+            words::tell(report, readings::value(id, &[]));
+            false
+        }
+        Met::Waits => false,
+        Met::Silent => {
+            words::say(report, b"no answer: look at the line and its plug");
+            false
+        }
+    }
+}
+
+// The listener after an event, whether to go on listening for this id, or for any, and whether a value was understood.
 struct Heard {
     listener: Listener,
     waits: bool,
     silent: bool,
+    understood: bool,
 }
 
 // The next event, shown if it answers.
@@ -105,16 +139,12 @@ fn event(ends: Ends, listener: Listener, id: u16) -> Heard {
     let data = news.data;
     let met = told_of(told, &data, id);
     let len = ear::len_of(told);
-    match met {
-        Met::Good => show(ends.report, id, &data, len),
-        Met::Bad => words::tell(ends.report, report::value(id, &[])),
-        Met::Waits => {}
-        Met::Silent => words::say(ends.report, b"no answer: look at the line and its plug"),
-    }
+    let understood = show_met(ends.report, met, id, &data, len);
     Heard {
         listener,
         waits: is_waiting(met),
         silent: is_silent(met),
+        understood,
     }
 }
 
@@ -161,22 +191,41 @@ fn ask_for(ends: Ends, listener: Listener, id: u16) -> Heard {
         listener,
         waits: false,
         silent: true,
+        understood: false,
     }
 }
 
-// Asks for one after the other, until the board is silent.
-fn show_all(ends: Ends) {
+// One more value of at most all, if it was understood.
+fn one_more(shown: usize, understood: bool) -> usize {
+    if !understood {
+        return shown;
+    }
+    if shown < COUNT { shown + 1 } else { shown }
+}
+
+// Asks for one after the other, until the board is silent; how many were understood.
+fn show_all(ends: Ends) -> usize {
     let mut listener = Listener::start();
+    let mut shown = 0;
     let mut i = 0;
     while i < COUNT {
         let heard = ask_for(ends, listener, IDS[i]);
         if heard.silent {
-            return;
+            return shown;
         }
         let next = heard.listener;
         listener = next;
+        shown = one_more(shown, heard.understood);
         i += 1;
     }
+    shown
+}
+
+// The last line, by which a show that broke off can be told from one that ended.
+fn tell_end(report: i32, shown: usize) {
+    io::write_all(report, b"shown: ");
+    io::print_decimal(report, shown as u64);
+    words::say(report, b" of 8 values");
 }
 
 // Who the board is, and its readings.
@@ -185,6 +234,7 @@ pub(crate) fn run() {
     if !ends.open {
         return;
     }
-    show_all(ends);
+    let shown = show_all(ends);
     line::close(ends);
+    tell_end(ends.report, shown);
 }

@@ -1,2 +1,4 @@
 -- The read-only values in words (ours).
 pub mod Values
+pub mod Laws
+pub mod Worked

@@ -11,14 +11,16 @@ use Rattle.lines.specs.Numbers.{pointed, hexByte, hexId}
 use Rattle.phrases.specs.Names.{unitText}
 use Rattle.phrases.specs.declared.Unit.{Unit}
 
--- another id, or a value of another width
+-- another id, or a value of another form
 unfoldable pub strangeText : ℕ → List ℕ
 strangeText id = hexId id ++ chars ": not understood"
 
 -- "four bytes 00, product low, product high, FF": `product A381`
 unfoldable pub productText : ℕ → List ℕ → List ℕ
 productText id value =
-    cond (eqb (length value) 4) (chars "product " ++ hexByte (getD value 2 0) ++ hexByte (getD value 1 0)) (strangeText id)
+    cond (eqb (length value) 4 && (eqb (getD value 0 0) 0 && eqb (getD value 3 0) 0xFF))
+    (chars "product " ++ hexByte (getD value 2 0) ++ hexByte (getD value 1 0))
+    (strangeText id)
 
 -- "version, 2 bytes": `version 4401`
 unfoldable pub versionText : ℕ → List ℕ → List ℕ
@@ -31,6 +33,10 @@ shownByte b = cond (leb 0x20 b && leb b 0x7E) b 0x3F
 
 unfoldable pub serialText : List ℕ → List ℕ
 serialText value = chars "serial " ++ map shownByte (take (before (eqb 0) value) value)
+
+-- a value of no byte is no serial: the zero byte of an empty one is missing
+unfoldable pub namedText : ℕ → List ℕ → List ℕ
+namedText id value = cond (eqb (length value) 0) (strangeText id) (serialText value)
 
 -- two's complement: from the half on a number is negative, counted back from the whole
 unfoldable pub signedText : ℕ → ℕ → ℕ → List ℕ
@@ -68,6 +74,6 @@ readingText id value =
 unfoldable pub valueText : ℕ → List ℕ → List ℕ
 valueText id value =
     cond (eqb id 0x0100) (productText id value)
-    (cond (eqb id 0x010A) (serialText value)
+    (cond (eqb id 0x010A) (namedText id value)
     (cond (eqb id 0xEEF9) (versionText id value)
     (readingText id value)))

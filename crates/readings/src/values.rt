@@ -2,7 +2,7 @@
 ghost use Prim.Native.Nat.{_+_, _≤_, _<_};
 ghost use mathlib.Core.Path.{_≡_};
 ghost use Rattle.lines.specs.Lines.{adding};
-ghost use Rattle.readings.specs.Values.{strangeText, productText, versionText, signedText, narrowText, broadText, plainText, readingText, valueText};
+ghost use Rattle.readings.specs.Values.{strangeText, productText, namedText, versionText, signedText, narrowText, broadText, plainText, readingText, valueText};
 use crate::bytes;
 use crate::serial;
 use lines::Line;
@@ -25,6 +25,11 @@ const CONSUMED: u16 = 0xEEFF;
 
 const CHARGE: u16 = 0x0FFF;
 
+// What stands around a product.
+const INSTANCE: u8 = 0;
+
+const RESERVED: u8 = 0xFF;
+
 // From the half on a number in two's complement is negative.
 const HALF_16: usize = 32768;
 
@@ -37,14 +42,30 @@ fn put_strange(line: Line, id: u16) -> Line
     line.put_id(id).put(b": not understood")
 }
 
-// 0100: the product stands in the second and third byte, the low one first.
+// 0100: the product stands in the second and third byte, the low one first, between 00 and FF.
 fn put_product(line: Line, id: u16, value: &[u8]) -> Line
     ensures { λ r. ⌜ r ≡ adding line (productText id (now (value .entry))) ⌝ }
 {
     if value.len() != 4 {
         return put_strange(line, id);
     }
+    if value[0] != INSTANCE {
+        return put_strange(line, id);
+    }
+    if value[3] != RESERVED {
+        return put_strange(line, id);
+    }
     line.put(b"product ").put_byte(value[2]).put_byte(value[1])
+}
+
+// 010A: the serial; an empty one is a zero byte, and no byte is none.
+fn put_named(line: Line, id: u16, value: &[u8]) -> Line
+    ensures { λ r. ⌜ r ≡ adding line (namedText id (now (value .entry))) ⌝ }
+{
+    if value.len() == 0 {
+        return put_strange(line, id);
+    }
+    serial::put_serial(line, value)
 }
 
 // EEF9: the version, the low byte first.
@@ -131,7 +152,7 @@ pub(crate) fn put_value(line: Line, id: u16, value: &[u8]) -> Line
         return put_product(line, id, value);
     }
     if id == SERIAL {
-        return serial::put_serial(line, value);
+        return put_named(line, id, value);
     }
     if id == VERSION {
         return put_version(line, id, value);

@@ -12,15 +12,15 @@ use Rattle.laws.specs.Promise.{Given}
 use Rattle.laws.proofs.Bools.{and-left, and-right}
 use Rattle.wire.specs.Frame.{frame}
 use Rattle.wire.specs.Reading.{Ended, good}
-use Rattle.wire.specs.Stream.{Unfinished, outside, framesFrom, leftFrom, framesOf, taken}
-use Rattle.wire.specs.Calls as wire
-use Rattle.wire.specs.Calls.{heldOf}
+use Rattle.stream.specs.Stream.{Unfinished, outside, framesFrom, leftFrom, framesOf, taken}
+use Rattle.stream.specs.Calls as stream
+use Rattle.stream.specs.Calls.{heldOf}
 use Rattle.wire.specs.Laws.{Writable}
-use Rattle.wire.proofs.Answers.{hearing-heard}
-use Rattle.wire.proofs.Helds.{allowed-outside}
-use Rattle.wire.proofs.Reached.{kept, unfinished-kept, kept-frames, kept-left}
-use Rattle.wire.proofs.Streams.{left-append, frames-append, taken-within}
-use Rattle.wire.proofs.Theorems.{written-is-heard}
+use Rattle.stream.proofs.Answers.{hearing-heard}
+use Rattle.stream.proofs.Helds.{allowed-outside}
+use Rattle.stream.proofs.Reached.{kept, unfinished-kept, kept-frames, kept-left}
+use Rattle.stream.proofs.Streams.{left-append, frames-append, taken-within}
+use Rattle.stream.proofs.Theorems.{written-is-heard}
 use Rattle.settings.specs.Columns.{count}
 use Rattle.settings.specs.Rules.{allowedFor, partnerNumber, changed}
 use Rattle.settings.specs.Calls.{setTo}
@@ -57,10 +57,10 @@ use Rattle.rehearsal.specs.Calls.{listening, turned, rehearsing}
 use Rattle.rehearsal.specs.declared.line.Turn.{Turn}
 
 -- a reply of no bytes says nothing, and one frame says that frame
-heard-as : (reply : List ℕ) → wire.hearing (heldOf outside) reply 35 ≡ wire.heardOf outside reply
+heard-as : (reply : List ℕ) → stream.hearing (heldOf outside) reply 35 ≡ stream.heardOf outside reply
 heard-as reply =
     hearing-heard (heldOf outside) reply 35 (leb-true 35 35 refl) allowed-outside
-    ∙ ap (λ (u : Unfinished). wire.heardOf u reply) (unfinished-kept outside)
+    ∙ ap (λ (u : Unfinished). stream.heardOf u reply) (unfinished-kept outside)
 
 listen-none : (f : Followed) → listening f [] ≡ f
 unfolding listening

@@ -6,9 +6,9 @@ use native.Mathlib.Omega.{arith}
 use lib.ListN.{length}
 use lib.Dec.{eqb}
 use Rattle.laws.proofs.Bools.{both}
-use Rattle.wire.specs.Stream.{outside}
-use Rattle.wire.specs.Calls.{heldOf}
-use Rattle.wire.proofs.Helds.{held-same, unfinished-outside}
+use Rattle.stream.specs.Stream.{outside}
+use Rattle.stream.specs.Calls.{heldOf}
+use Rattle.stream.proofs.Helds.{held-same, unfinished-outside}
 use Rattle.settings.specs.Rules.{allowed}
 use Rattle.settings.specs.declared.Table.{Table}
 use Rattle.board.specs.declared.Board.{Board}

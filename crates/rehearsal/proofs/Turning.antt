@@ -12,16 +12,16 @@ use Rattle.laws.specs.Promise.{Given, Gives, overlaid}
 use Rattle.laws.proofs.Bools.{and-left, and-right}
 use Rattle.laws.proofs.Lists.{take-min}
 use Rattle.wire.specs.Reading.{Ended, good, refused}
-use Rattle.wire.specs.Stream.{outside, taken}
-use Rattle.wire.specs.Calls as wire
-use Rattle.wire.specs.Laws.{Writables, whole}
-use Rattle.wire.specs.declared.Event.{Event}
-use Rattle.wire.specs.declared.Held.{Held}
-use Rattle.wire.specs.declared.Heard.{Heard}
-use Rattle.wire.proofs.Answers.{hearing-heard}
-use Rattle.wire.proofs.Helds.{allowed-outside}
-use Rattle.wire.proofs.Streams.{taken-within}
-use Rattle.wire.proofs.Theorems.{heard-is-writable}
+use Rattle.stream.specs.Stream.{outside, taken}
+use Rattle.stream.specs.Calls as stream
+use Rattle.stream.specs.Laws.{Writables, whole}
+use Rattle.stream.specs.declared.Event.{Event}
+use Rattle.stream.specs.declared.Held.{Held}
+use Rattle.stream.specs.declared.Heard.{Heard}
+use Rattle.stream.proofs.Answers.{hearing-heard}
+use Rattle.stream.proofs.Helds.{allowed-outside}
+use Rattle.stream.proofs.Streams.{taken-within}
+use Rattle.stream.proofs.Theorems.{heard-is-writable}
 use Rattle.answers.specs.declared.Outcome as said
 use Rattle.board.specs.Parts.{boardAllowed}
 use Rattle.board.specs.Calls.{deciding, decidedBy, heardBy, answering}
@@ -106,15 +106,15 @@ bounded board piece = by (boardAllowed board) refl
     by true e =
         let short : length (answering board piece 75 .written) ≤ 75 = reply-is-read board piece 75 e (leb-true 75 75 refl) .short in
         let is = answering-heard board piece 75 (leb-true 75 75 refl) e in
-        rw is (record { within = taken-within (wire.unfinished (board .held)) piece; len-is = refl; short = rw is at short })
+        rw is (record { within = taken-within (stream.unfinished (board .held)) piece; len-is = refl; short = rw is at short })
     by false e = rw (answering-stray board piece 75 (leb-true 75 75 refl) e) (record { within = omega arith; len-is = refl; short = omega arith })
 
 -- what a reply says to the follower, by what happened on the stream
 record Whole (fs : List Ended) (len : ℕ) : Type 0 where
-  count : length (wire.dataOfFirst fs) ≡ len
+  count : length (stream.dataOfFirst fs) ≡ len
   few : len ≤ 35
 
-event-frame : (fs : List Ended) → Writables fs → (command len : ℕ) → wire.eventOf fs ≡ Event.Frame command len → Whole fs len
+event-frame : (fs : List Ended) → Writables fs → (command len : ℕ) → stream.eventOf fs ≡ Event.Frame command len → Whole fs len
 event-frame [] w command len e = let z : _≡_ {A = ℕ} 0 1 = cc in absurd (omega arith)
 event-frame (refused number ∷ rest) w command len e = let z : _≡_ {A = ℕ} 0 1 = cc in absurd (omega arith)
 event-frame (good c bytes ∷ rest) (whole w others) command len e =
@@ -125,9 +125,9 @@ pub front-back : (front rest : List ℕ) → take (length front) (overlaid front
 unfolding overlaid
 front-back front rest = take-append-seam front _
 
-module _ (f : Followed) (reply : List ℕ) (held : Held) (out : held ≡ wire.heldOf outside) {h : Heard} (is : h ≡ wire.hearing held reply 35 .answer) where
-  event-is : wire.hearing (wire.heldOf outside) reply 35 .answer .event ≡ h .event
-  event-is = ap (λ (a : Heard). a .event) (sym (is ∙ ap (λ (s : Held). wire.hearing s reply 35 .answer) out))
+module _ (f : Followed) (reply : List ℕ) (held : Held) (out : held ≡ stream.heldOf outside) {h : Heard} (is : h ≡ stream.hearing held reply 35 .answer) where
+  event-is : stream.hearing (stream.heldOf outside) reply 35 .answer .event ≡ h .event
+  event-is = ap (λ (a : Heard). a .event) (sym (is ∙ ap (λ (s : Held). stream.hearing s reply 35 .answer) out))
 
   pub listen-nothing : h .event ≡ Event.Nothing → f ≡ listening f reply
   unfolding listening
@@ -138,12 +138,12 @@ module _ (f : Followed) (reply : List ℕ) (held : Held) (out : held ≡ wire.he
   listen-refused n e = rw (event-is ∙ e)
 
   module _ (command len : ℕ) (e : h .event ≡ Event.Frame command len) where
-    heard-as : wire.hearing (wire.heldOf outside) reply 35 ≡ wire.heardOf (wire.unfinished (wire.heldOf outside)) reply
-    heard-as = hearing-heard (wire.heldOf outside) reply 35 (leb-true 35 35 refl) allowed-outside
+    heard-as : stream.hearing (stream.heldOf outside) reply 35 ≡ stream.heardOf (stream.unfinished (stream.heldOf outside)) reply
+    heard-as = hearing-heard (stream.heldOf outside) reply 35 (leb-true 35 35 refl) allowed-outside
 
-    size-is : (length (wire.hearing (wire.heldOf outside) reply 35 .written) ≡ len) × (len ≤ 35)
+    size-is : (length (stream.hearing (stream.heldOf outside) reply 35 .written) ≡ len) × (len ≤ 35)
     size-is =
-        let u = wire.unfinished (wire.heldOf outside) in
+        let u = stream.unfinished (stream.heldOf outside) in
         let bytes : List ℕ = take (taken u reply) reply in
         let ev = ap (λ (g : Given Heard). g .answer .event) (sym heard-as) ∙ event-is ∙ e in
         let w = event-frame _ (heard-is-writable u bytes) command len ev in
@@ -152,12 +152,12 @@ module _ (f : Followed) (reply : List ℕ) (held : Held) (out : held ≡ wire.he
     pub frame-few : len ≤ 35
     frame-few = size-is .1
 
-    pub listen-frame : (buffer : List ℕ) {bytes : List ℕ} → bytes ≡ overlaid (wire.hearing held reply 35 .written) buffer
+    pub listen-frame : (buffer : List ℕ) {bytes : List ℕ} → bytes ≡ overlaid (stream.hearing held reply 35 .written) buffer
         → following (f .follower) (heard command (take len bytes)) ≡ listening f reply
     unfolding listening
     listen-frame buffer {bytes} filled =
-        let w : List ℕ = wire.hearing (wire.heldOf outside) reply 35 .written in
-        let same : bytes ≡ overlaid w buffer = filled ∙ ap (λ (s : Held). overlaid (wire.hearing s reply 35 .written) buffer) out in
+        let w : List ℕ = stream.hearing (stream.heldOf outside) reply 35 .written in
+        let same : bytes ≡ overlaid w buffer = filled ∙ ap (λ (s : Held). overlaid (stream.hearing s reply 35 .written) buffer) out in
         let front : take len bytes ≡ w = ap (take len) same ∙ ap (λ (n : ℕ). take n (overlaid w buffer)) (sym (size-is .0)) ∙ front-back w buffer in
         rw (event-is ∙ e, front)
 

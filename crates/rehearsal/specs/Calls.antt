@@ -5,9 +5,10 @@ use mathlib.Core.List.{List}
 use lib.ListN.{length, take, drop}
 use lib.Dec.{ltb}
 use Rattle.wire.specs.Frame.{mostData, frameRoom}
-use Rattle.wire.specs.Stream.{outside}
-use Rattle.wire.specs.Calls.{heldOf, hearing, notAllowed}
-use Rattle.wire.specs.declared.Event.{Event}
+use Rattle.stream.specs.Stream.{outside}
+use Rattle.wire.specs.Calls.{notAllowed}
+use Rattle.stream.specs.Calls.{heldOf, hearing}
+use Rattle.stream.specs.declared.Event.{Event}
 use Rattle.settings.specs.declared.Table.{Table}
 use Rattle.board.specs.Parts.{boardAllowed}
 use Rattle.board.specs.Calls.{answering}

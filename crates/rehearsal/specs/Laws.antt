@@ -4,7 +4,7 @@ use mathlib.Core.Path.{_≡_}
 use mathlib.Core.Bool.{true, false, cond}
 use lib.ListN.{length}
 use lib.Dec.{eqb}
-use Rattle.wire.specs.Calls.{mostHeld}
+use Rattle.stream.specs.Calls.{mostHeld}
 use Rattle.settings.specs.Columns.{count}
 use Rattle.settings.specs.Rules.{allowed}
 use Rattle.settings.specs.declared.Table.{Table}

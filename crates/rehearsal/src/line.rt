@@ -8,8 +8,8 @@ ghost use Rattle.rehearsal.specs.Calls.{listening, turned, started, rehe
 use crate::numbers;
 use board::Board;
 use follow::Followed;
-use wire::Event;
-use wire::Held;
+use stream::Event;
+use stream::Held;
 
 // Where a rehearsal stands: the board, its follower, and how many bytes of the list the board has taken.
 pub(crate) struct Turn {

@@ -13,8 +13,8 @@ use Rattle.wire.specs.Numbers.{little, complement}
 use Rattle.wire.specs.Laws.{Bytes}
 use Rattle.answers.specs.Answers.{said}
 use Rattle.answers.specs.Values.{readOnly}
-use Rattle.answers.specs.declared.Identity.{Identity}
-use Rattle.answers.specs.declared.Readings.{Readings}
+use Rattle.who.specs.declared.Identity.{Identity}
+use Rattle.who.specs.declared.Readings.{Readings}
 use Rattle.reply.specs.Replies.{flagOf, rest}
 use Rattle.reply.specs.Units.{over}
 use Rattle.reply.specs.Calls.{reading, showing}

@@ -1,4 +1,3 @@
--- The lines that the night box prints for a technician (ours). Read them in this order.
+-- The lines of a night: settings and Sets (ours). Read them in this order.
 pub mod Texts
-pub mod Laws
 pub mod Worked

@@ -1,10 +1,11 @@
 -- The constant table of 26 settings, a row each, in the order of the ids. Document 01, "Settings": "Width 1 where marked, else 2. Shown:
 -- id, allowed, factory." The same numbers stand as const arrays, column by column, in src/columns.rt; that they are the same is proved
 -- where an entry is read. Assumes nothing.
-use Prim.Native.Nat.{ℕ}
-use mathlib.Core.Bool.{Bool, true, false}
-use mathlib.Core.List.{List, [], _∷_, map}
-use lib.ListN.{getD}
+use Prim.Native.Nat.{ℕ, zero, suc}
+use mathlib.Core.Bool.{Bool, true, false, cond}
+use mathlib.Core.List.{List, [], _∷_, _++_, map}
+use lib.ListN.{length, getD}
+use lib.Dec.{ltb}
 use Rattle.settings.specs.declared.columns.Role.{Role}
 use Rattle.settings.specs.declared.Table.{Table}
 
@@ -106,6 +107,20 @@ roles = map (λ (e : Entry). e .role) entries
 
 abbrev pub roleAt : ℕ → Role
 roleAt k = getD roles k Role.Alone
+
+-- the pairs, by the place of the first of each: a setting that stands before its partner
+abbrev pub firstsBelow : ℕ → List ℕ
+firstsBelow zero = []
+firstsBelow (suc k) = cond (ltb k (partnerAt k)) (firstsBelow k ++ k ∷ []) (firstsBelow k)
+
+abbrev pub firsts : List ℕ
+firsts = firstsBelow count
+
+abbrev pub firstAt : ℕ → ℕ
+firstAt j = getD firsts j 0
+
+abbrev pub pairs : ℕ
+pairs = length firsts
 
 -- the factory table
 abbrev pub factory : Table

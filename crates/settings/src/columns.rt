@@ -2,7 +2,7 @@
 // every look-up of an id, a width, an end, a factory number or a partner comes here.
 ghost use Prim.Native.Nat.{_<_};
 ghost use mathlib.Core.Path.{_≡_};
-ghost use Rattle.settings.specs.Columns.{count, idAt, widthAt, lowAt, highAt, zeroAt, factories, partnerAt, roleAt, lows, highs, zeros, partners, roles};
+ghost use Rattle.settings.specs.Columns.{count, idAt, widthAt, lowAt, highAt, zeroAt, factories, partnerAt, roleAt, lows, highs, zeros, partners, roles, firsts};
 ghost use Rattle.settings.specs.Calls.{placeOf};
 use crate::COUNT;
 
@@ -249,6 +249,18 @@ const ROLES: [Role; COUNT] = [
     Role::Alone, // EEFE
 ];
 
+// The pairs, by the place of the first of each.
+pub(crate) const PAIRS: usize = 6;
+
+const FIRSTS: [usize; PAIRS] = [
+    0, // 0320
+    2, // 0322
+    4, // 0328
+    6, // 032A
+    8, // 032C
+    19, // 1008
+];
+
 pub(crate) fn id_of(index: usize) -> u16
     requires { ⌜ index < count ⌝ }
     ensures { λ r. ⌜ r ≡ idAt index ⌝ }
@@ -341,6 +353,12 @@ pub(crate) fn roles() -> [Role; COUNT]
     ensures { λ r. ⌜ r ≡ roles ⌝ }
 {
     ROLES
+}
+
+pub(crate) fn firsts() -> [usize; PAIRS]
+    ensures { λ r. ⌜ r ≡ firsts ⌝ }
+{
+    FIRSTS
 }
 
 // The whole column of factory numbers.

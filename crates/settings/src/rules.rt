@@ -90,17 +90,19 @@ fn all_in_range(numbers: [u16; COUNT]) -> bool
     all
 }
 
-// Every number agrees with its partner's.
+// Every number agrees with its partner's. The first of each pair is asked: the second agrees when it does.
 fn all_agree(numbers: [u16; COUNT]) -> bool
     ensures { λ r. ⌜ r ≡ upTo count (λ k. agrees (roleAt k) (getD numbers k 0) (getD numbers (partnerAt k) 0)) ⌝ }
 {
+    let firsts = columns::firsts();
     let partners = columns::partners();
     let roles = columns::roles();
     let mut all = true;
     let mut i = 0;
-    while i < COUNT {
-        let other = partners[i];
-        all = all & agrees_by(roles[i], numbers[i], numbers[other]);
+    while i < columns::PAIRS {
+        let first = firsts[i];
+        let second = partners[first];
+        all = all & agrees_by(roles[first], numbers[first], numbers[second]);
         i += 1;
     }
     all

@@ -1,6 +1,6 @@
 -- What each public call answers, for every input. Assumes nothing.
 use mathlib.Core.Bool.{cond, _&&_}
-use Rattle.answers.specs.declared.Verdict.{Verdict}
+use Rattle.who.specs.declared.Verdict.{Verdict}
 use Rattle.tally.specs.Results.{Result, shareOf, fits, tallyAllowed, plus}
 use Rattle.tally.specs.declared.Tally.{Tally}
 use Rattle.tally.specs.declared.Counted.{Counted}

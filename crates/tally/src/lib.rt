@@ -4,8 +4,8 @@ ghost use mathlib.Core.Path.{_≡_};
 ghost use Rattle.tally.specs.Results.{nothing};
 ghost use Rattle.tally.specs.Results as results;
 ghost use Rattle.tally.specs.Calls.{counting};
-use answers::Verdict;
 use follow::Follower;
+use who::Verdict;
 
 mod numbers;
 mod share;

@@ -8,8 +8,8 @@ use crate::Counted;
 use crate::Tally;
 use crate::numbers;
 use crate::share;
-use answers::Verdict;
 use follow::Follower;
+use who::Verdict;
 
 // Whether no count is over a million.
 pub(crate) fn is_allowed(tally: Tally) -> bool

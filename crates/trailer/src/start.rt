@@ -1,10 +1,10 @@
 // The board that the words ask for.
 use crate::words;
-use answers::Verdict;
 use backup::Verdict as Read;
 use board::Board;
 use board::Judged;
 use settings::Table;
+use who::Verdict;
 
 // The board of document 01's worked lines.
 const PRODUCT: u16 = 0xA381;

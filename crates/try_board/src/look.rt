@@ -1,13 +1,13 @@
 // A board in words: who it is, the settings that differ from the factory's, its readings, and its unfinished frame.
 use crate::show;
 use crate::words;
-use answers::Identity;
-use answers::Readings;
 use board::Board;
 use settings::COUNT;
 use settings::Found;
 use settings::Table;
-use wire::Held;
+use stream::Held;
+use who::Identity;
+use who::Readings;
 
 // Writes all of a board, and hands it on.
 pub fn shown(board: Board) -> Board {

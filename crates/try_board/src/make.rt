@@ -6,15 +6,15 @@ use crate::numbers::as_16;
 use crate::numbers::as_signed;
 use crate::same;
 use crate::words;
-use answers::Identity;
-use answers::Verdict;
 use board::Board;
 use board::Judged;
 use board::Sample;
 use settings::COUNT;
 use settings::Found;
 use settings::Table;
-use wire::Held;
+use stream::Held;
+use who::Identity;
+use who::Verdict;
 
 // The bytes that a serial and a held frame have in a board.
 const MOST_SERIAL: usize = 32;

@@ -1,12 +1,12 @@
 // Boards compared: whether one is as another was, and what became other.
 use crate::look;
 use crate::words;
-use answers::Identity;
-use answers::Readings;
 use board::Board;
 use settings::COUNT;
 use settings::Table;
-use wire::Held;
+use stream::Held;
+use who::Identity;
+use who::Readings;
 
 // The same identity, byte for byte.
 fn is_identity(one: Identity, other: Identity) -> bool {

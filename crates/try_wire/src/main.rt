@@ -12,9 +12,9 @@
 // At most 80 bytes are lent. In TEXT, at most 256 bytes, stand \n \r \\ \xHH as usual, and \73*1 for 73 times the character 1.
 // An empty line and a line that begins with # are written as they stand.
 mod marked;
+mod pieces;
 mod script;
 mod show;
-mod stream;
 mod text;
 mod whole;
 mod words;

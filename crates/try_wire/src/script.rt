@@ -1,14 +1,14 @@
 // The lines one after the other, and the stream's state that each leaves to the next.
 use crate::marked::least;
+use crate::pieces;
 use crate::show;
-use crate::stream;
 use crate::text;
 use crate::text::MOST_TEXT;
 use crate::text::Number;
 use crate::whole;
 use crate::words;
 use bytes::scan::find;
-use wire::Held;
+use stream::Held;
 
 const BLANK: u8 = b' ';
 
@@ -83,14 +83,14 @@ fn acts(
             whole::writes(bytes, n);
             held
         }
-        words::HEAR => stream::hears(held, bytes, n, len),
-        words::BYTES => stream::hears(held, bytes, n, 1),
+        words::HEAR => pieces::hears(held, bytes, n, len),
+        words::BYTES => pieces::hears(held, bytes, n, 1),
         words::BOTH => {
             whole::reads(bytes, n);
-            stream::hears(Held::outside(), bytes, n, len)
+            pieces::hears(Held::outside(), bytes, n, len)
         }
-        words::INSIDE => stream::state_of(true, n, bytes),
-        words::OUTSIDE => stream::state_of(false, n, bytes),
+        words::INSIDE => pieces::state_of(true, n, bytes),
+        words::OUTSIDE => pieces::state_of(false, n, bytes),
         _ => {
             words::say(words::NO_WORD, count);
             held

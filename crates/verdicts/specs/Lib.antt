@@ -1,2 +1,4 @@
 -- What a backup is, in words (ours).
 pub mod Texts
+pub mod Laws
+pub mod Worked

@@ -11,8 +11,7 @@ use Rattle.laws.specs.Lists.{every}
 use Rattle.wire.specs.Digits.{isDigit}
 use Rattle.wire.specs.Frame.{frame, colon, newline}
 use Rattle.wire.specs.Reading.{refused, good, bodySays, brokenSays, badCount, sumsUp, commandOf, dataOf}
-use Rattle.wire.specs.Calls.{writing, unwritten, writtenAs, reading, readAs, wholeSays, wellEnclosed, between, hearing, unheard, heardOf, allowed, unfinished}
-use Rattle.wire.specs.declared.Held.{Held}
+use Rattle.wire.specs.Calls.{writing, unwritten, writtenAs, reading, readAs, wholeSays, readingChars, wellEnclosed, between}
 
 -- the characters of a frame, in the order of the refusals
 pub body-long : (chars : List ℕ) → 73 < length chars → bodySays chars ≡ refused 1
@@ -89,16 +88,11 @@ pub enclosed-long : (slice : List ℕ) → wellEnclosed slice ≡ true → 2 ≤
 enclosed-long slice e =
     leb-true 2 (length slice) (and-left (leb 2 (length slice)) (eqb (getD slice 0 0) colon && eqb (getD slice (length slice - 1) 0) newline) e)
 
--- the stream reader
-pub hearing-short : (held : Held) (piece : List ℕ) (room : ℕ) → room < 35 → hearing held piece room ≡ unheard held 11
-unfolding hearing
-hearing-short held piece room h = simp (lt-ltb room 35 h)
+-- the reader of the characters alone
+pub chars-short : (chars : List ℕ) (room : ℕ) → room < 35 → readingChars chars room ≡ readAs (refused 11)
+unfolding readingChars
+chars-short chars room h = simp (lt-ltb room 35 h)
 
-pub hearing-stray : (held : Held) (piece : List ℕ) (room : ℕ) → 35 ≤ room → allowed held ≡ false → hearing held piece room ≡ unheard held 12
-unfolding hearing
-hearing-stray held piece room h e = simp (le-ltb room 35 h, e)
-
-pub hearing-heard : (held : Held) (piece : List ℕ) (room : ℕ) → 35 ≤ room → allowed held ≡ true
-    → hearing held piece room ≡ heardOf (unfinished held) piece
-unfolding hearing
-hearing-heard held piece room h e = simp (le-ltb room 35 h, e)
+pub chars-read : (chars : List ℕ) (room : ℕ) → 35 ≤ room → readingChars chars room ≡ readAs (bodySays chars)
+unfolding readingChars
+chars-read chars room h = simp (le-ltb room 35 h)

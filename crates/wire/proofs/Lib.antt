@@ -3,12 +3,7 @@ pub mod Nibbles
 pub mod Signs
 pub mod Bytes
 pub mod Frames
-pub mod Streams
 pub mod Answers
-pub mod Helds
-pub mod Hearing
 pub mod RoundTrip
-pub mod Reached
-pub mod Cuts
 pub mod Same
 pub mod Theorems

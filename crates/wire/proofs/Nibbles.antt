@@ -1,18 +1,18 @@
 -- A digit and its nibble are each other's: every nibble's digit is read as that nibble, and a character that is read as a nibble is
 -- that nibble's digit. Assumes nothing.
 use mathlib.Core.Path.{_≡_, refl, sym, _∙_}
-use mathlib.Core.Bool.{Bool, true, false, _&&_, _||_}
+use mathlib.Core.Bool.{Bool, true, false, not, _&&_, _||_}
 use Prim.Native.Nat.{ℕ, _+_, _*_, _/_, _%_, _≤_, _<_, _-_}
 use native.Mathlib.Omega.{arith}
 use borrow.Author.Tests.{lt-ltb, le-ltb, lt-leb, le-leb, leb-true, ltb-true, ltb-false, ne-eqb}
-use lib.Dec.{ltb, leb}
+use lib.Dec.{ltb, leb, eqb}
 use mathlib.Core.List.{List}
 use lib.ListN.{length, getD}
 use Rattle.laws.specs.Lists.{every}
 use Rattle.laws.proofs.Lists.{every-at}
 use Rattle.laws.proofs.Bools.{and-left, and-right}
 use Rattle.wire.specs.Digits.{digit, nibble, isDigit}
-use Rattle.wire.specs.Calls.{stays}
+use Rattle.wire.specs.Frame.{colon, newline}
 
 -- the two rows of digits, each way
 digit-low : (n : ℕ) → n < 10 → digit n ≡ 48 + n
@@ -96,10 +96,10 @@ pub digit-isDigit : (n : ℕ) → n < 16 → isDigit (digit n) ≡ true
 digit-isDigit n h = rw (nibble-digit n h) (lt-ltb n 16 h)
 
 -- a digit is neither a newline nor a colon, so it stays in its frame
-pub digit-stays : (n : ℕ) → n < 16 → stays (digit n) ≡ true
+pub digit-stays : (n : ℕ) → n < 16 → not (eqb (digit n) newline || eqb (digit n) colon) ≡ true
 digit-stays n h = by (ltb n 10) refl
   where
-    by : (t : Bool) → ltb n 10 ≡ t → stays (digit n) ≡ true
+    by : (t : Bool) → ltb n 10 ≡ t → not (eqb (digit n) newline || eqb (digit n) colon) ≡ true
     by true e =
         let low : n < 10 = ltb-true n 10 e in
         rw (digit-low n low) (simp (ne-eqb (48 + n) 10 (omega arith), ne-eqb (48 + n) 58 (omega arith)))

@@ -1,6 +1,6 @@
 -- The frame writer and the reading of a frame undo each other. Assumes nothing.
 use mathlib.Core.Path.{_≡_, refl, sym, ap, ap₂, _∙_}
-use mathlib.Core.Bool.{Bool, true, false, cond, _&&_, false≢true}
+use mathlib.Core.Bool.{Bool, true, false, _&&_, false≢true}
 use mathlib.Core.List.{List, [], _∷_, _++_}
 use Prim.Native.Nat.{ℕ, suc, _+_, _*_, _/_, _%_, _-_, _≤_, _<_}
 use native.Mathlib.Omega.{arith}
@@ -12,16 +12,14 @@ use Rattle.laws.specs.Lists.{every, sumOf}
 use Rattle.laws.proofs.Bools.{and-left, and-right}
 use Rattle.laws.proofs.Lists.{every-at, every-take, every-append, sum-append}
 use Rattle.wire.specs.Digits.{digit, nibble, isDigit}
-use Rattle.wire.specs.Frame.{colon, newline, mostChars, total, check, digitsOf, body, frame}
-use Rattle.wire.specs.Reading.{Ended, good, refused, bytesOf, commandOf, payloadOf, dataOf, badCount, sumsUp, bodySays, brokenSays}
-use Rattle.wire.specs.Stream.{outside, inside, next, framesFrom, leftFrom, taken}
-use Rattle.wire.specs.Calls.{stays, between, wellEnclosed, reading, readAs, writing, writtenAs}
-use Rattle.wire.specs.Laws.{Bytes, Writables, nothing, broken, whole, HeardIsWritable}
+use Rattle.wire.specs.Frame.{colon, newline, total, check, digitsOf, body, frame}
+use Rattle.wire.specs.Reading.{Ended, good, refused, bytesOf, commandOf, payloadOf, dataOf, badCount, sumsUp, bodySays}
+use Rattle.wire.specs.Calls.{between, wellEnclosed, reading, readAs, writing, writtenAs}
+use Rattle.wire.specs.Laws.{Bytes}
 use Rattle.wire.specs.declared.Read.{Read}
-use Rattle.wire.proofs.Nibbles.{nibble-digit, digit-nibble, digit-isDigit, digit-stays, nibble-at}
+use Rattle.wire.proofs.Nibbles.{nibble-digit, digit-nibble, digit-isDigit, nibble-at}
 use Rattle.wire.proofs.Bytes.{length-bytesOf, length-data, odd-count}
 use Rattle.wire.proofs.Frames.{check-sums, check-only, check-byte, length-body}
-use Rattle.wire.proofs.Streams.{whole-frames, whole-left, whole-taken}
 use Rattle.wire.proofs.Answers.{body-long, body-strange, body-count, body-sum, body-good, enclosed-long, reading-short, reading-loose, reading-between, writing-made}
 
 -- What the writer makes.
@@ -112,18 +110,6 @@ frame-says command bytes nib few small room h =
     reading-between (frame command bytes) room h (enclosed-well (body command bytes))
     ∙ ap readAs (ap bodySays (between-enclosed (body command bytes)) ∙ body-says command bytes nib few (small .below))
 
-pub frame-heard : (command : ℕ) (bytes : List ℕ) → command ≤ 15 → length bytes ≤ 35 → Bytes bytes → (rest : List ℕ)
-    → (framesFrom outside (frame command bytes ++ rest) ≡ good command bytes ∷ framesFrom outside rest)
-    × (leftFrom outside (frame command bytes ++ rest) ≡ leftFrom outside rest)
-    × (taken outside (frame command bytes ++ rest) ≡ length (frame command bytes))
-unfolding frame
-frame-heard command bytes nib few small rest =
-    let staying : every stays (body command bytes) ≡ true = body-all command bytes nib few (small .below) stays digit-stays in (
-      whole-frames (body command bytes) rest staying ∙ rw (body-says command bytes nib few (small .below)),
-      whole-left (body command bytes) rest staying,
-      whole-taken (body command bytes) rest staying,
-    )
-
 -- What is read whole.
 
 pub record Said (chars : List ℕ) (command : ℕ) (bytes : List ℕ) : Type 0 where
@@ -207,14 +193,14 @@ said-body (x ∷ rest) command bytes s =
     ap₂ (λ (y : ℕ) (ys : List ℕ). y ∷ ys) front (sym (digits-bytes rest all (omega arith)) ∙ ap digitsOf (rw check-is at parts))
 
 -- so it is within what the writer takes
-said-nibble : (chars : List ℕ) (command : ℕ) (bytes : List ℕ) → Said chars command bytes → command ≤ 15
+pub said-nibble : (chars : List ℕ) (command : ℕ) (bytes : List ℕ) → Said chars command bytes → command ≤ 15
 said-nibble chars command bytes s =
     let many = odd-count (length chars) (s .count) .0 in
     let below : commandOf chars < 16 = nibble-at chars (s .digits) 0 (omega arith) in
     let is : commandOf chars ≡ command = s .command-is in
     omega arith
 
-said-few : (chars : List ℕ) (command : ℕ) (bytes : List ℕ) → Said chars command bytes → length bytes ≤ 35
+pub said-few : (chars : List ℕ) (command : ℕ) (bytes : List ℕ) → Said chars command bytes → length bytes ≤ 35
 said-few chars command bytes s =
     let count : length bytes ≡ length chars / 2 - 1 = ap length (sym (s .bytes-are)) ∙ length-data chars (s .count) in
     let short : length chars ≤ 73 = s .short in
@@ -250,37 +236,8 @@ slice-written slice room command bytes e out h = by (ltb room 35) (wellEnclosed 
         slice-is slice command bytes q
         (read-good (bodySays (between slice)) command bytes (sym (reading-between slice room (ltb-false room 35 p) q) ∙ e)) out h
 
--- what is heard on the stream
-said-small : (chars : List ℕ) (command : ℕ) (bytes : List ℕ) → Said chars command bytes → Bytes bytes
+pub said-small : (chars : List ℕ) (command : ℕ) (bytes : List ℕ) → Said chars command bytes → Bytes bytes
 said-small [] command bytes s = absurd (false≢true (sym (s .count)))
 said-small (x ∷ rest) command bytes s =
     let all : every (λ b. ltb b 256) (bytesOf rest) ≡ true = bytes-small rest (and-right (isDigit x) _ (s .digits)) in
     record { below = rw (s .bytes-are) at (every-take (λ b. ltb b 256) (length (bytesOf rest) - 1) (bytesOf rest) all) }
-
-body-writable : (chars : List ℕ) (rest : List Ended) → Writables rest → Writables (bodySays chars ∷ rest)
-body-writable chars rest others = by (bodySays chars) refl
-  where
-    by : (e : Ended) → bodySays chars ≡ e → Writables (e ∷ rest)
-    by (good command bytes) e =
-        let s : Said chars command bytes = said chars command bytes e in
-        whole (record { nibble = said-nibble chars command bytes s; few = said-few chars command bytes s; small = said-small chars command bytes s }) others
-    by (refused number) e = broken others
-
-broken-writable : (count : ℕ) (rest : List Ended) → Writables rest → Writables (brokenSays count ∷ rest)
-unfolding brokenSays
-broken-writable count rest others = by (ltb mostChars count)
-  where
-    by : (long : Bool) → Writables (cond long (refused 1) (refused 2) ∷ rest)
-    by true = broken others
-    by false = broken others
-
-ended-writable : (chars : List ℕ) (n c : Bool) (rest : List Ended) → Writables rest
-    → Writables (cond n (bodySays chars ∷ []) (cond c (brokenSays (length chars) ∷ []) []) ++ rest)
-ended-writable chars true c rest others = body-writable chars rest others
-ended-writable chars false true rest others = broken-writable (length chars) rest others
-ended-writable chars false false rest others = others
-
-pub heard-writable : HeardIsWritable
-heard-writable u [] = nothing
-heard-writable outside (b ∷ bs) = heard-writable (next outside b) bs
-heard-writable (inside chars) (b ∷ bs) = ended-writable chars (eqb b newline) (eqb b colon) _ (heard-writable (next (inside chars) b) bs)

@@ -10,14 +10,11 @@ use Rattle.laws.proofs.Promise.{gives-same, equal-same}
 use Rattle.wire.specs.declared.Pair.{Pair}
 use Rattle.wire.specs.declared.Written.{Written}
 use Rattle.wire.specs.declared.Read.{Read}
-use Rattle.wire.specs.declared.Held.{Held}
-use Rattle.wire.specs.declared.Heard.{Heard}
 use Rattle.wire.proofs.pair_of.Reads as pair-of
 use Rattle.wire.proofs.all_digits.Reads as all-digits
 use Rattle.wire.proofs.write_frame.Reads as write-frame
 use Rattle.wire.proofs.read_frame.Reads as read-frame
-use Rattle.wire.proofs.Held.hear.Reads as hear
-use Rattle.wire.proofs.Held.outside.Reads as outside
+use Rattle.wire.proofs.read_chars.Reads as read-chars
 
 module _ (κs : Lfts 2) (bytes buffer left left′ : RefT (List ℕ)) where
   pub write-frame-same : (command : ℕ) (r r′ : Written)
@@ -30,13 +27,10 @@ module _ (κs : Lfts 2) (bytes buffer left left′ : RefT (List ℕ)) where
       → (r ≡ r′) × (now left ≡ now left′)
   read-frame-same r r′ met met′ = gives-same met met′
 
-  pub hear-same : (held : Held) (r r′ : Heard)
-      → hear.Post κs (held, (bytes, (buffer, tt))) r (held, (bytes, (left, tt))) → hear.Post κs (held, (bytes, (buffer, tt))) r′ (held, (bytes, (left′, tt)))
+  pub read-chars-same : (r r′ : Read)
+      → read-chars.Post κs (bytes, (buffer, tt)) r (bytes, (left, tt)) → read-chars.Post κs (bytes, (buffer, tt)) r′ (bytes, (left′, tt))
       → (r ≡ r′) × (now left ≡ now left′)
-  hear-same held r r′ met met′ = gives-same met met′
-
-pub outside-same : (r r′ : Held) → outside.Post tt tt r tt → outside.Post tt tt r′ tt → r ≡ r′
-outside-same r r′ met met′ = equal-same met met′
+  read-chars-same r r′ met met′ = gives-same met met′
 
 pub pair-of-same : (byte : ℕ) (r r′ : Pair) → pair-of.Post tt (byte, tt) r (byte, tt) → pair-of.Post tt (byte, tt) r′ (byte, tt) → r ≡ r′
 pair-of-same byte r r′ met met′ = equal-same met met′

@@ -1,42 +1,28 @@
 -- What is proved of the definitions, as statements to hold against the papers. Each is proved under its name in proofs/Theorems.antt.
 -- Assumes nothing.
-use Prim.Native.Nat.{ℕ, suc, _*_, _^_, _≤_, _<_}
+use Prim.Native.Nat.{ℕ, _*_, _^_, _≤_, _<_}
 use mathlib.Core.Path.{_≡_}
-use mathlib.Core.Bool.{true, cond}
-use mathlib.Core.Logic.{_↔_}
-use mathlib.Core.List.{List, [], _∷_, _++_}
-use lib.ListN.{length, take}
-use lib.Dec.{ltb, leb, eqb}
+use mathlib.Core.Bool.{true}
+use mathlib.Core.List.{List}
+use lib.ListN.{length}
+use lib.Dec.{ltb}
 use lib.IntN.{ℤ}
 use lib.Signed.{mag}
 use Rattle.laws.specs.Lists.{every}
-use Rattle.laws.specs.Promise.{Given}
-use Rattle.laws.specs.Cutting.{Step, Offer, calls, ready}
 use Rattle.wire.specs.Numbers.{little, fromLittle, complement, signed}
 use Rattle.wire.specs.Frame.{mostNibble, mostData, frameRoom, frame}
-use Rattle.wire.specs.Reading.{Ended, good, refused}
-use Rattle.wire.specs.Stream.{Unfinished, outside, framesFrom, framesOf, leftBy, firstEnd, taken}
-use Rattle.wire.specs.Calls.{writing, writtenAs, reading, readAs, mostHeld, heldOf, allowed, hearing}
-use Rattle.wire.specs.declared.Event.{Event}
-use Rattle.wire.specs.declared.Held.{Held}
-use Rattle.wire.specs.declared.Heard.{Heard}
+use Rattle.wire.specs.Reading.{good}
+use Rattle.wire.specs.Calls.{writing, writtenAs, reading, readAs}
 
 -- numbers below 256
 pub record Bytes (bytes : List ℕ) : Type 0 where
   pub below : every (λ b. ltb b 256) bytes ≡ true
 
--- 1. Demand 2: "A frame written by one end is read by the other as the same command and data": read whole, and on the stream.
+-- 1. Demand 2: "A frame written by one end is read by the other as the same command and data": read whole. (On the stream: `stream`.)
 abbrev pub WrittenIsRead : Type 0
 WrittenIsRead =
     (command : ℕ) (bytes : List ℕ) → command ≤ mostNibble → length bytes ≤ mostData → Bytes bytes → (room : ℕ) → mostData ≤ room
     → reading (frame command bytes) room ≡ readAs (good command bytes)
-
-abbrev pub WrittenIsHeard : Type 0
-WrittenIsHeard =
-    (command : ℕ) (bytes : List ℕ) → command ≤ mostNibble → length bytes ≤ mostData → Bytes bytes → (rest : List ℕ)
-    → (framesOf (frame command bytes ++ rest) ≡ good command bytes ∷ framesOf rest)
-    × (leftBy (frame command bytes ++ rest) ≡ leftBy rest)
-    × (taken outside (frame command bytes ++ rest) ≡ length (frame command bytes))
 
 -- 2. Demand 2: "a frame read whole is byte for byte the one the writer makes for them".
 abbrev pub ReadIsWritten : Type 0
@@ -44,78 +30,13 @@ ReadIsWritten =
     (slice : List ℕ) (room : ℕ) (command : ℕ) (bytes : List ℕ) → reading slice room ≡ readAs (good command bytes)
     → (out : ℕ) → frameRoom ≤ out → writing command bytes out ≡ writtenAs slice
 
--- what is heard on the stream is within what the writer takes
+-- what the writer takes
 pub record Writable (command : ℕ) (bytes : List ℕ) : Type 0 where
   pub nibble : command ≤ mostNibble
   pub few : length bytes ≤ mostData
   pub small : Bytes bytes
 
-pub data Writables : List Ended → Type 0 where
-  nothing : Writables []
-  broken : {number : ℕ} {rest : List Ended} → Writables rest → Writables (refused number ∷ rest)
-  whole : {command : ℕ} {bytes : List ℕ} {rest : List Ended} → Writable command bytes → Writables rest → Writables (good command bytes ∷ rest)
-
-abbrev pub HeardIsWritable : Type 0
-HeardIsWritable = (u : Unfinished) (bytes : List ℕ) → Writables (framesFrom u bytes)
-
--- 3. The stream in any cutting. What a call on the stream comes to: a frame with its data, of the length that is said; a frame's refusal (1
--- to 4); or no frame (under 11 and 12 too, which are the call's).
-abbrev pub frameIn : Event → List ℕ → List Ended
-frameIn Event.Nothing written = []
-frameIn (Event.Frame command len) written = cond (eqb len (length written)) (good command written ∷ []) []
-frameIn (Event.Refused number) written = cond (ltb 4 number) [] (refused number ∷ [])
-
-abbrev pub stepOf : Given Heard → Step Held Ended
-stepOf given =
-    record {
-      state = given .answer .held;
-      events = frameIn (given .answer .event) (given .written);
-      taken = given .answer .taken;
-    }
-
-abbrev pub hears : Held → ℕ → List ℕ → Step Held Ended
-hears held room piece = stepOf (hearing held piece room)
-
--- Demand 3: "after any bytes in any cutting, what a call did not take being handed on first": what happened is the frames of the bytes taken,
--- in order, and the state is what those bytes leave; from any state that bytes left, with any room in each call.
-pub record Cut (earlier bytes : List ℕ) (all : Step Held Ended) : Type 0 where
-  pub within : all .taken ≤ length bytes
-  pub state-is : all .state ≡ heldOf (leftBy (earlier ++ take (all .taken) bytes))
-  pub events-are : all .events ≡ framesFrom (leftBy earlier) (take (all .taken) bytes)
-
-abbrev pub AnyCutting : Type 0
-AnyCutting = (earlier bytes : List ℕ) (offers : List (Offer ℕ)) → Cut earlier bytes (calls hears (heldOf (leftBy earlier)) bytes offers)
-
--- Calls that are handed a byte at least and lend room enough take every byte, in as many calls as there are bytes; so what happened is the
--- frames of all the bytes.
-abbrev pub AllIsTaken : Type 0
-AllIsTaken =
-    (earlier bytes : List ℕ) (offers : List (Offer ℕ)) → ready (λ room. leb mostData room) offers ≡ true → length bytes ≤ length offers
-    → calls hears (heldOf (leftBy earlier)) bytes offers
-    ≡ record { state = heldOf (leftBy (earlier ++ bytes)); events = framesFrom (leftBy earlier) bytes; taken = length bytes }
-
--- The cutting changes nothing: rows of calls that take as many of the same bytes come to the same.
-abbrev pub CuttingChangesNothing : Type 0
-CuttingChangesNothing =
-    (earlier bytes : List ℕ) (offers offers′ : List (Offer ℕ)) (all all′ : Step Held Ended)
-    → all ≡ calls hears (heldOf (leftBy earlier)) bytes offers → all′ ≡ calls hears (heldOf (leftBy earlier)) bytes offers′
-    → all .taken ≡ all′ .taken → all ≡ all′
-
--- The end that a call stops at is the first: no frame ends before it, and where it is within the piece one ends there.
-pub record FirstAt (u : Unfinished) (piece : List ℕ) : Type 0 where
-  pub none-before : framesFrom u (take (firstEnd u piece) piece) ≡ []
-  pub one-there : firstEnd u piece < length piece → (f : Ended) × (framesFrom u (take (suc (firstEnd u piece)) piece) ≡ f ∷ [])
-
-abbrev pub FirstEndIsFirst : Type 0
-FirstEndIsFirst = (u : Unfinished) (piece : List ℕ) → FirstAt u piece
-
--- 4. "A state handed in is allowed when [..] its held frame is one that bytes could have left". (Its array has 74 entries in every value of
--- the type.)
-abbrev pub AllowedIsLeft : Type 0
-AllowedIsLeft =
-    (held : Held) → length (held .chars) ≡ mostHeld → (allowed held ≡ true) ↔ ((bytes : List ℕ) × (heldOf (leftBy bytes) ≡ held))
-
--- 5. A number written in so many bytes is read back from them, and bytes are those of their number; and so is a whole number in two's
+-- 3. A number written in so many bytes is read back from them, and bytes are those of their number; and so is a whole number in two's
 -- complement read back: a negative one has the magnitude that it exceeds -1 by.
 abbrev pub LittleIsRead : Type 0
 LittleIsRead = (width n : ℕ) → n < 256 ^ width → fromLittle (little width n) ≡ n

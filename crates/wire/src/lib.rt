@@ -1,20 +1,17 @@
-// Frames and the stream of document 01, for both ends of the line: a frame written, a frame read whole, and the stream read piece by
-// piece. Every call takes anything, and its promise fixes its answer and every lent byte (specs/Calls.antt).
+// Frames of document 01, for both ends of the line: a frame written, and a frame read whole. Every call takes anything, and its promise
+// fixes its answer and every lent byte (specs/Calls.antt).
 ghost use Rattle.laws.specs.Lists.{every};
 ghost use Rattle.laws.specs.Promise.{Gives};
 ghost use Rattle.wire.specs.Digits.{isDigit};
-ghost use Rattle.wire.specs.Calls.{pairOf, writing, reading, hearing, heldOf};
-ghost use Rattle.wire.specs.Stream.{outside};
+ghost use Rattle.wire.specs.Calls.{pairOf, writing, reading, readingChars};
 ghost use Rattle.wire.specs.declared.Written.{Written};
 ghost use Rattle.wire.specs.declared.Read.{Read};
-ghost use Rattle.wire.specs.declared.Heard.{Heard};
 ghost use mathlib.Core.Path.{_≡_};
 ghost use lib.ListN.{length};
 
 mod digits;
 mod numbers;
 mod reader;
-mod stream;
 mod writer;
 
 // A byte as two digits.
@@ -33,28 +30,6 @@ pub enum Written {
 pub enum Read {
     Frame { command: u8, len: usize },
     Refused(u8),
-}
-
-// The unfinished frame between two calls: whether there is one, and the characters since its colon. 74 of them say "over 73".
-pub struct Held {
-    pub inside: bool,
-    pub len: usize,
-    pub chars: [u8; numbers::MOST_HELD],
-}
-
-// What happened in a call on the stream: no frame ended; a frame with its command and the number of its data bytes; or a refusal, 1 to 4
-// of the frame that ended, 11 or 12 of the call.
-pub enum Event {
-    Nothing,
-    Frame { command: u8, len: usize },
-    Refused(u8),
-}
-
-// What a call on the stream answers: the advanced state, what happened, and how many bytes of the piece it took.
-pub struct Heard {
-    pub held: Held,
-    pub event: Event,
-    pub taken: usize,
 }
 
 // Both digits of a byte, the high nibble first.
@@ -99,32 +74,25 @@ pub fn read_frame(frame: &[u8], into: &mut [u8]) -> Read
     if !reader::well_enclosed(frame) {
         return Read::Refused(numbers::NO_DIGIT);
     }
-    reader::read_body(&frame[1..frame.len() - 1], into)
+    read_chars(&frame[1..frame.len() - 1], into)
 }
 
-impl Held {
-    // No frame is unfinished: where every reading starts.
-    pub fn outside() -> Held
-        ensures { λ r. ⌜ r ≡ heldOf outside ⌝ }
-    {
-        Held {
-            inside: false,
-            len: 0,
-            chars: [0u8; numbers::MOST_HELD],
-        }
+// Reads the characters between a frame's colon and its newline, where they stand without the two, and puts the data at the front of
+// `into`. Refuses 11 under 35 bytes of room, then 1 to 4 on the characters.
+pub fn read_chars(chars: &[u8], into: &mut [u8]) -> Read
+    ensures { λ r. ⌜ Gives Read (readingChars (now (chars .entry)) (length (now (into .entry)))) (now (into .entry)) r (now (into .exit)) ⌝ }
+{
+    if into.len() < numbers::MOST_DATA {
+        return Read::Refused(numbers::SHORT_BUFFER);
     }
-
-    // Reads on in the stream: stops after the first byte that ends a frame, or takes the whole piece. Refuses 11 under 35 bytes of
-    // room, then 12 for a state that no bytes could have left.
-    pub fn hear(self, piece: &[u8], into: &mut [u8]) -> Heard
-        ensures { λ r. ⌜ Gives Heard (hearing self (now (piece .entry)) (length (now (into .entry)))) (now (into .entry)) r (now (into .exit)) ⌝ }
-    {
-        if into.len() < numbers::MOST_DATA {
-            return stream::refused(self, numbers::SHORT_BUFFER);
-        }
-        if !stream::is_allowed(self) {
-            return stream::refused(self, numbers::NOT_ALLOWED);
-        }
-        stream::heard(self, piece, into)
+    if numbers::MOST_CHARS < chars.len() {
+        return Read::Refused(numbers::TOO_LONG);
     }
+    if !reader::all_digits(chars) {
+        return Read::Refused(numbers::NO_DIGIT);
+    }
+    if reader::bad_count(chars.len()) {
+        return Read::Refused(numbers::BAD_COUNT);
+    }
+    reader::read_digits(chars, into)
 }

@@ -15,16 +15,13 @@ pub(crate) const MOST_DATA: usize = 35;
 
 pub(crate) const MOST_CHARS: usize = 73;
 
-// 74 characters of an unfinished frame say "over 73", so no more are held.
-pub(crate) const MOST_HELD: usize = 74;
-
 // The room that the longest frame takes.
 pub(crate) const FRAME_ROOM: usize = 75;
 
 // 1: over 73 characters in the frame.
 pub(crate) const TOO_LONG: u8 = 1;
 
-// 2: a character is no digit, or a colon broke the frame; and a slice that is not enclosed by a colon and a newline.
+// 2: a character is no digit; and a slice that is not enclosed by a colon and a newline.
 pub(crate) const NO_DIGIT: u8 = 2;
 
 // 3: under 3 characters, or an even count.
@@ -36,5 +33,5 @@ pub(crate) const BAD_SUM: u8 = 4;
 // 11: a lent buffer is too short.
 pub(crate) const SHORT_BUFFER: u8 = 11;
 
-// 12: a number or a state handed in is not allowed.
+// 12: a number handed in is not allowed.
 pub(crate) const NOT_ALLOWED: u8 = 12;

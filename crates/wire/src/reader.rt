@@ -40,7 +40,7 @@ pub(crate) fn all_digits(chars: &[u8]) -> bool
 }
 
 // Under 3 characters, or an even count.
-fn bad_count(n: usize) -> bool
+pub(crate) fn bad_count(n: usize) -> bool
     ensures { λ r. ⌜ r ≡ badCount n ⌝ }
 {
     n < 3 || n % 2 == 0
@@ -61,7 +61,7 @@ fn payload_of(chars: &[u8]) -> [u8; MOST_PAYLOAD]
 }
 
 // Copies `from` to the front of `into`.
-pub(crate) fn copy(from: &[u8], into: &mut [u8])
+fn copy(from: &[u8], into: &mut [u8])
     requires { ⌜ length (now from) ≤ length (now into) ⌝ }
     ensures { λ r. ⌜ now (into .exit) ≡ overlaid (now (from .entry)) (now (into .entry)) ⌝ }
 {
@@ -73,7 +73,7 @@ pub(crate) fn copy(from: &[u8], into: &mut [u8])
 }
 
 // What an odd number of digits say: 4, or the data to the front of `into`.
-fn read_digits(chars: &[u8], into: &mut [u8]) -> Read
+pub(crate) fn read_digits(chars: &[u8], into: &mut [u8]) -> Read
     requires { ⌜ (length (now chars) ≤ 73) × (every isDigit (now chars) ≡ true) × (badCount (length (now chars)) ≡ false) × (35 ≤ length (now into)) ⌝ }
     ensures { λ r. ⌜ Gives Read (readAs (bodySays (now (chars .entry)))) (now (into .entry)) r (now (into .exit)) ⌝ }
 {
@@ -88,21 +88,4 @@ fn read_digits(chars: &[u8], into: &mut [u8]) -> Read
         command,
         len: n - 1,
     }
-}
-
-// What the characters between colon and newline say: 1 to 4 in this order, and only then are there data.
-pub(crate) fn read_body(chars: &[u8], into: &mut [u8]) -> Read
-    requires { ⌜ 35 ≤ length (now into) ⌝ }
-    ensures { λ r. ⌜ Gives Read (readAs (bodySays (now (chars .entry)))) (now (into .entry)) r (now (into .exit)) ⌝ }
-{
-    if numbers::MOST_CHARS < chars.len() {
-        return Read::Refused(numbers::TOO_LONG);
-    }
-    if !all_digits(chars) {
-        return Read::Refused(numbers::NO_DIGIT);
-    }
-    if bad_count(chars.len()) {
-        return Read::Refused(numbers::BAD_COUNT);
-    }
-    read_digits(chars, into)
 }

@@ -4,7 +4,7 @@ use mathlib.Core.Bool.{true, false, _&&_}
 use borrow.Author.Tests.{not-true, not-false}
 use Rattle.laws.proofs.Bools.{and-left}
 use Rattle.settings.specs.Rules.{allowed}
-use Rattle.answers.specs.Parts.{identityAllowed}
+use Rattle.who.specs.Parts.{identityAllowed}
 use Rattle.answers.specs.AsHeld.{decidedOf}
 use Rattle.answers.proofs.Deciding.{answer-refused, answer-given}
 use Rattle.answers.proofs.answer.Statement.{statement}
@@ -12,19 +12,19 @@ use Rattle.answers.proofs.answer.Tie as tie
 
 stray : (c : tie.Then1) → (identityAllowed (c .before .before .before .before .args .identity) && allowed (c .before .before .before .before .args .table)) ≡ false
 stray c =
-    let test : (c .before .before .is-identity .result && c .before .is-allowed .result) ≡ false = not-true _ (c .if1 .taken) in
-    rw (c .before .before .is-identity .ensures, c .before .is-allowed .ensures) at test
+    let test : (c .before .before .is-allowed .result && c .before .is-allowed2 .result) ≡ false = not-true _ (c .if1 .taken) in
+    rw (c .before .before .is-allowed .ensures, c .before .is-allowed2 .ensures) at test
 
 fits : (c : tie.Else1) → (identityAllowed (c .before .before .before .before .args .identity) && allowed (c .before .before .before .before .args .table)) ≡ true
 fits c =
-    let test : (c .before .before .is-identity .result && c .before .is-allowed .result) ≡ true = not-false _ (c .if1 .left) in
-    rw (c .before .before .is-identity .ensures, c .before .is-allowed .ensures) at test
-
-is-identity-requires : tie.Need-is-identity-requires
-is-identity-requires c κs = tt
+    let test : (c .before .before .is-allowed .result && c .before .is-allowed2 .result) ≡ true = not-false _ (c .if1 .left) in
+    rw (c .before .before .is-allowed .ensures, c .before .is-allowed2 .ensures) at test
 
 is-allowed-requires : tie.Need-is-allowed-requires
 is-allowed-requires c κs = tt
+
+is-allowed-requires-2 : tie.Need-is-allowed-requires-2
+is-allowed-requires-2 c κs = tt
 
 silent-requires : tie.Need-silent-requires
 silent-requires c κs = tt
@@ -42,8 +42,8 @@ pub answer-spec : {M : Type 1} → statement M
 answer-spec =
     tie.close
     (tie.spec
-    is-identity-requires
     is-allowed-requires
+    is-allowed-requires-2
     silent-requires
     returns
     frame-answer-requires

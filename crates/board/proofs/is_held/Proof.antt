@@ -1,7 +1,7 @@
 -- `board::is_held` meets its contract. Assumes nothing.
 use mathlib.Core.Path.{refl, sym, ap, _∙_}
 use borrow.Author.Needs.{needs}
-use Rattle.wire.specs.declared.Heard.{Heard}
+use Rattle.stream.specs.declared.Heard.{Heard}
 use Rattle.board.proofs.Unfinished.{heard-allowed, unheard-stray}
 use Rattle.board.proofs.is_held.Statement.{statement}
 use Rattle.board.proofs.is_held.Tie as tie

@@ -2,8 +2,8 @@
 use mathlib.Core.Path.{refl}
 use mathlib.Core.List.{[]}
 use borrow.Author.Needs.{needs}
-use Rattle.answers.specs.Parts.{serialFits, noIdentity}
-use Rattle.answers.proofs.Identities.{named-accepted}
+use Rattle.who.specs.Parts.{serialFits, noIdentity}
+use Rattle.who.proofs.Identities.{named-accepted}
 use Rattle.board.specs.Calls.{refusedStart}
 use Rattle.board.proofs.refused_start.Statement.{statement}
 use Rattle.board.proofs.refused_start.Tie as tie

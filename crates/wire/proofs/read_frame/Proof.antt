@@ -6,8 +6,8 @@ use native.Mathlib.Omega.{arith}
 use borrow.Author.Tests.{not-true, not-false}
 use lib.ListN.{length}
 use Rattle.laws.proofs.Promise.{gives-none}
-use Rattle.wire.specs.Calls.{wellEnclosed}
-use Rattle.wire.proofs.Answers.{reading-short, reading-loose, reading-between, enclosed-long}
+use Rattle.wire.specs.Calls.{wellEnclosed, between}
+use Rattle.wire.proofs.Answers.{reading-short, reading-loose, reading-between, chars-read, enclosed-long}
 use Rattle.wire.proofs.read_frame.Statement.{statement}
 use Rattle.wire.proofs.read_frame.Tie as tie
 
@@ -28,20 +28,20 @@ well-enclosed-requires c κs = omega arith
 returns-2 : tie.Need-returns-2
 returns-2 c = gives-none _ (reading-loose _ _ (c .before .before .if1 .left) (sym (c .before .well-enclosed .ensures) ∙ not-true _ (c .if2 .taken)))
 
-sub-read-body : tie.Need-sub-read-body
-sub-read-body c = omega (arith, long c)
+sub-read-chars : tie.Need-sub-read-chars
+sub-read-chars c = omega (arith, long c)
 
-sub-read-body-2 : tie.Need-sub-read-body-2
-sub-read-body-2 c = omega (arith, long c)
+sub-read-chars-2 : tie.Need-sub-read-chars-2
+sub-read-chars-2 c = omega (arith, long c)
 
-part-read-body-start : tie.Need-part-read-body-start
-part-read-body-start c = omega (arith, long c)
+part-read-chars-start : tie.Need-part-read-chars-start
+part-read-chars-start c = omega (arith, long c)
 
-part-read-body-end : tie.Need-part-read-body-end
-part-read-body-end c = omega arith
+part-read-chars-end : tie.Need-part-read-chars-end
+part-read-chars-end c = omega arith
 
-read-body-requires : tie.Need-read-body-requires
-read-body-requires c κs = omega arith
+read-chars-requires : tie.Need-read-chars-requires
+read-chars-requires c κs = omega arith
 
 same-length : tie.Need-same-length
 same-length c = omega arith
@@ -53,11 +53,11 @@ returns-3 c =
     let c10 = c7 .before .before .before in
     let s = c10 .args .frame .now in
     let ends : length s - 1 - 1 ≡ length s - 2 = omega arith in
-    rw (reading-between s _ (c7 .if1 .left) (enclosed c5)) (rw ends at (c .before .before .read-body .ensures))
+    rw (reading-between s _ (c7 .if1 .left) (enclosed c5)) (rw (ends, chars-read (between s) _ (c7 .if1 .left)) at (c .before .before .read-chars .ensures))
 
 pub read-frame-spec : {M : Type 1} → statement M
 read-frame-spec =
     tie.close
     (tie.spec
-    returns well-enclosed-requires returns-2 sub-read-body sub-read-body-2 part-read-body-start part-read-body-end
-    read-body-requires same-length returns-3)
+    returns well-enclosed-requires returns-2 sub-read-chars sub-read-chars-2 part-read-chars-start part-read-chars-end
+    read-chars-requires same-length returns-3)

@@ -1,7 +1,7 @@
 -- `answers::values::four` meets its contract. Assumes nothing.
 use mathlib.Core.Path.{refl}
 use Rattle.laws.specs.Promise.{overlaid}
-use Rattle.answers.specs.Parts.{noSerial}
+use Rattle.who.specs.Parts.{noSerial}
 use Rattle.answers.specs.AsHeld.{valueOf}
 use borrow.Author.Needs.{needs}
 use Rattle.answers.proofs.values.four.Statement.{statement}

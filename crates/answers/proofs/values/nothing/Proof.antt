@@ -1,7 +1,7 @@
 -- `answers::values::nothing` meets its contract. Assumes nothing.
 use mathlib.Core.Path.{refl}
 use Rattle.laws.specs.Promise.{overlaid}
-use Rattle.answers.specs.Parts.{noSerial}
+use Rattle.who.specs.Parts.{noSerial}
 use Rattle.answers.specs.AsHeld.{valueOf}
 use Rattle.answers.proofs.values.nothing.Statement.{statement}
 use Rattle.answers.proofs.values.nothing.Tie as tie

@@ -2,7 +2,7 @@
 use mathlib.Core.Path.{refl}
 use borrow.Author.Needs.{needs}
 use Rattle.laws.specs.Promise.{overlaid}
-use Rattle.answers.specs.Parts.{noSerial}
+use Rattle.who.specs.Parts.{noSerial}
 use Rattle.answers.specs.AsHeld.{valueOf}
 use Rattle.answers.proofs.values.single.Statement.{statement}
 use Rattle.answers.proofs.values.single.Tie as tie

@@ -4,7 +4,7 @@ use Prim.Native.Nat.{_<_}
 use borrow.Author.Needs.{needs}
 use denote.Ref.{now}
 use Rattle.laws.proofs.Bools.{and-left}
-use Rattle.answers.specs.Parts.{identityAllowed}
+use Rattle.who.specs.Parts.{identityAllowed}
 use Rattle.answers.specs.AsHeld.{decidedOf}
 use Rattle.answers.specs.Answers.{Decision, frameAnswer}
 use Rattle.answers.specs.Laws.{Fits}

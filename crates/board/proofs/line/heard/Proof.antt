@@ -4,7 +4,7 @@ use native.Mathlib.Omega.{arith}
 use borrow.Author.Needs.{needs}
 use Prim.Native.Nat.{_≤_}
 use lib.ListN.{length, length-take}
-use Rattle.board.proofs.Lines.{parts-allowed, heard-nothing, heard-refused, framed-few, heard-frame}
+use Rattle.board.proofs.Lines.{heard-nothing, heard-frame, whole-few, if-heard, if-refused}
 use Rattle.board.proofs.line.heard.Statement.{statement}
 use Rattle.board.proofs.line.heard.Tie as tie
 
@@ -14,7 +14,9 @@ long c = search needs
 few : (c : tie.After-known-told) → c .before .event .given .0 .1 .0 ≤ 35
 few c =
     let c5 = c .before .before .before .before .before in
-    framed-few _ _ (c5 .before .before .before .before .before .before .before .before .pre .1) (c5 .hear .ensures .answered) _ _ (c .before .event .given .1)
+    let s = c5 .before .before .before .before .before .before .before .before in
+    let told = c .before .event .given .1 in
+    whole-few (s .args .board) _ (s .pre .1) (c5 .hear .ensures .answered) (rw told) _ _ told
 
 slice-aggregate-hear : tie.Need-slice-aggregate-hear
 slice-aggregate-hear c = search needs
@@ -37,16 +39,21 @@ slice-aggregate-framed c = rw length-take (omega (arith, long (c .before), few (
 framed-requires : tie.Need-framed-requires
 framed-requires c κs =
     let s = c .before .before .before .before .before .before .before .before .before .before .before .before .before .before .before in
-    (s .pre .0, parts-allowed _ (s .pre .1))
+    s .pre
 
 enum-known-event-2 : tie.Need-enum-known-event-2
 enum-known-event-2 c = search needs
 
-put-error-requires : tie.Need-put-error-requires
-put-error-requires c κs = c .before .before .before .before .before .before .before .before .before .before .before .before .before .before .pre .0
+put-fault-requires : tie.Need-put-fault-requires
+put-fault-requires c κs = c .before .before .before .before .before .before .before .before .before .before .before .before .before .before .pre .0
 
 returns : tie.Need-returns
-returns c = heard-nothing _ _ (c .before .before .before .before .before .before .before .before .before .before .before .before .pre .1) (c .before .before .before .before .hear .ensures .answered) (c .enum-told .given .1)
+returns c =
+    let c4 = c .before .before .before .before in
+    let fit = c4 .before .before .before .before .before .before .before .before .pre .1 in
+    let heard = c4 .hear .ensures .answered in
+    let told = c .enum-told .given .1 in
+    if-heard _ _ fit heard (rw told) (λ ok. heard-nothing _ _ ok heard told)
 
 same-length : tie.Need-same-length
 same-length c = search needs
@@ -56,7 +63,9 @@ returns-2 c =
     let c5 = c .before .before .before .before .before in
     let c10 = c5 .before .before .before .before .before in
     let s = c10 .before .before .before .before .before .before .before .before in
-    heard-frame _ _ (s .pre .1) (c10 .hear .ensures .answered) _ _ (c5 .before .event .given .1) _ (c10 .hear .ensures .left) (c .before .before .framed .ensures)
+    let heard = c10 .hear .ensures .answered in
+    let told = c5 .before .event .given .1 in
+    if-heard _ _ (s .pre .1) heard (rw told) (λ ok. heard-frame _ _ ok heard _ _ told _ (c10 .hear .ensures .left) (c .before .before .framed .ensures))
 
 same-length-2 : tie.Need-same-length-2
 same-length-2 c = search needs
@@ -65,7 +74,7 @@ returns-3 : tie.Need-returns-3
 returns-3 c =
     let c5 = c .before .before .before .before .before in
     let c9 = c5 .before .before .before .before in
-    heard-refused _ _ (c9 .before .before .before .before .before .before .before .before .pre .1) (c9 .hear .ensures .answered) _ (c5 .event2 .given .1) (c .before .before .put-error .ensures)
+    if-refused _ _ (c9 .before .before .before .before .before .before .before .before .pre .1) (c9 .hear .ensures .answered) _ (c5 .event2 .given .1) (c .before .before .put-fault .ensures)
 
 pub heard-spec : {M : Type 1} → statement M
 heard-spec =
@@ -79,7 +88,7 @@ heard-spec =
     slice-aggregate-framed
     framed-requires
     enum-known-event-2
-    put-error-requires
+    put-fault-requires
     returns
     same-length
     returns-2

@@ -4,14 +4,15 @@ use mathlib.Core.Path.{_≡_}
 use native.Mathlib.Omega.{arith}
 use borrow.Author.Needs.{needs}
 use lib.ListN.{length, length-take, length-drop}
+use Rattle.lines.specs.Lines.{most}
 use Rattle.lines.proofs.Adding.{tidy-few, tidy-long, more-line}
 use Rattle.lines.proofs.copied.joined.Statement.{statement}
 use Rattle.lines.proofs.copied.joined.Tie as tie
 
-long : (c : tie.Start) → length (c .args .line .chars) ≡ 120
+long : (c : tie.Start) → length (c .args .line .chars) ≡ most
 long c = tidy-long _ (c .pre)
 
-few : (c : tie.Start) → c .args .line .len ≤ 120
+few : (c : tie.Start) → c .args .line .len ≤ most
 few c = tidy-few _ (c .pre)
 
 sub-least : tie.Need-sub-least
@@ -42,7 +43,9 @@ copy-requires c κs =
     rw (length-take, length-take, length-drop) (omega (arith, c .before .before .least .ensures, long c5))
 
 add-t7 : tie.Need-add-t7
-add-t7 c = search needs
+add-t7 c =
+    let c4 = c .before .before .before .before in
+    record { fits = omega (arith, few (c4 .before .before .before), c4 .least .ensures) }
 
 returns : tie.Need-returns
 returns c =

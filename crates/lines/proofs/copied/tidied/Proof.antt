@@ -3,12 +3,12 @@ use mathlib.Core.Path.{_≡_, sym}
 use native.Mathlib.Omega.{arith}
 use borrow.Author.Needs.{needs}
 use lib.ListN.{length, length-take}
-use Rattle.lines.specs.Lines.{blank}
+use Rattle.lines.specs.Lines.{most, blank}
 use Rattle.lines.proofs.Adding.{kept-length, tidy-line}
 use Rattle.lines.proofs.copied.tidied.Statement.{statement}
 use Rattle.lines.proofs.copied.tidied.Tie as tie
 
-long : (c : tie.Start) → length (c .args .line .chars) ≡ 120
+long : (c : tie.Start) → length (c .args .line .chars) ≡ most
 long c = search needs
 
 least-requires : tie.Need-least-requires

@@ -1,15 +1,11 @@
 -- `listen::Listener::read` meets its contract. Assumes nothing.
-use mathlib.Core.Path.{_≡_, sym, _∙_}
+use mathlib.Core.Path.{sym, _∙_}
 use borrow.Author.Tests.{not-true, not-false}
-use lib.ListN.{length}
 use Rattle.laws.proofs.Promise.{gives-none}
 use Rattle.listen.proofs.Settling.{listening-short, listening-past, gives-settled}
 use borrow.Author.Needs.{needs}
 use Rattle.listen.proofs.Listener.read.Statement.{statement}
 use Rattle.listen.proofs.Listener.read.Tie as tie
-
-long : (s : tie.Start) → length (s .args .self .held .chars) ≡ 74
-long s = search needs
 
 refused-requires : tie.Need-refused-requires
 refused-requires c κs = search needs
@@ -36,7 +32,7 @@ same-length : tie.Need-same-length
 same-length c = search needs
 
 returns-3 : tie.Need-returns-3
-returns-3 c = gives-settled _ _ _ (c .before .before .before .before .before .before .before .before .if1 .left) (sym (c .before .before .before .before .before .before .before .are-within .ensures) ∙ not-false _ (c .before .before .before .before .before .before .if2 .left)) (long (c .before .before .before .before .before .before .before .before .before .before .before)) (c .before .before .before .hear .ensures) (c .settled .ensures)
+returns-3 c = gives-settled _ _ _ (c .before .before .before .before .before .before .before .before .if1 .left) (sym (c .before .before .before .before .before .before .before .are-within .ensures) ∙ not-false _ (c .before .before .before .before .before .before .if2 .left)) (c .before .before .before .hear .ensures) (c .settled .ensures)
 
 pub read-spec : {M : Type 1} → statement M
 read-spec =

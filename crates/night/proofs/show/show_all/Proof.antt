@@ -6,10 +6,10 @@ use Rattle.night.proofs.show.show_all.Statement.{statement}
 use Rattle.night.proofs.show.show_all.Tie as tie
 
 abbrev Inv-loop : tie.InvT-loop
-Inv-loop ends listener₀ i₀ listener i = Unit {0}
+Inv-loop ends listener₀ shown₀ i₀ listener shown i = Unit {0}
 
 abbrev μ-loop : tie.MeasureT-loop
-μ-loop ends listener₀ i₀ listener i = 8 - i
+μ-loop ends listener₀ shown₀ i₀ listener shown i = 8 - i
 
 start-requires : tie.Need-start-requires Inv-loop μ-loop
 start-requires c κs = search needs
@@ -28,6 +28,9 @@ ask-for-requires c κs = search needs
 
 returns : tie.Need-returns Inv-loop μ-loop
 returns c = search needs
+
+one-more-requires : tie.Need-one-more-requires Inv-loop μ-loop
+one-more-requires c κs = search needs
 
 add-i : tie.Need-add-i Inv-loop μ-loop
 add-i c = search needs
@@ -53,6 +56,7 @@ show-all-spec =
     array-read-ask-for
     ask-for-requires
     returns
+    one-more-requires
     add-i
     loop-less
     loop-again

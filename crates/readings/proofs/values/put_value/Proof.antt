@@ -12,12 +12,12 @@ returns : tie.Need-returns
 unfolding valueText
 returns c = rw (eq-eqb _ 0x0100 (c .before .if1 .taken)) (c .put-product .ensures)
 
-put-serial-requires : tie.Need-put-serial-requires
-put-serial-requires c κs = search needs
+put-named-requires : tie.Need-put-named-requires
+put-named-requires c κs = search needs
 
 returns-2 : tie.Need-returns-2
 unfolding valueText
-returns-2 c = rw (ne-eqb _ 0x0100 (c .before .before .if1 .left), eq-eqb _ 0x010A (c .before .if2 .taken)) (c .put-serial .ensures)
+returns-2 c = rw (ne-eqb _ 0x0100 (c .before .before .if1 .left), eq-eqb _ 0x010A (c .before .if2 .taken)) (c .put-named .ensures)
 
 put-version-requires : tie.Need-put-version-requires
 put-version-requires c κs = search needs
@@ -39,7 +39,7 @@ put-value-spec =
     (tie.spec
     put-product-requires
     returns
-    put-serial-requires
+    put-named-requires
     returns-2
     put-version-requires
     returns-3

@@ -1,0 +1,54 @@
+-- `endings::ends::put_stopped` meets its contract. Assumes nothing.
+use borrow.Author.Needs.{needs}
+use Rattle.lines.proofs.Adding.{further}
+use Rattle.endings.specs.Texts.{stoppedText}
+use Rattle.endings.proofs.ends.put_stopped.Statement.{statement}
+use Rattle.endings.proofs.ends.put_stopped.Tie as tie
+
+slice-aggregate-put : tie.Need-slice-aggregate-put
+slice-aggregate-put c = search needs
+
+put-requires : tie.Need-put-requires
+put-requires c κs = search needs
+
+put-title-requires : tie.Need-put-title-requires
+put-title-requires c κs = search needs
+
+slice-aggregate-put-2 : tie.Need-slice-aggregate-put-2
+slice-aggregate-put-2 c = search needs
+
+put-requires-2 : tie.Need-put-requires-2
+put-requires-2 c κs = search needs
+
+put-said-requires : tie.Need-put-said-requires
+put-said-requires c κs = search needs
+
+slice-aggregate-put-3 : tie.Need-slice-aggregate-put-3
+slice-aggregate-put-3 c = search needs
+
+put-requires-3 : tie.Need-put-requires-3
+put-requires-3 c κs = search needs
+
+put-counts-requires : tie.Need-put-counts-requires
+put-counts-requires c κs = search needs
+
+returns : tie.Need-returns
+unfolding stoppedText
+returns c =
+    let c4 = c .before .before .before .before in
+    further _ _ _ (further _ _ _ (further _ _ _ (further _ _ _ (further _ _ _ (c4 .before .before .before .put .ensures) (c4 .before .before .put-title .ensures)) (c4 .put2 .ensures)) (c .before .before .before .put-said .ensures)) (c .before .put3 .ensures)) (c .put-counts .ensures)
+
+pub put-stopped-spec : {M : Type 1} → statement M
+put-stopped-spec =
+    tie.close
+    (tie.spec
+    slice-aggregate-put
+    put-requires
+    put-title-requires
+    slice-aggregate-put-2
+    put-requires-2
+    put-said-requires
+    slice-aggregate-put-3
+    put-requires-3
+    put-counts-requires
+    returns)

@@ -1,0 +1,41 @@
+-- `stream::unfinished::all_stay` meets its contract. Assumes nothing.
+use Prim.Native.Nat.{_-_}
+use borrow.Author.Needs.{needs}
+use lib.ListN.{length}
+use Rattle.laws.proofs.Lists.{Seen, seen-start, seen-turn, seen-end}
+use Rattle.stream.specs.Calls.{stays}
+use Rattle.stream.proofs.unfinished.all_stay.Statement.{statement}
+use Rattle.stream.proofs.unfinished.all_stay.Tie as tie
+
+abbrev Inv-loop : tie.InvT-loop
+Inv-loop chars all₀ i₀ all i = Seen stays chars all i
+
+abbrev μ-loop : tie.MeasureT-loop
+μ-loop chars all₀ i₀ all i = length chars - i
+
+loop-holds : tie.Need-loop-holds Inv-loop μ-loop
+loop-holds c = seen-start
+
+shared-slice-read-stays-in : tie.Need-shared-slice-read-stays-in Inv-loop μ-loop
+shared-slice-read-stays-in c = search needs
+
+stays-in-requires : tie.Need-stays-in-requires Inv-loop μ-loop
+stays-in-requires c κs = tt
+
+add-i : tie.Need-add-i Inv-loop μ-loop
+add-i c = search needs
+
+loop-less : tie.Need-loop-less Inv-loop μ-loop
+loop-less c = search needs
+
+loop-again : tie.Need-loop-again Inv-loop μ-loop
+loop-again c = rw (c .stays-in .ensures) (seen-turn (c .before .before .loop-test .taken) (c .before .before .before .loop .inv))
+
+returns : tie.Need-returns Inv-loop μ-loop
+returns c = seen-end (c .loop-test .left) (c .before .loop .inv)
+
+pub all-stay-spec : {M : Type 1} → statement M
+all-stay-spec =
+    tie.close
+    (tie.spec
+    Inv-loop μ-loop loop-holds shared-slice-read-stays-in stays-in-requires add-i loop-less loop-again returns)

@@ -1,0 +1,157 @@
+// The stream, read piece by piece.
+ghost use Prim.Native.Nat.{_≤_};
+ghost use mathlib.Core.Path.{_≡_};
+ghost use mathlib.Core.Bool.{true, _||_};
+ghost use mathlib.Core.List.{[]};
+ghost use lib.ListN.{length};
+ghost use lib.Dec.{eqb};
+ghost use Rattle.laws.specs.Lists.{before};
+ghost use Rattle.laws.specs.Promise.{Gives};
+ghost use Rattle.wire.specs.Reading.{brokenSays};
+ghost use Rattle.wire.specs.Calls.{readAs};
+ghost use Rattle.stream.specs.Stream.{inside};
+ghost use Rattle.stream.specs.Calls.{allowed, unfinished, heardOf, unheard, eventFrom};
+ghost use Rattle.stream.specs.declared.Heard.{Heard};
+use crate::Event;
+use crate::Heard;
+use crate::Held;
+use crate::numbers;
+use crate::unfinished;
+use wire::Read;
+
+// A refused call: the state comes back as it was, nothing is taken.
+pub(crate) fn refused(held: Held, number: u8) -> Heard
+    ensures { λ r. ⌜ r ≡ unheard held number .answer ⌝ }
+{
+    Heard {
+        held,
+        event: Event::Refused(number),
+        taken: 0,
+    }
+}
+
+// The place of the first byte that is `one` or `other`, or the length.
+fn first_of(piece: &[u8], one: u8, other: u8) -> usize
+    ensures { λ r. ⌜ r ≡ before (λ b. eqb b one || eqb b other) (now (piece .entry)) ⌝ }
+{
+    let mut i = 0;
+    while i < piece.len() {
+        let b = piece[i];
+        if b == one {
+            return i;
+        }
+        if b == other {
+            return i;
+        }
+        i += 1;
+    }
+    i
+}
+
+// What an ended frame is on the stream.
+fn event_of(read: Read) -> Event
+    ensures { λ r. ⌜ r ≡ eventFrom read ⌝ }
+{
+    match read {
+        Read::Frame { command, len } => Event::Frame { command, len },
+        Read::Refused(number) => Event::Refused(number),
+    }
+}
+
+// A frame that a colon broke after so many characters: 1 if they are over 73, else 2.
+fn broken(len: usize) -> Event
+    ensures { λ r. ⌜ r ≡ eventFrom (readAs (brokenSays len) .answer) ⌝ }
+{
+    if numbers::MOST_CHARS < len {
+        return Event::Refused(numbers::TOO_LONG);
+    }
+    Event::Refused(numbers::NO_DIGIT)
+}
+
+// The call inside a frame.
+fn in_frame(held: Held, piece: &[u8], into: &mut [u8]) -> Heard
+    requires { ⌜ (allowed held ≡ true) × (held .inside ≡ true) × (35 ≤ length (now into)) ⌝ }
+    ensures { λ r. ⌜ Gives Heard (heardOf (unfinished held) (now (piece .entry))) (now (into .entry)) r (now (into .exit)) ⌝ }
+{
+    let end = first_of(piece, numbers::NEWLINE, numbers::COLON);
+    let whole = unfinished::with_more(held, &piece[..end]);
+    if end == piece.len() {
+        return Heard {
+            held: whole,
+            event: Event::Nothing,
+            taken: end,
+        };
+    }
+    let taken = end + 1;
+    let len = whole.len;
+    if piece[end] == numbers::COLON {
+        let next = unfinished::begun();
+        return Heard {
+            held: next,
+            event: broken(len),
+            taken,
+        };
+    }
+    let chars = whole.chars;
+    let read = wire::read_chars(&chars[..len], into);
+    Heard {
+        held: Held::outside(),
+        event: event_of(read),
+        taken,
+    }
+}
+
+// The call right behind a colon: a frame that ends within the piece is read where it stands, and nothing of it is held.
+fn fresh(piece: &[u8], into: &mut [u8]) -> Heard
+    requires { ⌜ 35 ≤ length (now into) ⌝ }
+    ensures { λ r. ⌜ Gives Heard (heardOf (inside []) (now (piece .entry))) (now (into .entry)) r (now (into .exit)) ⌝ }
+{
+    let last = first_of(piece, numbers::NEWLINE, numbers::COLON);
+    if last == piece.len() {
+        return Heard {
+            held: unfinished::with_more(unfinished::begun(), piece),
+            event: Event::Nothing,
+            taken: last,
+        };
+    }
+    let taken = last + 1;
+    if piece[last] == numbers::COLON {
+        return Heard {
+            held: unfinished::begun(),
+            event: broken(last),
+            taken,
+        };
+    }
+    let read = wire::read_chars(&piece[..last], into);
+    Heard {
+        held: Held::outside(),
+        event: event_of(read),
+        taken,
+    }
+}
+
+// The call on an allowed state with room enough: outside a frame all is skipped up to the first colon.
+pub(crate) fn heard(held: Held, piece: &[u8], into: &mut [u8]) -> Heard
+    requires { ⌜ (allowed held ≡ true) × (35 ≤ length (now into)) ⌝ }
+    ensures { λ r. ⌜ Gives Heard (heardOf (unfinished held) (now (piece .entry))) (now (into .entry)) r (now (into .exit)) ⌝ }
+{
+    if held.inside {
+        return in_frame(held, piece, into);
+    }
+    let skipped = first_of(piece, numbers::COLON, numbers::COLON);
+    if skipped == piece.len() {
+        return Heard {
+            held,
+            event: Event::Nothing,
+            taken: skipped,
+        };
+    }
+    let found = fresh(&piece[skipped + 1..], into);
+    let held = found.held;
+    let event = found.event;
+    Heard {
+        held,
+        event,
+        taken: skipped + 1 + found.taken,
+    }
+}

@@ -1,0 +1,57 @@
+-- Identities: that of a serial that fits is allowed, and has that serial. Assumes nothing.
+use mathlib.Core.Path.{_≡_, refl}
+use mathlib.Core.Bool.{Bool, true, false}
+use mathlib.Core.List.{List, []}
+use Prim.Native.Nat.{ℕ, zero, suc, _≤_}
+use borrow.Author.Tests.{leb-true}
+use lib.ListN.{length, drop, replicate}
+use lib.Seq.{take-append-seam, drop-append-seam}
+use lib.Dec.{leb, eqb}
+use Rattle.laws.specs.Lists.{every}
+use Rattle.laws.specs.Promise.{overlaid}
+use Rattle.laws.proofs.Bools.{and-left, and-right, both}
+use Rattle.laws.proofs.Lists.{every-replicate}
+use Rattle.who.specs.Parts.{printed, serialFits, noSerial, identityOf, serialOf, noIdentity, identityAllowed}
+use Rattle.who.specs.Calls.{naming, notAllowed}
+use Rattle.who.specs.Laws.{NamedIsAllowed}
+use Rattle.who.specs.declared.Verdict.{Verdict}
+
+pub serial-short : (serial : List ℕ) → serialFits serial ≡ true → length serial ≤ 32
+unfolding serialFits
+serial-short serial e = leb-true (length serial) 32 (and-left _ (every printed serial) e)
+
+module _ (product version : ℕ) (serial : List ℕ) where
+  pub named-refused : serialFits serial ≡ false → naming product version serial ≡ record { identity = noIdentity; verdict = Verdict.Refused notAllowed }
+  unfolding naming
+  named-refused e = rw e
+
+  pub named-accepted : serialFits serial ≡ true → naming product version serial ≡ record { identity = identityOf product version serial; verdict = Verdict.Accepted }
+  unfolding naming
+  named-accepted e = rw e
+
+zeros-end : (n m : ℕ) → every (eqb 0) (drop n (replicate m 0)) ≡ true
+zeros-end zero m = every-replicate m
+zeros-end (suc n) zero = refl
+zeros-end (suc n) (suc m) = zeros-end n m
+
+pub serial-back : (product version : ℕ) (serial : List ℕ) → serialOf (identityOf product version serial) ≡ serial
+unfolding serialOf identityOf overlaid
+serial-back product version serial = take-append-seam serial _
+
+pub identity-fits : (product version : ℕ) (serial : List ℕ) → serialFits serial ≡ true → identityAllowed (identityOf product version serial) ≡ true
+unfolding identityAllowed serialOf identityOf overlaid noSerial serialFits
+identity-fits product version serial e =
+    rw (take-append-seam, drop-append-seam)
+    (both _ _ (and-left (leb (length serial) 32) (every printed serial) e)
+    (both _ _ (and-right (leb (length serial) 32) (every printed serial) e) (zeros-end (length serial) 32)))
+
+pub nobody-allowed : identityAllowed noIdentity ≡ true
+unfolding noIdentity serialFits
+nobody-allowed = identity-fits 0 0 [] refl
+
+pub named-allowed : NamedIsAllowed
+named-allowed product version serial = by (serialFits serial) refl
+  where
+    by : (b : Bool) → serialFits serial ≡ b → identityAllowed (naming product version serial .identity) ≡ true
+    by true e = rw (named-accepted product version serial e) (identity-fits product version serial e)
+    by false e = rw (named-refused product version serial e) nobody-allowed

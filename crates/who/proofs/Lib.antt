@@ -1,0 +1,5 @@
+-- Laws of the definitions of specs/, and what the proofs of the functions cite.
+pub mod Serials
+pub mod Identities
+pub mod Theorems
+pub mod Same

@@ -1,0 +1,13 @@
+-- `who::names::is_within` meets its contract. Assumes nothing.
+use mathlib.Core.Path.{refl}
+use Rattle.who.proofs.names.is_within.Statement.{statement}
+use Rattle.who.proofs.names.is_within.Tie as tie
+
+returns : tie.Need-returns
+returns c = refl
+
+pub is-within-spec : {M : Type 1} → statement M
+is-within-spec =
+    tie.close
+    (tie.spec
+    returns)

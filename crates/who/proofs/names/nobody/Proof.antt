@@ -1,0 +1,16 @@
+-- `who::names::nobody` meets its contract. Assumes nothing.
+use mathlib.Core.Path.{refl}
+use Rattle.laws.specs.Promise.{overlaid}
+use Rattle.who.specs.Parts.{noIdentity, identityOf, noSerial}
+use Rattle.who.proofs.names.nobody.Statement.{statement}
+use Rattle.who.proofs.names.nobody.Tie as tie
+
+returns : tie.Need-returns
+unfolding noIdentity identityOf noSerial overlaid
+returns c = refl
+
+pub nobody-spec : {M : Type 1} → statement M
+nobody-spec =
+    tie.close
+    (tie.spec
+    returns)

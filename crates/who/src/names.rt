@@ -1,0 +1,86 @@
+// Identities.
+ghost use mathlib.Core.Path.{_≡_};
+ghost use mathlib.Core.Bool.{_&&_};
+ghost use lib.Dec.{leb};
+ghost use lib.ListN.{length};
+ghost use Prim.Native.Nat.{_≤_};
+ghost use Rattle.laws.specs.Lists.{every};
+ghost use Rattle.who.specs.Parts.{serialFits, identityOf, identityAllowed, noIdentity};
+use crate::Identity;
+use crate::numbers;
+
+// A byte from one end to another.
+fn is_within(low: u8, b: u8, high: u8) -> bool
+    ensures { λ r. ⌜ r ≡ (leb low b && leb b high) ⌝ }
+{
+    (low <= b) & (b <= high)
+}
+
+// Every byte is: those of a serial, and the zeros behind it.
+fn all_within(bytes: &[u8], low: u8, high: u8) -> bool
+    ensures { λ r. ⌜ r ≡ every (λ b. leb low b && leb b high) (now (bytes .entry)) ⌝ }
+{
+    let mut all = true;
+    let mut i = 0;
+    while i < bytes.len() {
+        all = all & is_within(low, bytes[i], high);
+        i += 1;
+    }
+    all
+}
+
+// A serial that a board can be started with.
+pub(crate) fn serial_fits(serial: &[u8]) -> bool
+    ensures { λ r. ⌜ r ≡ serialFits (now (serial .entry)) ⌝ }
+{
+    (serial.len() <= numbers::MOST_SERIAL)
+        & all_within(serial, numbers::FIRST_PRINTED, numbers::LAST_PRINTED)
+}
+
+// The identity of a product, a version and a serial.
+pub(crate) fn identity_of(product: u16, version: u16, serial: &[u8]) -> Identity
+    requires { ⌜ length (now serial) ≤ 32 ⌝ }
+    ensures { λ r. ⌜ r ≡ identityOf product version (now (serial .entry)) ⌝ }
+{
+    let mut bytes = [0u8; numbers::MOST_SERIAL];
+    let mut i = 0;
+    while i < serial.len() {
+        bytes[i] = serial[i];
+        i += 1;
+    }
+    Identity {
+        product,
+        version,
+        len: serial.len(),
+        serial: bytes,
+    }
+}
+
+// The identity of a board whose start was refused.
+pub(crate) fn nobody() -> Identity
+    ensures { λ r. ⌜ r ≡ noIdentity ⌝ }
+{
+    Identity {
+        product: 0,
+        version: 0,
+        len: 0,
+        serial: [0u8; numbers::MOST_SERIAL],
+    }
+}
+
+// An identity whose serial fits, with 0 past its length.
+pub(crate) fn is_identity(identity: Identity) -> bool
+    ensures { λ r. ⌜ r ≡ identityAllowed identity ⌝ }
+{
+    let len = identity.len;
+    let serial = identity.serial;
+    if numbers::MOST_SERIAL < len {
+        return false;
+    }
+    all_within(
+        &serial[..len],
+        numbers::FIRST_PRINTED,
+        numbers::LAST_PRINTED,
+    )
+        & all_within(&serial[len..], 0, 0)
+}
