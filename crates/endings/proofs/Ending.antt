@@ -1,18 +1,18 @@
--- How a follower has ended, and what a yard's sums count of it. Assumes nothing.
+-- How a follower stands, and the Sets of its list. Assumes nothing.
 use mathlib.Core.Path.{_≡_, refl, sym, ap, ap₂, _∙_}
 use mathlib.Core.Bool.{Bool, true, false, cond, false≢true}
 use mathlib.Core.List.{List}
 use Prim.Native.Nat.{ℕ, _≤_, _<_}
-use native.Mathlib.Nat.{zero-add}
 use native.Mathlib.Omega.{arith}
 use borrow.Author.Tests.{ltb-true, leb-true, eqb-true}
 use lib.Dec.{ltb, leb, eqb}
-use Rattle.laws.proofs.Bools.{and-right}
-use Rattle.restore.specs.Order.{wanted}
-use Rattle.restore.specs.Calls.{bothAllowed, dueIn}
+use Rattle.laws.proofs.Bools.{and-left, and-right}
+use Rattle.restore.specs.Order.{wanted, dueSets}
+use Rattle.restore.specs.Calls.{bothAllowed, dueIn, listing, listedAs, unlisted}
 use Rattle.restore.specs.Laws.{Tells, a-set, none-left, not-allowed}
 use Rattle.restore.specs.declared.Wanted.{Wanted}
 use Rattle.restore.specs.declared.Due.{Due}
+use Rattle.restore.specs.declared.Listed.{Listed}
 use Rattle.restore.proofs.Theorems.{due-tells}
 use Rattle.follow.specs.Following.{standsAt, standing, total, followerAllowed}
 use Rattle.reply.specs.Events.{refusedFrame}
@@ -21,18 +21,11 @@ use Rattle.follow.specs.declared.Follower.{Follower}
 use Rattle.follow.specs.declared.Outcome.{Outcome}
 use Rattle.follow.specs.declared.Followed.{Followed}
 use Rattle.follow.proofs.Standing.{told-good, told-stray, following-refused}
-use Rattle.tally.specs.Results.{restored, nothing, hasEnded, fits, tallyAllowed}
 use Rattle.tally.specs.Laws.{isDone}
-use Rattle.tally.specs.Calls.{counting}
-use Rattle.tally.specs.declared.Counted.{Counted}
-use Rattle.tally.proofs.Counting.{counting-fit, fits-is}
 use Rattle.lines.specs.Lines.{adding}
 use Rattle.lines.specs.declared.Line.{Line}
-use Rattle.endings.specs.Texts.{endText, standText}
-
-nothing-allowed : tallyAllowed nothing ≡ true
-unfolding tallyAllowed
-nothing-allowed = refl
+use Rattle.lines.specs.Numbers.{ofText}
+use Rattle.endings.specs.Texts.{endText, dueOf, standText}
 
 -- none is due any more
 abbrev isOver : Outcome → Bool
@@ -51,36 +44,58 @@ equal-true true e = refl
 equal-true false e = absurd (false≢true (sym (ap isDone e)))
 
 module _ (f : Follower) where
-  -- the Sets of its list, once it has ended
-  due-counted : fits (restored f true) ≡ true → counting nothing (restored f true) .tally .due ≡ total f
-  due-counted fit = ap (λ (c : Counted). c .tally .due) (sym (counting-fit nothing (restored f true) nothing-allowed fit)) ∙ zero-add (total f)
+  -- the Sets of its list
+  due-good : followerAllowed f ≡ true → dueOf f ≡ total f
+  unfolding dueOf followerAllowed
+  due-good ok = rw (and-left (bothAllowed (f .from) (f .to)) _ ok)
 
-  pub stand-is : (said : List ℕ) → endText (told f .outcome) (told f .confirmed) (counting nothing (restored f true) .tally .due) said ≡ standText f said
+  stand-is : (said : List ℕ) → endText (told f .outcome) (told f .confirmed) (dueOf f) said ≡ standText f said
   unfolding standText
   stand-is said = by (followerAllowed f) refl
     where
-      due : ℕ
-      due = counting nothing (restored f true) .tally .due
-
-      fit : followerAllowed f ≡ true → hasEnded (standing f) ≡ true → fits (restored f true) ≡ true
-      fit ok e = fits-is f true ∙ rw (ok, e)
-
-      at : followerAllowed f ≡ true → (o : Outcome) → standing f ≡ o → endText o (f .confirmed) due said ≡ endText o (f .confirmed) (total f) said
-      at ok (Outcome.Waiting due) e = refl
-      at ok Outcome.Equal e = refl
-      at ok Outcome.Done e = ap (λ (n : ℕ). endText Outcome.Done (f .confirmed) n said) (due-counted (fit ok (ap hasEnded e)))
-      at ok (Outcome.Stopped wanted) e = ap (λ (n : ℕ). endText (Outcome.Stopped wanted) (f .confirmed) n said) (due-counted (fit ok (ap hasEnded e)))
-      at ok (Outcome.Refused number) e = refl
-
-      by : (t : Bool) → followerAllowed f ≡ t → endText (told f .outcome) (told f .confirmed) due said ≡ endText (told f .outcome) (told f .confirmed) (total f) said
-      by true ok = rw (sym (told-good f ok)) (at ok (standing f) refl)
+      by : (t : Bool) → followerAllowed f ≡ t → endText (told f .outcome) (told f .confirmed) (dueOf f) said ≡ endText (told f .outcome) (told f .confirmed) (total f) said
+      by true ok = rw (due-good ok)
       by false ok = rw (sym (told-stray f ok)) refl
 
   pub follower-line : (l : Line) {n : Line} (said : List ℕ) (followed : Followed) (due : ℕ) → followed ≡ following f refusedFrame
-      → due ≡ counting nothing (restored f true) .tally .due → n ≡ adding l (endText (followed .outcome) (followed .confirmed) due said) → n ≡ adding l (standText f said)
+      → due ≡ dueOf f → n ≡ adding l (endText (followed .outcome) (followed .confirmed) due said) → n ≡ adding l (standText f said)
   follower-line l said followed due is counts e =
       e ∙ ap (adding l)
       (ap₂ (λ (w : Followed) (k : ℕ). endText (w .outcome) (w .confirmed) k said) (is ∙ sym (following-refused f)) counts ∙ stand-is said)
+
+  -- and its own count of those that are confirmed
+  pub confirmed-line : (l : Line) {n : Line} (followed : Followed) (due : ℕ) → followed ≡ following f refusedFrame
+      → due ≡ dueOf f → n ≡ adding l (ofText (followed .confirmed) due) → n ≡ adding l (ofText (told f .confirmed) (dueOf f))
+  confirmed-line l followed due is counts e =
+      e ∙ ap (adding l) (ap₂ (λ (w : Followed) (k : ℕ). ofText (w .confirmed) k) (is ∙ sym (following-refused f)) counts)
+
+  -- a list written with room enough
+  module _ (r : Listed) (is : r ≡ listing (f .from) (f .to) 390 .answer) where
+    listed : r ≡ cond (bothAllowed (f .from) (f .to)) (listedAs (dueSets (f .from) (f .to))) (unlisted 12) .answer
+    unfolding listing
+    listed = is
+
+    pub list-sets : (len sets : ℕ) → r ≡ Listed.List len sets → sets ≡ dueOf f
+    unfolding dueOf
+    list-sets len sets e = by (bothAllowed (f .from) (f .to)) refl
+      where
+        by : (t : Bool) → bothAllowed (f .from) (f .to) ≡ t → sets ≡ cond (bothAllowed (f .from) (f .to)) (total f) 0
+        by true p =
+            let same : Listed.List len sets ≡ Listed.List _ (total f) = sym e ∙ (rw p at listed) in
+            rw p cc
+        by false p =
+            let never : Listed.List len sets ≡ Listed.Refused 12 = sym e ∙ (rw p at listed) in
+            let z : _≡_ {A = ℕ} 0 1 = cc in absurd (omega arith)
+
+    pub list-none : (number : ℕ) → r ≡ Listed.Refused number → 0 ≡ dueOf f
+    unfolding dueOf
+    list-none number e = by (bothAllowed (f .from) (f .to)) refl
+      where
+        by : (t : Bool) → bothAllowed (f .from) (f .to) ≡ t → 0 ≡ cond (bothAllowed (f .from) (f .to)) (total f) 0
+        by true p =
+            let never : Listed.Refused number ≡ Listed.List _ (total f) = sym e ∙ (rw p at listed) in
+            let z : _≡_ {A = ℕ} 0 1 = cc in absurd (omega arith)
+        by false p = rw p
 
   -- one that is not allowed, and one that is
   pub stand-stray : (said : List ℕ) → followerAllowed f ≡ false → standText f said ≡ endText (Outcome.Refused 12) 0 (total f) said

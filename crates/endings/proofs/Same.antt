@@ -10,6 +10,7 @@ use Rattle.tally.specs.declared.Tally.{Tally}
 use Rattle.collect.specs.declared.Outcome as collects
 use Rattle.lines.specs.declared.Line.{Line}
 use Rattle.endings.proofs.followed.Reads as followed
+use Rattle.endings.proofs.progress.Reads as progress
 use Rattle.endings.proofs.collected.Reads as collected
 use Rattle.endings.proofs.summed.Reads as summed
 
@@ -18,6 +19,10 @@ pub followed-same : (κs : Lfts 2) (name : RefT (List ℕ)) (follower : Follower
     → followed.Post κs (name, (follower, (said, tt))) r′ (name, (follower, (said, tt)))
     → r ≡ r′
 followed-same κs name follower said r r′ met met′ = equal-same met met′
+
+pub progress-same : (follower : Follower) (k n : ℕ) (r r′ : Line)
+    → progress.Post tt (follower, (k, (n, tt))) r (follower, (k, (n, tt))) → progress.Post tt (follower, (k, (n, tt))) r′ (follower, (k, (n, tt))) → r ≡ r′
+progress-same follower k n r r′ met met′ = equal-same met met′
 
 pub collected-same : (outcome : collects.Outcome) (answered : ℕ) (r r′ : Line)
     → collected.Post tt (outcome, (answered, tt)) r (outcome, (answered, tt)) → collected.Post tt (outcome, (answered, tt)) r′ (outcome, (answered, tt)) → r ≡ r′

@@ -12,7 +12,7 @@ use Rattle.wire.specs.Digits.{digit}
 use Rattle.lines.specs.Lines.{chars}
 use Rattle.lines.specs.Numbers.{decimalFrom, pointed, ofText}
 use Rattle.lines.proofs.Adding.{says-text}
-use Rattle.phrases.specs.Names.{idText, nameText, amountText, titleText}
+use Rattle.phrases.specs.Names.{idText, nameText, wideText, amountText, rowText, titleText}
 use Rattle.endings.specs.Texts.{boardText, wordText, numberText, widthText, nearestText, saidText, countsText, stoppedText, doneText, endText, standText, followedText, unreadText, collectedText, boardsText, summedText}
 use Rattle.endings.specs.Laws.{AllDone, DoneIsDone, NothingDue, EqualIsEqual, ReadIsRead}
 use Rattle.endings.specs.Worked.{LinesRead, LongReads}
@@ -73,7 +73,7 @@ read-is-read outcome answered e = by outcome (says-text [] (collectedText outcom
     by (collects.Outcome.Refused number) e = let z : _≡_ {A = ℕ} 0x72 0x61 = first e in absurd (omega arith)
 
 pub lines-read : LinesRead
-unfolding digit decimalFrom pointed ofText idText nameText amountText titleText boardText wordText numberText widthText nearestText saidText countsText stoppedText doneText unreadText collectedText boardsText summedText
+unfolding digit decimalFrom pointed ofText idText nameText wideText amountText rowText titleText boardText wordText numberText widthText nearestText saidText countsText stoppedText doneText unreadText collectedText boardsText summedText
 lines-read = refl
 
 pub long-reads : LongReads

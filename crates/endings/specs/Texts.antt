@@ -5,6 +5,7 @@ use mathlib.Core.List.{List, [], _++_}
 use lib.ListN.{length, getD, drop}
 use lib.Dec.{ltb, eqb}
 use Rattle.wire.specs.Numbers.{fromLittle}
+use Rattle.restore.specs.Calls.{bothAllowed}
 use Rattle.follow.specs.Following.{total}
 use Rattle.follow.specs.Calls.{told}
 use Rattle.follow.specs.declared.Follower.{Follower}
@@ -13,7 +14,7 @@ use Rattle.tally.specs.declared.Tally.{Tally}
 use Rattle.collect.specs.declared.Outcome as collects
 use Rattle.lines.specs.Lines.{chars}
 use Rattle.lines.specs.Numbers.{decimal, ofText, hexByte}
-use Rattle.phrases.specs.Names.{amountText, titleText}
+use Rattle.phrases.specs.Names.{amountText, titleText, rowText}
 
 -- The end of a restore, from the follower's own answer.
 
@@ -63,6 +64,18 @@ endText (follows.Outcome.Stopped wanted) confirmed due said = stoppedText (wante
 endText (follows.Outcome.Waiting wanted) confirmed due said = chars "not ended: waiting for " ++ titleText (wanted .setting .index)
 endText (follows.Outcome.Refused number) confirmed due said =
     chars "refused " ++ decimal number ++ chars ": a table is not allowed; nothing was sent"
+
+-- the Sets of its list, none where a table is not allowed
+unfoldable pub dueOf : Follower → ℕ
+dueOf f = cond (bothAllowed (f .from) (f .to)) (total f) 0
+
+-- `7 of 12 confirmed: 0320 low voltage alarm      12.0 V`
+abbrev pub confirmedText : ℕ → ℕ → ℕ → ℕ → List ℕ
+confirmedText confirmed due k n = ofText confirmed due ++ chars " confirmed: " ++ rowText k n
+
+-- how many are, by the follower's own word, and the Set that has just been
+unfoldable pub progressText : Follower → ℕ → ℕ → List ℕ
+progressText f k n = confirmedText (told f .confirmed) (dueOf f) k n
 
 -- a follower by its own word: where it stands (12 where no start and events give it), what it has confirmed, and the Sets of its list
 unfoldable pub standText : Follower → List ℕ → List ℕ

@@ -14,13 +14,14 @@ use Rattle.collect.specs.declared.Outcome as collects
 use Rattle.tally.specs.Results.{tallyOf, withSets}
 use Rattle.lines.specs.Lines.{mostText, chars}
 use Rattle.lines.specs.Worked.{Sample, sample, allRead}
-use Rattle.endings.specs.Texts.{boardText, endText, collectedText, summedText}
+use Rattle.endings.specs.Texts.{boardText, endText, confirmedText, collectedText, summedText}
 
 abbrev at : ℕ → ℕ → Wanted
 at k n = record { setting = settingAt k; number = n }
 
 abbrev pub lines : List Sample
 lines =
+    sample (confirmedText 7 12 0 120) "7 of 12 confirmed: 0320 low voltage alarm      12.0 V" ∷
     sample (endText follows.Outcome.Done 12 12 []) "done: 12 of 12 settings confirmed" ∷
     sample (boardText (chars "bay 3") ++ endText follows.Outcome.Equal 0 0 []) "bay 3: equal: nothing to set" ∷
     sample (endText (follows.Outcome.Stopped (at 0 120)) 5 12 (0x20 ∷ 0x03 ∷ 0x04 ∷ 118 ∷ 0 ∷ []))

@@ -2,19 +2,21 @@
 ghost use Prim.Native.Nat.{_-_};
 ghost use mathlib.Core.Path.{_≡_};
 ghost use Rattle.lines.specs.Lines.{adding};
-ghost use mathlib.Core.Bool.{true};
-ghost use Rattle.tally.specs.Results.{nothing, restored};
-ghost use Rattle.tally.specs.Calls.{counting};
-ghost use Rattle.endings.specs.Texts.{boardText, wordText, numberText, widthText, nearestText, saidText, countsText, stoppedText, doneText, endText, standText};
+ghost use Rattle.lines.specs.Numbers.{ofText};
+ghost use Rattle.follow.specs.Calls.{told};
+ghost use Rattle.endings.specs.Texts.{boardText, wordText, numberText, widthText, nearestText, saidText, countsText, stoppedText, doneText, endText, dueOf, standText};
 use crate::bytes;
 use crate::parts;
 use follow::Follower;
 use follow::Outcome;
 use lines::Line;
-use tally::Tally;
+use restore::Listed;
 
 // With this flag and a value of the setting's own width comes the nearest allowed number.
 const PARAMETER: u8 = 4;
+
+// The room that a restore list takes.
+const LIST_ROOM: usize = 390;
 
 // An id and a flag stand before the value in the data of a Set reply.
 const FRONT: usize = 3;
@@ -152,13 +154,24 @@ fn put_end(line: Line, outcome: Outcome, confirmed: usize, due: usize, said: &[u
     }
 }
 
-// How many Sets the list of a follower that has ended has: what it adds to a yard's sums.
+// How many Sets the list of a follower has; none where a table is not allowed.
 fn due_of(follower: Follower) -> usize
-    ensures { λ r. ⌜ r ≡ counting nothing (restored follower true) .tally .due ⌝ }
+    ensures { λ r. ⌜ r ≡ dueOf follower ⌝ }
 {
-    let counted = Tally::nothing().restored(follower, true);
-    let tally = counted.tally;
-    tally.due
+    let mut list = [0u8; LIST_ROOM];
+    let listed = restore::list(follower.from, follower.to, &mut list);
+    match listed {
+        Listed::List { sets, .. } => sets,
+        Listed::Refused(_) => 0,
+    }
+}
+
+// How many of them the board has confirmed, by the follower's own count.
+pub(crate) fn put_confirmed(line: Line, follower: Follower) -> Line
+    ensures { λ r. ⌜ r ≡ adding line (ofText (told follower .confirmed) (dueOf follower)) ⌝ }
+{
+    let followed = follower.refused_frame();
+    line.put_of(followed.confirmed, due_of(follower))
 }
 
 // A follower tells where it stands and its own count when it is told of a refused frame, which changes nothing.

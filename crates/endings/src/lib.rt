@@ -2,7 +2,7 @@
 // (specs/Texts.antt).
 ghost use mathlib.Core.Path.{_≡_};
 ghost use Rattle.lines.specs.Lines.{printed};
-ghost use Rattle.endings.specs.Texts.{followedText, collectedText, summedText};
+ghost use Rattle.endings.specs.Texts.{progressText, followedText, collectedText, summedText};
 use follow::Follower;
 use lines::Line;
 use tally::Tally;
@@ -20,6 +20,14 @@ pub fn followed(name: &[u8], follower: Follower, said: &[u8]) -> Line
 {
     let begun = ends::put_board(Line::start(), name);
     ends::put_follower(begun, follower, said).end()
+}
+
+// A Set that was just confirmed, and by the follower and nothing else how many are.
+pub fn progress(follower: Follower, index: usize, number: u16) -> Line
+    ensures { λ r. ⌜ r ≡ printed (progressText follower index number) ⌝ }
+{
+    let counted = ends::put_confirmed(Line::start(), follower).put(b" confirmed: ");
+    phrases::put_row(counted, index, number).end()
 }
 
 // How the reading of a board stands, from the collector's own answer.

@@ -9,13 +9,9 @@ use follow::Outcome;
 use listen::Listener;
 use listen::Told;
 use restore::Due;
-use restore::Listed;
 use restore::Wanted;
 use settings::Table;
 use wire::Written;
-
-// The room that the longest list takes.
-const LIST_ROOM: usize = 390;
 
 // A restore on its way, and the data of the frame heard last, none if that was no frame.
 pub(crate) struct Restored {
@@ -130,23 +126,13 @@ fn send_one(ends: Ends, way: Restored, wanted: Wanted) -> Restored {
 }
 
 // Shows a Set that the board has confirmed: the follower's count has gone past those before it.
-fn show(report: i32, followed: Followed, before: usize, due: usize, wanted: Wanted) {
+fn show(report: i32, followed: Followed, before: usize, wanted: Wanted) {
     let setting = wanted.setting;
     if before < followed.confirmed {
         words::tell(
             report,
-            report::progress(followed.confirmed, due, setting.index, wanted.number),
+            endings::progress(followed.follower, setting.index, wanted.number),
         );
-    }
-}
-
-// How many Sets the list has.
-pub(crate) fn due_of(from: Table, to: Table) -> usize {
-    let mut list = [0u8; LIST_ROOM];
-    let listed = restore::list(from, to, &mut list);
-    match listed {
-        Listed::List { len: _, sets } => sets,
-        Listed::Refused(_) => 0,
     }
 }
 
@@ -185,30 +171,29 @@ pub(crate) fn show_list(report: i32, from: Table, to: Table) {
 }
 
 // Sends the Set that is due, and shows it once it is confirmed.
-fn send_and_show(ends: Ends, way: Restored, due: usize, wanted: Wanted) -> Restored {
+fn send_and_show(ends: Ends, way: Restored, wanted: Wanted) -> Restored {
     let before = way.followed;
     let next = send_one(ends, way, wanted);
     let followed = next.followed;
-    show(ends.report, followed, before.confirmed, due, wanted);
+    show(ends.report, followed, before.confirmed, wanted);
     next
 }
 
 // Sends the Set that is waited for; nothing where the restore has ended.
-fn further(ends: Ends, way: Restored, due: usize, shown: bool) -> Restored {
+fn further(ends: Ends, way: Restored, shown: bool) -> Restored {
     let followed = way.followed;
     let outcome = followed.outcome;
     let Outcome::Waiting(wanted) = outcome else {
         return way;
     };
     if shown {
-        return send_and_show(ends, way, due, wanted);
+        return send_and_show(ends, way, wanted);
     }
     send_one(ends, way, wanted)
 }
 
 // Turns the board's table `from` into `to`; what is confirmed is shown, where that is wished.
 pub(crate) fn follow(ends: Ends, from: Table, to: Table, shown: bool) -> Restored {
-    let due = due_of(from, to);
     let mut way = Restored {
         listener: Listener::start(),
         followed: Follower::start(from, to),
@@ -217,7 +202,7 @@ pub(crate) fn follow(ends: Ends, from: Table, to: Table, shown: bool) -> Restore
     };
     let mut turns = settings::COUNT;
     while turns > 0 {
-        way = further(ends, way, due, shown);
+        way = further(ends, way, shown);
         turns -= 1;
     }
     way

@@ -5,7 +5,6 @@ use Rattle.laws.proofs.Promise.{equal-same}
 use Rattle.lines.specs.declared.Line.{Line}
 use Rattle.report.proofs.setting.Reads as setting
 use Rattle.report.proofs.planned.Reads as planned
-use Rattle.report.proofs.progress.Reads as progress
 
 pub setting-same : (k n : ℕ) (r r′ : Line) → setting.Post tt (k, (n, tt)) r (k, (n, tt)) → setting.Post tt (k, (n, tt)) r′ (k, (n, tt)) → r ≡ r′
 setting-same k n r r′ met met′ = equal-same met met′
@@ -13,7 +12,3 @@ setting-same k n r r′ met met′ = equal-same met met′
 pub planned-same : (k held wanted : ℕ) (r r′ : Line)
     → planned.Post tt (k, (held, (wanted, tt))) r (k, (held, (wanted, tt))) → planned.Post tt (k, (held, (wanted, tt))) r′ (k, (held, (wanted, tt))) → r ≡ r′
 planned-same k held wanted r r′ met met′ = equal-same met met′
-
-pub progress-same : (done due k n : ℕ) (r r′ : Line)
-    → progress.Post tt (done, (due, (k, (n, tt)))) r (done, (due, (k, (n, tt)))) → progress.Post tt (done, (due, (k, (n, tt)))) r′ (done, (due, (k, (n, tt)))) → r ≡ r′
-progress-same done due k n r r′ met met′ = equal-same met met′

@@ -2,7 +2,6 @@
 use Prim.Native.Nat.{ℕ}
 use mathlib.Core.List.{List, _++_}
 use Rattle.lines.specs.Lines.{chars}
-use Rattle.lines.specs.Numbers.{ofText}
 use Rattle.phrases.specs.Names.{rowText, amountText}
 
 -- `0320 low voltage alarm      12.0 V`
@@ -12,7 +11,3 @@ settingText k n = rowText k n
 -- `0320 low voltage alarm      11.0 V -> 12.0 V`
 unfoldable pub plannedText : ℕ → ℕ → ℕ → List ℕ
 plannedText k held wanted = rowText k held ++ chars " -> " ++ amountText k wanted
-
--- `7 of 12 confirmed: 0320 low voltage alarm      12.0 V`
-unfoldable pub progressText : ℕ → ℕ → ℕ → ℕ → List ℕ
-progressText done due k n = ofText done due ++ chars " confirmed: " ++ rowText k n

@@ -3,7 +3,7 @@ use mathlib.Core.Path.{_≡_}
 use mathlib.Core.Bool.{true}
 use mathlib.Core.List.{List, [], _∷_}
 use Rattle.lines.specs.Worked.{Sample, sample, allRead}
-use Rattle.report.specs.Texts.{settingText, plannedText, progressText}
+use Rattle.report.specs.Texts.{settingText, plannedText}
 
 abbrev pub lines : List Sample
 lines =
@@ -13,7 +13,6 @@ lines =
     sample (settingText 16 125) "1005 Peukert coefficient    1.25" ∷
     sample (settingText 26 7) "????                        7" ∷
     sample (plannedText 0 110 120) "0320 low voltage alarm      11.0 V -> 12.0 V" ∷
-    sample (progressText 7 12 0 120) "7 of 12 confirmed: 0320 low voltage alarm      12.0 V" ∷
     []
 
 abbrev pub LinesRead : Type 0

@@ -1,7 +1,7 @@
 // The lines of a night: settings and Sets. Every call takes anything, and its promise fixes its answer (specs/Texts.antt).
 ghost use mathlib.Core.Path.{_≡_};
 ghost use Rattle.lines.specs.Lines.{printed};
-ghost use Rattle.report.specs.Texts.{settingText, plannedText, progressText};
+ghost use Rattle.report.specs.Texts.{settingText, plannedText};
 use lines::Line;
 
 // A setting and its number.
@@ -17,12 +17,4 @@ pub fn planned(index: usize, held: u16, wanted: u16) -> Line
 {
     let row = phrases::put_row(Line::start(), index, held).put(b" -> ");
     phrases::put_amount(row, index, wanted).end()
-}
-
-// A Set that was just confirmed, and how many are.
-pub fn progress(done: usize, due: usize, index: usize, number: u16) -> Line
-    ensures { λ r. ⌜ r ≡ printed (progressText done due index number) ⌝ }
-{
-    let counted = Line::start().put_of(done, due).put(b" confirmed: ");
-    phrases::put_row(counted, index, number).end()
 }

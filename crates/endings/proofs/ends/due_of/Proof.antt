@@ -1,24 +1,32 @@
 -- `endings::ends::due_of` meets its contract. Assumes nothing.
-use mathlib.Core.Path.{_≡_, ap}
-use mathlib.Core.Bool.{true}
 use borrow.Author.Needs.{needs}
-use Rattle.tally.specs.Results.{nothing, restored}
-use Rattle.tally.specs.Calls.{counting}
-use Rattle.tally.specs.declared.Counted.{Counted}
+use Rattle.endings.proofs.Ending.{list-sets, list-none}
 use Rattle.endings.proofs.ends.due_of.Statement.{statement}
 use Rattle.endings.proofs.ends.due_of.Tie as tie
 
-nothing-requires : tie.Need-nothing-requires
-nothing-requires c κs = search needs
+slice-aggregate-list : tie.Need-slice-aggregate-list
+slice-aggregate-list c = search needs
 
-restored-requires : tie.Need-restored-requires
-restored-requires c κs = search needs
+list-requires : tie.Need-list-requires
+list-requires c κs = search needs
+
+enum-known-listed : tie.Need-enum-known-listed
+enum-known-listed c = search needs
+
+enum-told : tie.Need-enum-told
+enum-told c = search needs
 
 returns : tie.Need-returns
 returns c =
-    let is : c .before .restored .result ≡ counting nothing (restored (c .before .before .before .args .follower) true) =
-    rw (c .before .before .nothing .ensures) at (c .before .restored .ensures) in
-    ap (λ (k : Counted). k .tally .due) is
+    let c4 = c .before .before .before .before in
+    list-sets (c4 .before .before .args .follower) _ (c4 .list2 .ensures .answered) _ _ (c .before .listed .given .1)
+
+returns-2 : tie.Need-returns-2
+returns-2 c =
+    let c3 = c .before .before .before in
+    list-none (c3 .before .before .args .follower) _ (c3 .list2 .ensures .answered) _ (c .enum-told .given .1)
 
 pub due-of-spec : {M : Type 1} → statement M
-due-of-spec = tie.close (tie.spec nothing-requires restored-requires returns)
+due-of-spec =
+    tie.close
+    (tie.spec slice-aggregate-list list-requires enum-known-listed enum-told returns returns-2)

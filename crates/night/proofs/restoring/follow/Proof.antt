@@ -5,13 +5,10 @@ use Rattle.night.proofs.restoring.follow.Statement.{statement}
 use Rattle.night.proofs.restoring.follow.Tie as tie
 
 abbrev Inv-loop : tie.InvT-loop
-Inv-loop ends shown due way₀ turns₀ way turns = Unit {0}
+Inv-loop ends shown way₀ turns₀ way turns = Unit {0}
 
 abbrev μ-loop : tie.MeasureT-loop
-μ-loop ends shown due way₀ turns₀ way turns = turns
-
-due-of-requires : tie.Need-due-of-requires Inv-loop μ-loop
-due-of-requires c κs = search needs
+μ-loop ends shown way₀ turns₀ way turns = turns
 
 start-requires : tie.Need-start-requires Inv-loop μ-loop
 start-requires c κs = search needs
@@ -43,7 +40,6 @@ follow-spec =
     (tie.spec
     Inv-loop
     μ-loop
-    due-of-requires
     start-requires
     start-requires-2
     loop-holds
