@@ -6,8 +6,8 @@
  *
  * What the caller owes, and no call can look at: no pointer is null, not even beside a length of 0; each points at as many bytes as
  * the length beside it says; and a lent buffer does not overlap the bytes that are read. Then any bytes and any numbers may be handed
- * in, and every call ends. No proof speaks of the compiled archive itself: firmware/test looks that it holds no data that changes and
- * asks for memcpy alone, so that it keeps nothing between calls, takes no heap, and may be used from several threads at once.
+ * in, and every call ends. No proof speaks of the compiled archive itself: on x86-64 firmware/test looks that it holds no data that
+ * changes and asks for memcpy alone, so that it keeps nothing between calls, takes no heap, and may be used from several threads.
  *
  * Every call answers with one number. Its high half is the number of the refusal, 0 where there is none; its low half is the answer, 0
  * under a refusal. The functions at the end take it apart. Under a refusal no byte of a lent buffer changes. Otherwise the frame, or
