@@ -4,19 +4,20 @@ use mathlib.Core.List.{[]}
 use Prim.Native.Nat.{ℕ, zero, suc, _^_, _≤_, _<_}
 use native.Mathlib.Omega.{arith}
 use lib.ListN.{length}
+use Rattle.wire.proofs.Little.{length-little}
 use Rattle.wire.proofs.Theorems.{little-is-read}
 use Rattle.settings.specs.Columns.{count, idAt, widthAt}
-use Rattle.settings.specs.Rules.{partnerNumber}
+use Rattle.tables.specs.Rules.{partnerNumber}
 use Rattle.settings.specs.Calls.{settingAt}
-use Rattle.settings.specs.declared.Table.{Table}
-use Rattle.settings.proofs.Theorems.{rows-hold, find-is-found, refused-names-nearest, allowed-has-room}
-use Rattle.settings.proofs.Tables.{set-accepted}
+use Rattle.tables.specs.declared.Table.{Table}
+use Rattle.settings.proofs.Theorems.{rows-hold, find-is-found, allowed-has-room}
+use Rattle.tables.proofs.Theorems.{refused-names-nearest}
+use Rattle.tables.proofs.Tables.{set-accepted}
 use Rattle.wire.specs.Numbers.{little, fromLittle}
 use Rattle.answers.specs.Answers.{said, setCode, setsSetting, frameAnswer}
 use Rattle.answers.specs.Laws.{GetAnswersHeld, SetStoresIt, SetRefusedNamesNearest}
 use Rattle.who.specs.declared.Identity.{Identity}
 use Rattle.who.specs.declared.Readings.{Readings}
-use Rattle.answers.proofs.Bytes.{length-little}
 use Rattle.answers.proofs.Deciding.{gets-is, sets-is, sets-right}
 
 id-back : (k : ℕ) → k < count → idAt k ≡ fromLittle (little 2 (idAt k))

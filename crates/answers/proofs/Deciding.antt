@@ -1,27 +1,30 @@
 -- Decisions as they are held are those of the bytes that they stand for. Assumes nothing.
 use mathlib.Core.Path.{_≡_, refl, sym, ap}
 use mathlib.Core.Logic.{_≢_}
-use mathlib.Core.Bool.{true, false, false≢true, _&&_}
+use mathlib.Core.Bool.{true, false, _&&_}
 use mathlib.Core.List.{List}
 use mathlib.Core.Option.{Option, none, some}
 use Prim.Native.Nat.{ℕ, _≤_, _<_}
+use native.Mathlib.Omega.{arith}
 use borrow.Author.Tests.{lt-ltb, le-ltb, eq-eqb, ne-eqb}
 use lib.ListN.{length, take, drop, getD}
-use Rattle.settings.specs.Calls.{finding, setTo}
-use Rattle.settings.specs.Rules.{allowed}
+use Rattle.settings.specs.Calls.{finding}
+use Rattle.tables.specs.Calls.{setTo}
+use Rattle.tables.specs.Rules.{allowed}
 use Rattle.settings.specs.declared.Setting.{Setting}
 use Rattle.settings.specs.declared.Found.{Found}
-use Rattle.settings.specs.declared.Answer.{Answer}
-use Rattle.settings.specs.declared.Change.{Change}
-use Rattle.settings.specs.declared.Table.{Table}
+use Rattle.tables.specs.declared.Answer.{Answer}
+use Rattle.tables.specs.declared.Change.{Change}
+use Rattle.tables.specs.declared.Table.{Table}
 use Rattle.answers.specs.Answers.{silent, sent, staying, said, getCode, setCode, malformed, unknownId, notSupported, wrongWidth, getsOther, getsFound, getAnswer, setsOther, stored, setsSetting, setsFound, setAnswer, frameAnswer}
 use Rattle.who.specs.Parts.{identityAllowed}
 use Rattle.wire.specs.Numbers.{fromLittle}
-use Rattle.who.specs.Calls.{notAllowed}
+use Rattle.who.specs.Calls.{notAllowed, valueOf, noValue, lookedOf}
 use Rattle.answers.specs.Calls.{answering}
-use Rattle.answers.specs.AsHeld.{valueOf, lookedOf, replyOf, saidOf, replying, decidedOf}
+use Rattle.answers.specs.AsHeld.{replyOf, saidOf, replying, decidedOf}
 use Rattle.who.specs.declared.Identity.{Identity}
 use Rattle.who.specs.declared.Readings.{Readings}
+use Rattle.who.specs.declared.Verdict.{Verdict}
 use Rattle.answers.specs.declared.Outcome.{Outcome}
 use Rattle.answers.specs.declared.Reply.{Reply}
 use Rattle.answers.proofs.Fronts.{said-is}
@@ -38,25 +41,25 @@ module _ (readings : Readings) (table : Table) where
   says-is outcome command id flag v = ap (λ (reply : Reply). replying readings table outcome reply) (said-is command id flag v)
 
   -- a look-up among the read-only ids: its answer, by whether it found one
-  pub gets-none : (id : ℕ) (o : Option (List ℕ)) → lookedOf o .known ≡ false → unknownId readings table getCode id ≡ getsOther readings table id o
+  pub gets-none : (id : ℕ) (o : Option (List ℕ)) {n : ℕ} → lookedOf o .verdict ≡ Verdict.Refused n → unknownId readings table getCode id ≡ getsOther readings table id o
   unfolding lookedOf
   gets-none id none e = refl
-  gets-none id (some v) e = absurd (false≢true (sym e))
+  gets-none id (some v) e = let z : _≡_ {A = ℕ} 0 1 = cc in absurd (omega arith)
 
-  pub gets-some : (id : ℕ) (o : Option (List ℕ)) → lookedOf o .known ≡ true
+  pub gets-some : (id : ℕ) (o : Option (List ℕ)) → lookedOf o .verdict ≡ Verdict.Accepted
       → replying readings table Outcome.Answered (saidOf getCode id 0 (lookedOf o .value)) ≡ decidedOf (getsOther readings table id o)
-  unfolding lookedOf
-  gets-some id none e = absurd (false≢true e)
+  unfolding lookedOf noValue
+  gets-some id none e = let z : _≡_ {A = ℕ} 0 1 = cc in absurd (omega arith)
   gets-some id (some v) e = says-is Outcome.Answered getCode id 0 v
 
-  pub sets-none : (id : ℕ) (o : Option (List ℕ)) → lookedOf o .known ≡ false → unknownId readings table setCode id ≡ setsOther readings table id o
+  pub sets-none : (id : ℕ) (o : Option (List ℕ)) {n : ℕ} → lookedOf o .verdict ≡ Verdict.Refused n → unknownId readings table setCode id ≡ setsOther readings table id o
   unfolding lookedOf
   sets-none id none e = refl
-  sets-none id (some v) e = absurd (false≢true (sym e))
+  sets-none id (some v) e = let z : _≡_ {A = ℕ} 0 1 = cc in absurd (omega arith)
 
-  pub sets-some : (id : ℕ) (o : Option (List ℕ)) → lookedOf o .known ≡ true → notSupported readings table id ≡ setsOther readings table id o
-  unfolding lookedOf
-  sets-some id none e = absurd (false≢true e)
+  pub sets-some : (id : ℕ) (o : Option (List ℕ)) → lookedOf o .verdict ≡ Verdict.Accepted → notSupported readings table id ≡ setsOther readings table id o
+  unfolding lookedOf noValue
+  sets-some id none e = let z : _≡_ {A = ℕ} 0 1 = cc in absurd (omega arith)
   sets-some id (some v) e = refl
 
 pub value-short : (v : List ℕ) → length v ≤ 32 → valueOf v .len ≤ 32

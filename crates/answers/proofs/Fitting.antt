@@ -11,20 +11,23 @@ use lib.ListN.{length, take, drop, getD}
 use Rattle.laws.specs.Lists.{every}
 use Rattle.laws.proofs.Bools.{both, pick}
 use Rattle.wire.specs.Laws.{Writable}
-use Rattle.settings.specs.Calls.{finding, setTo}
-use Rattle.settings.specs.declared.Table.{Table}
+use Rattle.settings.specs.Calls.{finding}
+use Rattle.tables.specs.Calls.{setTo}
+use Rattle.tables.specs.declared.Table.{Table}
 use Rattle.settings.specs.declared.Setting.{Setting}
 use Rattle.settings.specs.declared.Found.{Found}
-use Rattle.settings.specs.declared.Answer.{Answer}
+use Rattle.tables.specs.declared.Answer.{Answer}
 use Rattle.who.specs.Parts.{identityAllowed}
 use Rattle.wire.specs.Numbers.{little, fromLittle}
-use Rattle.answers.specs.Values.{readOnly}
+use Rattle.wire.proofs.Little.{byte, length-little, bytes-little}
+use Rattle.who.specs.Values.{readOnly}
+use Rattle.who.specs.Laws.{Small, small-some}
+use Rattle.who.proofs.Theorems.{values-fit}
 use Rattle.answers.specs.Answers.{sent, Decision, said, getCode, setCode, pingCode, versionCode, productCode, restartCode, asyncCode, tells, restarts, getsOther, getsFound, getAnswer, setsOther, stored, setsSetting, setsFound, setAnswer, frameAnswer}
 use Rattle.answers.specs.AsHeld.{Settled}
 use Rattle.answers.specs.Laws.{Fits, nothing, a-frame, an-error, RepliesFit}
 use Rattle.who.specs.declared.Identity.{Identity}
 use Rattle.who.specs.declared.Readings.{Readings}
-use Rattle.answers.proofs.Bytes.{byte, length-little, bytes-little, Small, small-some, small-read}
 use Rattle.answers.proofs.Found.{found-settled}
 
 abbrev Replies : Decision → Type 0
@@ -83,7 +86,7 @@ module _ (readings : Readings) (table : Table) where
 
   fits-gets-found : (identity : Identity) → identityAllowed identity ≡ true → (id : ℕ) (f : Found) → finding id ≡ f → Replies (getsFound readings table identity id f)
   fits-gets-found identity ok id (Found.At s) e = fits-number getCode s 0 _ (found-settled id s e) seven (leb-true 1 256 refl)
-  fits-gets-found identity ok id Found.Nothing e = fits-gets-other id (readOnly identity readings id) (small-read identity ok readings id)
+  fits-gets-found identity ok id Found.Nothing e = fits-gets-other id (readOnly identity readings id) (values-fit identity readings id ok)
 
   fits-gets : (identity : Identity) → identityAllowed identity ≡ true → (bytes : List ℕ) → Replies (getAnswer readings table identity bytes)
   unfolding getAnswer

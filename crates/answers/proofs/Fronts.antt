@@ -1,4 +1,4 @@
--- The data of a reply: a loop that copies 32 bytes behind three, and what they are. Assumes nothing.
+-- The data of a reply: a loop that copies 32 bytes after three, and what they are. Assumes nothing.
 use mathlib.Core.Path.{_≡_, refl, sym, ap, _∙_}
 use mathlib.Core.List.{List, _++_, append-nil}
 use Prim.Native.Nat.{ℕ, suc, _+_, _≤_, _<_}
@@ -8,8 +8,9 @@ use lib.Seq.{sets, sets-eq}
 use Rattle.laws.specs.Promise.{overlaid}
 use Rattle.laws.proofs.Lists.{sets-turn, sets-end}
 use Rattle.who.specs.Parts.{noSerial}
+use Rattle.who.specs.Calls.{valueOf}
 use Rattle.answers.specs.Answers.{said}
-use Rattle.answers.specs.AsHeld.{valueOf, noData, replyOf, saidOf}
+use Rattle.answers.specs.AsHeld.{noData, replyOf, saidOf}
 
 pub record Joining (front rest bytes : List ℕ) (i : ℕ) : Type 0 where
   pub within : i ≤ 32

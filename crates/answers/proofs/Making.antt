@@ -10,16 +10,17 @@ use lib.Dec.{eqb, ltb, leb}
 use lib.ListN.{length, take, drop, getD}
 use Rattle.laws.proofs.Bools.{pick}
 use Rattle.settings.specs.Columns.{count}
-use Rattle.settings.specs.Rules.{allowed}
-use Rattle.settings.specs.Calls.{finding, setTo}
-use Rattle.settings.specs.declared.Table.{Table}
+use Rattle.tables.specs.Rules.{allowed}
+use Rattle.settings.specs.Calls.{finding}
+use Rattle.tables.specs.Calls.{setTo}
+use Rattle.tables.specs.declared.Table.{Table}
 use Rattle.settings.specs.declared.Setting.{Setting}
 use Rattle.settings.specs.declared.Found.{Found}
-use Rattle.settings.specs.declared.Answer.{Answer}
-use Rattle.settings.specs.declared.Change.{Change}
-use Rattle.settings.proofs.Theorems.{set-keeps-allowed, set-keeps-count, refused-keeps-it}
+use Rattle.tables.specs.declared.Answer.{Answer}
+use Rattle.tables.specs.declared.Change.{Change}
+use Rattle.tables.proofs.Theorems.{set-keeps-allowed, set-keeps-count, refused-keeps-it}
 use Rattle.wire.specs.Numbers.{fromLittle}
-use Rattle.answers.specs.Values.{readOnly}
+use Rattle.who.specs.Values.{readOnly}
 use Rattle.answers.specs.Answers.{Sent, Decision, staying, pingCode, versionCode, productCode, restartCode, getCode, setCode, asyncCode, tells, restarts, getsOther, getsFound, getAnswer, setsOther, stored, setsSetting, setsFound, setAnswer, frameAnswer, makesFound, makes}
 use Rattle.answers.specs.Laws.{Stays, RefusedStays, AnswerMakes, MakesKeepsAllowed}
 use Rattle.who.specs.declared.Identity.{Identity}

@@ -5,7 +5,7 @@ use Prim.Native.Nat.{ℕ}
 use denote.Ref.{RefT}
 use contract.Lifetimes.{Lfts}
 use Rattle.laws.proofs.Promise.{equal-same}
-use Rattle.settings.specs.declared.Table.{Table}
+use Rattle.tables.specs.declared.Table.{Table}
 use Rattle.who.specs.declared.Identity.{Identity}
 use Rattle.who.specs.declared.Readings.{Readings}
 use Rattle.answers.specs.declared.Decided.{Decided}

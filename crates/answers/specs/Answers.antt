@@ -6,15 +6,16 @@ use mathlib.Core.List.{List, [], _∷_, _++_}
 use mathlib.Core.Option.{Option, none, some}
 use lib.ListN.{length, take, drop, getD}
 use lib.Dec.{eqb, ltb, leb}
-use Rattle.settings.specs.Calls.{finding, setTo}
-use Rattle.settings.specs.Rules.{numberAt}
-use Rattle.settings.specs.declared.Table.{Table}
+use Rattle.settings.specs.Calls.{finding}
+use Rattle.tables.specs.Calls.{setTo}
+use Rattle.tables.specs.Rules.{numberAt}
+use Rattle.tables.specs.declared.Table.{Table}
 use Rattle.settings.specs.declared.Setting.{Setting}
 use Rattle.settings.specs.declared.Found.{Found}
-use Rattle.settings.specs.declared.Answer.{Answer}
+use Rattle.tables.specs.declared.Answer.{Answer}
 use Rattle.who.specs.Parts.{noReadings}
 use Rattle.wire.specs.Numbers.{little, fromLittle}
-use Rattle.answers.specs.Values.{readOnly}
+use Rattle.who.specs.Values.{readOnly}
 use Rattle.who.specs.declared.Identity.{Identity}
 use Rattle.who.specs.declared.Readings.{Readings}
 use Rattle.answers.specs.declared.Outcome.{Outcome}

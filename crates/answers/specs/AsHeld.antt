@@ -1,31 +1,19 @@
--- Values, replies and decisions as the program holds them: bytes at the front of an array, zeros behind them. Assumes nothing.
+-- Replies and decisions as the program holds them: bytes at the front of an array, zeros after them. Assumes nothing.
 use Prim.Native.Nat.{ℕ, _+_, _≤_, _<_}
-use mathlib.Core.Bool.{true, false}
 use mathlib.Core.List.{List, [], _∷_, _++_}
-use mathlib.Core.Option.{Option, none, some}
 use lib.ListN.{length, replicate}
 use Rattle.laws.specs.Promise.{overlaid}
 use Rattle.settings.specs.Columns.{count}
-use Rattle.settings.specs.declared.Table.{Table}
+use Rattle.tables.specs.declared.Table.{Table}
 use Rattle.settings.specs.declared.Setting.{Setting}
-use Rattle.who.specs.Parts.{noSerial}
 use Rattle.wire.specs.Numbers.{little}
 use Rattle.answers.specs.Answers.{Sent, silent, sent, error, Decision}
-use Rattle.answers.specs.declared.values.Value.{Value}
-use Rattle.answers.specs.declared.values.Looked.{Looked}
 use Rattle.who.specs.declared.Readings.{Readings}
+use Rattle.who.specs.declared.Value.{Value}
 use Rattle.answers.specs.declared.Outcome.{Outcome}
 use Rattle.answers.specs.declared.Reply.{Reply}
 use Rattle.answers.specs.declared.Sends.{Sends}
 use Rattle.answers.specs.declared.Decided.{Decided}
-
-unfoldable pub valueOf : List ℕ → Value
-valueOf bytes = record { len = length bytes; bytes = overlaid bytes noSerial }
-
--- what an id stands for among the read-only ones
-unfoldable pub lookedOf : Option (List ℕ) → Looked
-lookedOf (some bytes) = record { known = true; value = valueOf bytes }
-lookedOf none = record { known = false; value = valueOf [] }
 
 unfoldable pub noData : List ℕ
 noData = replicate 35 0

@@ -2,8 +2,8 @@
 use Prim.Native.Nat.{ℕ}
 use mathlib.Core.Bool.{cond, _&&_}
 use mathlib.Core.List.{List}
-use Rattle.settings.specs.Rules.{allowed}
-use Rattle.settings.specs.declared.Table.{Table}
+use Rattle.tables.specs.Rules.{allowed}
+use Rattle.tables.specs.declared.Table.{Table}
 use Rattle.who.specs.Parts.{identityAllowed}
 use Rattle.who.specs.Calls.{notAllowed}
 use Rattle.who.specs.declared.Identity.{Identity}

@@ -7,8 +7,9 @@ use mathlib.Core.List.{List, []}
 use lib.ListN.{length}
 use Rattle.wire.specs.Laws.{Writable}
 use Rattle.settings.specs.Columns.{count, idAt, widthAt}
-use Rattle.settings.specs.Rules.{allowed, allowedFor, numberAt, partnerNumber, changed, Nearest}
-use Rattle.settings.specs.declared.Table.{Table}
+use Rattle.settings.specs.Rules.{allowedFor, Nearest}
+use Rattle.tables.specs.Rules.{allowed, numberAt, partnerNumber, changed}
+use Rattle.tables.specs.declared.Table.{Table}
 use Rattle.who.specs.Parts.{identityAllowed}
 use Rattle.wire.specs.Numbers.{little}
 use Rattle.answers.specs.Answers.{Sent, silent, sent, error, Decision, staying, said, getCode, setCode, frameAnswer, makes}

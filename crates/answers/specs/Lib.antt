@@ -1,5 +1,4 @@
--- Document 01: what a board reads out, and what it answers to a whole frame. Read them in this order; who it is stands in `who`.
-pub mod Values
+-- Document 01: what a board answers to a whole frame. Read them in this order; who it is and what it reads out is in `who`.
 pub mod Answers
 pub mod Requests
 pub mod AsHeld

@@ -13,11 +13,10 @@ use crate::gets;
 use crate::numbers;
 use crate::replies;
 use crate::sets;
-use crate::values;
-use crate::values::Value;
-use settings::Table;
+use tables::Table;
 use who::Identity;
 use who::Readings;
+use who::Value;
 
 // A reply is sent.
 pub(crate) fn sends(readings: Readings, table: Table, outcome: Outcome, reply: Reply) -> Decided
@@ -95,14 +94,11 @@ fn unknown_command(readings: Readings, table: Table, command: u8) -> Decided
 pub(crate) fn unknown_id(readings: Readings, table: Table, command: u8, id: u16) -> Decided
     ensures { λ r. ⌜ r ≡ decidedOf (answers.unknownId readings table command id) ⌝ }
 {
-    says(
+    sends(
         readings,
         table,
         Outcome::Refused(numbers::UNKNOWN_ID),
-        command,
-        id,
-        numbers::FLAG_UNKNOWN_ID,
-        values::nothing(),
+        replies::bare(command, id, numbers::FLAG_UNKNOWN_ID),
     )
 }
 

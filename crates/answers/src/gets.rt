@@ -2,20 +2,22 @@
 ghost use mathlib.Core.Path.{_≡_};
 ghost use mathlib.Core.Bool.{true};
 ghost use Rattle.who.specs.Parts.{identityAllowed};
-ghost use Rattle.answers.specs.Values.{readOnly};
+ghost use Rattle.who.specs.Values.{readOnly};
+ghost use Rattle.who.specs.Calls.{valueOf};
 ghost use Rattle.answers.specs.Answers as answers;
-ghost use Rattle.answers.specs.AsHeld.{decidedOf, valueOf, Settled};
+ghost use Rattle.answers.specs.AsHeld.{decidedOf, Settled};
 use crate::Decided;
 use crate::Outcome;
 use crate::decisions;
 use crate::numbers;
 use crate::values;
-use crate::values::Value;
 use settings::Found;
 use settings::Setting;
-use settings::Table;
+use tables::Table;
 use who::Identity;
 use who::Readings;
+use who::Value;
+use who::Verdict;
 
 // The number that a setting holds, in its width.
 pub(crate) fn held(table: Table, setting: Setting) -> Value
@@ -48,20 +50,21 @@ fn get_other(identity: Identity, readings: Readings, table: Table, id: u16) -> D
     requires { ⌜ identityAllowed identity ≡ true ⌝ }
     ensures { λ r. ⌜ r ≡ decidedOf (answers.getsOther readings table id (readOnly identity readings id)) ⌝ }
 {
-    let looked = values::read_only(identity, readings, id);
-    if !looked.known {
-        return decisions::unknown_id(readings, table, numbers::GET, id);
-    }
+    let looked = who::read_only(identity, readings, id);
+    let verdict = looked.verdict;
     let value = looked.value;
-    decisions::says(
-        readings,
-        table,
-        Outcome::Answered,
-        numbers::GET,
-        id,
-        numbers::GOOD,
-        value,
-    )
+    match verdict {
+        Verdict::Accepted => decisions::says(
+            readings,
+            table,
+            Outcome::Answered,
+            numbers::GET,
+            id,
+            numbers::GOOD,
+            value,
+        ),
+        Verdict::Refused(_) => decisions::unknown_id(readings, table, numbers::GET, id),
+    }
 }
 
 // A Get: an id and flags 0, and no more.

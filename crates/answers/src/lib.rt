@@ -3,7 +3,7 @@
 ghost use mathlib.Core.Path.{_≡_};
 ghost use Rattle.answers.specs.AsHeld.{decidedOf};
 ghost use Rattle.answers.specs.Calls.{answering};
-use settings::Table;
+use tables::Table;
 use who::Identity;
 use who::Readings;
 
@@ -30,7 +30,7 @@ pub enum Sends {
     Error,
 }
 
-// A reply: its command, and its data at the front of the array, zeros behind them.
+// A reply: its command, and its data at the front of the array, zeros after them.
 pub struct Reply {
     pub command: u8,
     pub len: usize,

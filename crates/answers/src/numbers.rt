@@ -1,6 +1,6 @@
 // The numbers that document 01 fixes for a board's answers.
 
-// A serial has at most 32 bytes, and so has every read-only value.
+// A value has at most 32 bytes.
 pub(crate) const MOST_SERIAL: usize = 32;
 
 // The data of a frame.
@@ -41,7 +41,7 @@ pub(crate) const FLAG_NOT_SUPPORTED: u8 = 2;
 pub(crate) const FLAG_PARAMETER: u8 = 4;
 
 // 5: a command that the board does not know; 6: data or flags that do not fit it; 7: an id in neither table; 8: a Set of a read-only id;
-// 9: a wrong width; 12: an identity or a table handed in is not allowed. (10 comes from `settings`.)
+// 9: a wrong width; 12: an identity or a table handed in is not allowed. (10 comes from `tables`.)
 pub(crate) const UNKNOWN_COMMAND: u8 = 5;
 
 pub(crate) const MALFORMED: u8 = 6;
@@ -53,20 +53,3 @@ pub(crate) const READ_ONLY: u8 = 8;
 pub(crate) const WRONG_WIDTH: u8 = 9;
 
 pub(crate) const NOT_ALLOWED: u8 = 12;
-
-// The read-only ids.
-pub(crate) const PRODUCT: u16 = 0x0100;
-
-pub(crate) const SERIAL: u16 = 0x010A;
-
-pub(crate) const VERSION: u16 = 0xEEF9;
-
-pub(crate) const VOLTAGE: u16 = 0xED8D;
-
-pub(crate) const CURRENT: u16 = 0xED8F;
-
-pub(crate) const FINE: u16 = 0xED8C;
-
-pub(crate) const CONSUMED: u16 = 0xEEFF;
-
-pub(crate) const CHARGE: u16 = 0x0FFF;

@@ -4,11 +4,12 @@ ghost use mathlib.Core.List.{[], _∷_, _++_};
 ghost use Prim.Native.Nat.{_≤_};
 ghost use lib.ListN.{take};
 ghost use Rattle.wire.specs.Numbers.{little};
+ghost use Rattle.answers.specs.Answers.{said};
 ghost use Rattle.answers.specs.AsHeld.{replyOf, saidOf};
 use crate::Reply;
 use crate::numbers::MOST_DATA;
 use crate::numbers::MOST_SERIAL;
-use crate::values::Value;
+use who::Value;
 
 // No reply.
 pub(crate) fn none() -> Reply
@@ -48,7 +49,22 @@ pub(crate) fn number(command: u8, n: u16) -> Reply
     }
 }
 
-// Three bytes at the front, and 32 behind them.
+// A reply of an id and a flag, with no value.
+pub(crate) fn bare(command: u8, id: u16, flag: u8) -> Reply
+    ensures { λ r. ⌜ r ≡ replyOf command (said id flag []) ⌝ }
+{
+    let mut bytes = [0u8; MOST_DATA];
+    bytes[0] = (id % 256) as u8;
+    bytes[1] = (id / 256 % 256) as u8;
+    bytes[2] = flag;
+    Reply {
+        command,
+        len: 3,
+        bytes,
+    }
+}
+
+// Three bytes at the front, and 32 after them.
 fn joined(front: [u8; MOST_DATA], rest: [u8; MOST_SERIAL]) -> [u8; MOST_DATA]
     ensures { λ r. ⌜ r ≡ take 3 front ++ rest ⌝ }
 {

@@ -2,7 +2,7 @@
 ghost use mathlib.Core.Path.{_≡_};
 ghost use mathlib.Core.Bool.{true};
 ghost use Rattle.who.specs.Parts.{identityAllowed};
-ghost use Rattle.answers.specs.Values.{readOnly};
+ghost use Rattle.who.specs.Values.{readOnly};
 ghost use Rattle.answers.specs.Answers as answers;
 ghost use Rattle.answers.specs.AsHeld.{decidedOf, Settled};
 use crate::Decided;
@@ -10,13 +10,15 @@ use crate::Outcome;
 use crate::decisions;
 use crate::gets;
 use crate::numbers;
+use crate::replies;
 use crate::values;
-use settings::Answer;
 use settings::Found;
 use settings::Setting;
-use settings::Table;
+use tables::Answer;
+use tables::Table;
 use who::Identity;
 use who::Readings;
+use who::Verdict;
 
 // What the table made of a number, answered.
 fn stored(
@@ -82,19 +84,17 @@ fn set_other(identity: Identity, readings: Readings, table: Table, id: u16) -> D
     requires { ⌜ identityAllowed identity ≡ true ⌝ }
     ensures { λ r. ⌜ r ≡ decidedOf (answers.setsOther readings table id (readOnly identity readings id)) ⌝ }
 {
-    let looked = values::read_only(identity, readings, id);
-    if !looked.known {
-        return decisions::unknown_id(readings, table, numbers::SET, id);
+    let looked = who::read_only(identity, readings, id);
+    let verdict = looked.verdict;
+    match verdict {
+        Verdict::Accepted => decisions::sends(
+            readings,
+            table,
+            Outcome::Refused(numbers::READ_ONLY),
+            replies::bare(numbers::SET, id, numbers::FLAG_NOT_SUPPORTED),
+        ),
+        Verdict::Refused(_) => decisions::unknown_id(readings, table, numbers::SET, id),
     }
-    decisions::says(
-        readings,
-        table,
-        Outcome::Refused(numbers::READ_ONLY),
-        numbers::SET,
-        id,
-        numbers::FLAG_NOT_SUPPORTED,
-        values::nothing(),
-    )
 }
 
 // A Set: an id, flags 0 and a value.

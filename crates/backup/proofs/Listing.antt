@@ -11,8 +11,8 @@ use Rattle.laws.proofs.Lists.{sets-append}
 use Rattle.laws.proofs.Promise.{overlaid-sets}
 use Rattle.wire.specs.Frame.{newline}
 use Rattle.settings.specs.Columns.{idAt}
-use Rattle.settings.specs.Rules.{numberAt}
-use Rattle.settings.specs.declared.Table.{Table}
+use Rattle.tables.specs.Rules.{numberAt}
+use Rattle.tables.specs.declared.Table.{Table}
 use Rattle.backup.specs.Decimals.{decimal}
 use Rattle.backup.specs.Text.{tab, header, idDigits, lineOf, linesFrom, textOf}
 use Rattle.backup.proofs.Digits.{length-decimal}

@@ -16,10 +16,11 @@ use Rattle.wire.specs.Frame.{colon, newline}
 use Rattle.wire.proofs.Nibbles.{digit-isDigit, digit-stays}
 use Rattle.wire.proofs.RoundTrip.{digits-all}
 use Rattle.settings.specs.Columns.{count, idAt}
-use Rattle.settings.specs.Rules.{inRange, allowed, numberAt}
-use Rattle.settings.specs.declared.Table.{Table}
+use Rattle.settings.specs.Rules.{inRange}
+use Rattle.tables.specs.Rules.{allowed, numberAt}
+use Rattle.tables.specs.declared.Table.{Table}
 use Rattle.settings.proofs.Theorems.{rows-hold}
-use Rattle.settings.proofs.Tables.{range-at}
+use Rattle.tables.proofs.Tables.{range-at}
 use Rattle.backup.specs.Decimals.{isDecimal, decimal, isNumber}
 use Rattle.backup.specs.Text.{tab, header, idDigits, lineOf, linesFrom, textOf, Says, good, refused, lineLength, firstLine, isLine, isEnded, isDue, numberIn, Line, number, wrong, judged, lineSays, endSays, following, linesSay, textSays}
 use Rattle.backup.specs.Calls.{writtenAs, reading, readAs}

@@ -6,7 +6,7 @@ use Prim.Native.Nat.{ℕ}
 use denote.Ref.{RefT, now}
 use contract.Lifetimes.{Lfts}
 use Rattle.laws.proofs.Promise.{gives-same, equal-same}
-use Rattle.settings.specs.declared.Table.{Table}
+use Rattle.tables.specs.declared.Table.{Table}
 use Rattle.backup.specs.declared.Written.{Written}
 use Rattle.backup.specs.declared.Backup.{Backup}
 use Rattle.backup.proofs.write.Reads as write

@@ -7,8 +7,8 @@ use native.Mathlib.Omega.{arith}
 use borrow.Author.Tests.{lt-ltb, le-ltb}
 use lib.ListN.{length, take, drop, length-take}
 use Rattle.settings.specs.Columns.{count}
-use Rattle.settings.specs.Rules.{allowed}
-use Rattle.settings.specs.declared.Table.{Table}
+use Rattle.tables.specs.Rules.{allowed}
+use Rattle.tables.specs.declared.Table.{Table}
 use Rattle.backup.specs.Text.{header, textOf, refused, linesSay, textSays}
 use Rattle.backup.specs.Calls.{unwritten, writtenAs, writing, readAs, reading}
 use Rattle.laws.specs.Lists.{same}

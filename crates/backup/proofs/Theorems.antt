@@ -1,5 +1,9 @@
 -- The statements of specs/Laws.antt, proved. Assumes nothing.
-use Rattle.backup.specs.Laws.{DecimalIsRead, ReadIsDecimal, WrittenIsRead, ReadIsWritten, TextIsShort}
+use mathlib.Core.Path.{refl}
+use Rattle.wire.specs.Digits.{digit}
+use Rattle.backup.specs.Decimals.{five, leading, decimal}
+use Rattle.backup.specs.Text.{lineOf, linesFrom, textOf}
+use Rattle.backup.specs.Laws.{DecimalIsRead, ReadIsDecimal, WrittenIsRead, ReadIsWritten, TextIsShort, FactoryIsPrinted}
 use Rattle.backup.proofs.Decimal.{decimal-read, read-decimal}
 use Rattle.backup.proofs.RoundTrip.{written-read, read-written, text-fits}
 
@@ -17,3 +21,8 @@ read-is-written = read-written
 
 pub text-is-short : TextIsShort
 text-is-short = text-fits
+
+-- by computation
+pub factory-is-printed : FactoryIsPrinted
+unfolding digit five leading decimal lineOf linesFrom textOf
+factory-is-printed = refl

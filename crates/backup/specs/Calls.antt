@@ -5,9 +5,8 @@ use mathlib.Core.List.{List, []}
 use lib.ListN.{length}
 use lib.Dec.{ltb}
 use Rattle.laws.specs.Promise.{Given}
-use Rattle.settings.specs.Columns.{factory}
-use Rattle.settings.specs.Rules.{allowed}
-use Rattle.settings.specs.declared.Table.{Table}
+use Rattle.tables.specs.Rules.{factory, allowed}
+use Rattle.tables.specs.declared.Table.{Table}
 use Rattle.backup.specs.Text.{textOf, Says, good, refused, textSays}
 use Rattle.backup.specs.declared.Written.{Written}
 use Rattle.backup.specs.declared.Verdict.{Verdict}

@@ -1,13 +1,15 @@
 -- What is proved of the definitions, as statements to hold against the paper. Each is proved under its name in proofs/Theorems.antt.
 -- Assumes nothing.
 use Prim.Native.Nat.{ℕ, _≤_, _<_}
+use Prim.Native.Char.{code}
+use Prim.Native.String.{String, [] as end, _∷_ as _then_}
 use mathlib.Core.Path.{_≡_}
 use mathlib.Core.Bool.{true}
-use mathlib.Core.List.{List}
+use mathlib.Core.List.{List, [], _∷_, _++_}
 use lib.ListN.{length}
 use Rattle.settings.specs.Columns.{count}
-use Rattle.settings.specs.Rules.{allowed}
-use Rattle.settings.specs.declared.Table.{Table}
+use Rattle.tables.specs.Rules.{allowed, factory}
+use Rattle.tables.specs.declared.Table.{Table}
 use Rattle.backup.specs.Decimals.{decimal, isNumber, valueOf}
 use Rattle.backup.specs.Text.{textOf, good}
 use Rattle.backup.specs.Calls.{textRoom, writing, writtenAs, reading, readAs}
@@ -35,3 +37,28 @@ ReadIsWritten = (text : List ℕ) (table : Table) → reading text ≡ readAs (g
 -- 4. Every text fits the room that writing needs.
 abbrev pub TextIsShort : Type 0
 TextIsShort = (table : Table) → length (textOf table) ≤ textRoom
+
+-- 5. "The factory table is exactly these 27 lines": the two fields of each as they are printed there, a tab (9) between them and a newline
+-- (10) after them.
+pub data Row : Type 0 where
+  row : (first second : String) → Row
+
+abbrev pub codes : String → List ℕ
+codes end = []
+codes (c then more) = code c ∷ codes more
+
+abbrev pub printed : List Row → List ℕ
+printed [] = []
+printed (row first second ∷ more) = codes first ++ 9 ∷ codes second ++ 10 ∷ printed more
+
+abbrev pub factoryRows : List Row
+factoryRows =
+    row "settings" "26" ∷ row "0320" "0" ∷ row "0321" "0" ∷ row "0322" "0" ∷ row "0323" "0" ∷ row "0328" "0" ∷
+    row "0329" "0" ∷ row "032A" "0" ∷ row "032B" "0" ∷ row "032C" "0" ∷ row "032D" "0" ∷ row "0400" "1" ∷
+    row "1000" "200" ∷ row "1001" "132" ∷ row "1002" "40" ∷ row "1003" "3" ∷ row "1004" "90" ∷ row "1005" "125" ∷
+    row "1006" "10" ∷ row "1007" "3" ∷ row "1008" "500" ∷ row "1009" "900" ∷ row "EEF5" "3" ∷ row "EEF7" "0" ∷
+    row "EEFB" "500" ∷ row "EEFC" "1" ∷ row "EEFE" "5" ∷
+    []
+
+abbrev pub FactoryIsPrinted : Type 0
+FactoryIsPrinted = textOf factory ≡ printed factoryRows

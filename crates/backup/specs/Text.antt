@@ -9,14 +9,15 @@ use Rattle.laws.specs.Lists.{every, before, same}
 use Rattle.wire.specs.Digits.{isDigit}
 use Rattle.wire.specs.Frame.{newline, digitsOf}
 use Rattle.settings.specs.Columns.{count, idAt}
-use Rattle.settings.specs.Rules.{inRange, allowed, numberAt}
-use Rattle.settings.specs.declared.Table.{Table}
+use Rattle.settings.specs.Rules.{inRange}
+use Rattle.tables.specs.Rules.{allowed, numberAt}
+use Rattle.tables.specs.declared.Table.{Table}
 use Rattle.backup.specs.Decimals.{decimal, isNumber, valueOf}
 
 abbrev pub tab : ℕ
 tab = 9
 
--- the first line: `settings`, a tab, 26 and a newline, as it stands
+-- the first line: `settings`, a tab, 26 and a newline, as it is
 abbrev pub header : List ℕ
 header = 0x73 ∷ 0x65 ∷ 0x74 ∷ 0x74 ∷ 0x69 ∷ 0x6E ∷ 0x67 ∷ 0x73 ∷ 0x09 ∷ 0x32 ∷ 0x36 ∷ 0x0A ∷ []
 
@@ -28,7 +29,7 @@ idDigits id = digitsOf (id / 256 ∷ id % 256 ∷ [])
 unfoldable pub lineOf : ℕ → ℕ → List ℕ
 lineOf k n = idDigits (idAt k) ++ tab ∷ decimal n
 
--- so many lines from the setting at place k on
+-- this many lines from the setting at place k on
 unfoldable pub linesFrom : ℕ → ℕ → Table → List ℕ
 linesFrom zero k t = []
 linesFrom (suc left) k t = lineOf k (numberAt t k) ++ newline ∷ linesFrom left (suc k) t

@@ -42,7 +42,7 @@ fn leading_of(n: u16) -> usize
     0
 }
 
-// A number at a place, and the place behind it.
+// A number at a place, and the place after it.
 pub(crate) fn put_number(out: &mut [u8], at: usize, n: u16) -> usize
     requires { ⌜ at + 5 ≤ length (now out) ⌝ }
     ensures { λ r. ⌜ (r ≡ at + length (decimal n)) × (now (out .exit) ≡ sets (now (out .entry)) at (decimal n)) ⌝ }

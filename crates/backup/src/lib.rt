@@ -5,7 +5,7 @@ ghost use lib.ListN.{length};
 ghost use Rattle.laws.specs.Promise.{Gives};
 ghost use Rattle.backup.specs.Calls.{writing, reading};
 ghost use Rattle.backup.specs.declared.Written.{Written};
-use settings::Table;
+use tables::Table;
 
 mod decimals;
 mod line;

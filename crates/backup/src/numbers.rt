@@ -22,7 +22,7 @@ pub(crate) const LEAST_LINE: usize = 6;
 // Writing needs this much room, always.
 pub(crate) const TEXT_ROOM: usize = 512;
 
-// The header is line 1, so the setting at place 0 stands in line 2.
+// The header is line 1, so the setting at place 0 is in line 2.
 pub(crate) const FIRST_LINE: usize = 2;
 
 // 11: lent buffer too short; 12: a table handed in is not allowed.

@@ -14,7 +14,7 @@ use crate::decimals;
 use crate::line;
 use crate::numbers;
 use settings::COUNT;
-use settings::Table;
+use tables::Table;
 
 // What a line says: its number, or the number of the refusal, which is 0 for none.
 pub(crate) struct Said {
@@ -32,7 +32,7 @@ pub(crate) fn refused(number: u8, line: usize) -> Backup
     }
 }
 
-// The first line, as it stands.
+// The first line, as it is.
 pub(crate) fn is_header(line: &[u8]) -> bool
     ensures { λ r. ⌜ r ≡ same (now (line .entry)) spec.header ⌝ }
 {
@@ -137,7 +137,7 @@ fn ended(more: usize, held: [u16; COUNT]) -> Backup
     }
 }
 
-// The lines behind the header, one for each setting.
+// The lines after the header, one for each setting.
 pub(crate) fn read_lines(text: &[u8]) -> Backup
     ensures { λ r. ⌜ r ≡ readAs (spec.linesSay count 0 [] (now (text .entry))) ⌝ }
 {

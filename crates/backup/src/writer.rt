@@ -13,7 +13,7 @@ use crate::line;
 use crate::numbers;
 use settings::COUNT;
 
-// The id that is due and the tab behind it.
+// The id that is due and the tab after it.
 fn put_id(out: &mut [u8], at: usize, index: usize)
     requires { ⌜ (at + 5 ≤ length (now out)) × (index < count) ⌝ }
     ensures { λ r. ⌜ now (out .exit) ≡ sets (now (out .entry)) at (idDigits (idAt index) ++ tab ∷ []) ⌝ }
@@ -26,7 +26,7 @@ fn put_id(out: &mut [u8], at: usize, index: usize)
     out[at + 4] = numbers::TAB;
 }
 
-// A setting's line at a place, and the place behind it.
+// A setting's line at a place, and the place after it.
 fn put_line(out: &mut [u8], at: usize, index: usize, n: u16) -> usize
     requires { ⌜ (at + 11 ≤ length (now out)) × (index < count) ⌝ }
     ensures { λ r. ⌜ (r ≡ at + length (lineOf index n ++ newline ∷ [])) × (now (out .exit) ≡ sets (now (out .entry)) at (lineOf index n ++ newline ∷ [])) ⌝ }
@@ -37,7 +37,7 @@ fn put_line(out: &mut [u8], at: usize, index: usize, n: u16) -> usize
     end + 1
 }
 
-// A line for each setting from a place on, and the place behind them.
+// A line for each setting from a place on, and the place after them.
 fn put_lines(held: [u16; COUNT], out: &mut [u8], start: usize) -> usize
     requires { ⌜ start + 286 ≤ length (now out) ⌝ }
     ensures { λ r. ⌜ (r ≡ start + length (linesFrom count 0 (record { numbers = held }))) × (now (out .exit) ≡ sets (now (out .entry)) start (linesFrom count 0 (record { numbers = held }))) ⌝ }

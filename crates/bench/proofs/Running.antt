@@ -18,7 +18,7 @@ use Rattle.laws.proofs.Lists.{drop-turn, sets-append, part-to-end}
 use Rattle.laws.proofs.Promise.{overlaid-sets}
 use Rattle.stream.specs.Calls.{unfinished}
 use Rattle.stream.proofs.Streams.{taken-within}
-use Rattle.settings.specs.Columns.{factory}
+use Rattle.tables.specs.Rules.{factory}
 use Rattle.board.specs.Parts.{boardAllowed}
 use Rattle.board.specs.Calls.{starting, storing, decidedBy, heardBy, answering}
 use Rattle.board.specs.AsHeld.{whole}

@@ -22,7 +22,7 @@ use Rattle.stream.proofs.Answers.{hearing-short, hearing-stray, hearing-heard}
 use Rattle.stream.proofs.Streams.{taken-within}
 use Rattle.bench.specs.Calls.{goodIn, goodOnes, laidOver, Streamed, streaming}
 
--- a piece of so many bytes, or of what is left, is the first so many of them
+-- a piece of that many bytes, or of what is left, is the first that many of them
 pub piece-is : (bytes : List ℕ) (at size n : ℕ) → n ≡ min size (length bytes - at) → take ((at + n) - at) (drop at bytes) ≡ take size (drop at bytes)
 piece-is bytes at size n is =
     let count : (at + n) - at ≡ n = omega arith in

@@ -13,8 +13,7 @@ use Rattle.wire.specs.Frame.{mostData}
 use Rattle.stream.specs.Stream.{outside}
 use Rattle.stream.specs.Calls.{heldOf}
 use Rattle.stream.proofs.Theorems as stream
-use Rattle.settings.specs.Columns.{factory}
-use Rattle.settings.specs.Rules.{allowed}
+use Rattle.tables.specs.Rules.{factory, allowed}
 use Rattle.who.specs.Parts.{serialFits}
 use Rattle.board.specs.Parts.{freshBoard, sampleFits, boardAllowed}
 use Rattle.board.specs.Calls.{refusedStart, starting, storing, answering}

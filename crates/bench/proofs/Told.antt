@@ -16,16 +16,18 @@ use Rattle.wire.specs.Reading.{Ended, good, refused, badCount, sumsUp, bodySays
 use Rattle.stream.specs.Stream.{Unfinished, outside, inside, next, endedBy, framesFrom, taken}
 use Rattle.stream.specs.Calls.{unfinished}
 use Rattle.settings.specs.Columns.{count}
-use Rattle.settings.specs.Rules.{allowed, allowedFor, partnerNumber, changed, nearestOf}
-use Rattle.settings.specs.Calls.{finding, setTo}
-use Rattle.settings.specs.declared.Table.{Table}
+use Rattle.settings.specs.Rules.{allowedFor, nearestOf}
+use Rattle.tables.specs.Rules.{allowed, partnerNumber, changed}
+use Rattle.settings.specs.Calls.{finding}
+use Rattle.tables.specs.Calls.{setTo}
+use Rattle.tables.specs.declared.Table.{Table}
 use Rattle.settings.specs.declared.Setting.{Setting}
 use Rattle.settings.specs.declared.Found.{Found}
-use Rattle.settings.proofs.Tables.{set-accepted, set-refused}
+use Rattle.tables.proofs.Tables.{set-accepted, set-refused}
 use Rattle.settings.proofs.Theorems.{found-has-id}
 use Rattle.answers.specs.Answers as answers
 use Rattle.answers.specs.Answers.{Sent, sent, error, Decision, staying, frameAnswer}
-use Rattle.answers.specs.Values.{readOnly}
+use Rattle.who.specs.Values.{readOnly}
 use Rattle.who.specs.declared.Identity.{Identity}
 use Rattle.who.specs.declared.Readings.{Readings}
 use Rattle.answers.specs.declared.Outcome.{Outcome}

@@ -9,12 +9,12 @@ use Rattle.wire.specs.Reading.{Ended, good, refused}
 use Rattle.stream.specs.Laws.{hears}
 use Rattle.stream.specs.declared.Event.{Event}
 use Rattle.stream.specs.declared.Held.{Held}
-use Rattle.settings.specs.Columns.{factory}
+use Rattle.tables.specs.Rules.{factory}
 use Rattle.board.specs.Calls.{starting, storing, answering}
 use Rattle.board.specs.declared.Board.{Board}
 use Rattle.board.specs.declared.Sample.{Sample}
 
--- The stream. A call for each size, handed so many of the bytes not taken yet or what is left of them, and lent the same room.
+-- The stream. A call for each size, handed that many of the bytes not taken yet or what is left of them, and lent the same room.
 abbrev pub offers : List ℕ → ℕ → List (Offer ℕ)
 offers [] room = []
 offers (size ∷ more) room = record { count = size; with = room } ∷ offers more room

@@ -13,7 +13,7 @@ use board::Sample;
 use stream::Event;
 use stream::Held;
 
-// Reads `bytes` from outside a frame in as many calls as there are sizes, each handed at most so many of the bytes not taken yet; `into`
+// Reads `bytes` from outside a frame in as many calls as there are sizes, each handed at most that many of the bytes not taken yet; `into`
 // is lent to every call. Answers the number of frames read well.
 #[no_mangle]
 pub extern "C" fn reedsatchel_bench_stream(bytes: &[u8], sizes: &[u32], into: &mut [u8]) -> u64

@@ -14,8 +14,8 @@ use Rattle.stream.specs.Calls as stream
 use Rattle.stream.proofs.Reached.{left-quietly, unfinished-kept}
 use Rattle.stream.proofs.Streams.{quiet-all}
 use Rattle.settings.specs.Columns.{count}
-use Rattle.settings.specs.Rules.{allowed}
-use Rattle.settings.specs.declared.Table.{Table}
+use Rattle.tables.specs.Rules.{allowed}
+use Rattle.tables.specs.declared.Table.{Table}
 use Rattle.who.specs.Parts.{serialFits, serialOf}
 use Rattle.who.specs.declared.Identity.{Identity}
 use Rattle.who.proofs.Serials.{identity-back, serial-fits-back}

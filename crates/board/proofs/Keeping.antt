@@ -14,7 +14,7 @@ use Rattle.stream.specs.Stream.{taken}
 use Rattle.stream.specs.Calls as stream
 use Rattle.stream.proofs.Reached.{heard-allowed}
 use Rattle.settings.specs.Columns.{count}
-use Rattle.settings.specs.Rules.{allowed}
+use Rattle.tables.specs.Rules.{allowed}
 use Rattle.answers.specs.Laws.{Stays}
 use Rattle.answers.specs.declared.Outcome.{Outcome}
 use Rattle.answers.proofs.Theorems.{answer-makes-it, makes-keeps-allowed, refused-stays-it}

@@ -19,7 +19,7 @@ use Rattle.stream.specs.declared.Held.{Held}
 use Rattle.stream.specs.declared.Heard.{Heard}
 use Rattle.stream.proofs.Answers.{hearing-stray, hearing-heard}
 use Rattle.stream.proofs.Theorems.{heard-is-writable, refused-is-small}
-use Rattle.settings.specs.Rules.{allowed}
+use Rattle.tables.specs.Rules.{allowed}
 use Rattle.who.specs.Parts.{identityAllowed}
 use Rattle.answers.specs.Answers.{silent, error, staying, frameAnswer}
 use Rattle.answers.specs.declared.Outcome.{Outcome}

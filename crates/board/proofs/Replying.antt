@@ -25,7 +25,7 @@ use Rattle.answers.specs.Answers.{Sent, silent, sent, error, Decision, said, ge
 use Rattle.answers.specs.Laws.{Fits, a-frame, an-error}
 use Rattle.answers.specs.Laws as fitting
 use Rattle.answers.proofs.Theorems.{replies-fit, get-answers-held, set-stores-it, set-refused-names-nearest}
-use Rattle.answers.proofs.Bytes.{length-little, bytes-little}
+use Rattle.wire.proofs.Little.{length-little, bytes-little}
 use Rattle.answers.proofs.Fitting.{writable-said}
 use Rattle.board.specs.Parts.{boardAllowed}
 use Rattle.board.specs.Calls.{errorFrame, replyBytes, endedIn, deciding, decidedBy, heardBy, answering}

@@ -5,10 +5,9 @@ use mathlib.Core.List.{List, []}
 use Prim.Native.Nat.{ℕ}
 use Rattle.laws.proofs.Bools.{and-left, and-right, both}
 use Rattle.stream.proofs.Reached.{left-allowed}
-use Rattle.settings.proofs.Theorems.{factory-is-allowed}
-use Rattle.settings.specs.Columns.{factory}
-use Rattle.settings.specs.Rules.{allowed}
-use Rattle.settings.specs.declared.Table.{Table}
+use Rattle.tables.proofs.Theorems.{factory-is-allowed}
+use Rattle.tables.specs.Rules.{factory, allowed}
+use Rattle.tables.specs.declared.Table.{Table}
 use Rattle.who.specs.Parts.{serialFits, identityOf, noIdentity, identityAllowed}
 use Rattle.who.specs.Calls.{notAllowed, naming}
 use Rattle.who.specs.declared.Identity.{Identity}

@@ -11,9 +11,8 @@ use Rattle.stream.specs.Stream.{framesFrom, leftFrom, taken}
 use Rattle.wire.specs.Calls.{shortBuffer}
 use Rattle.stream.specs.Calls.{heldOf, unfinished}
 use Rattle.stream.specs.declared.Held.{Held}
-use Rattle.settings.specs.Columns.{factory}
-use Rattle.settings.specs.Rules.{allowed}
-use Rattle.settings.specs.declared.Table.{Table}
+use Rattle.tables.specs.Rules.{factory, allowed}
+use Rattle.tables.specs.declared.Table.{Table}
 use Rattle.who.specs.Parts.{serialFits, identityOf, noIdentity}
 use Rattle.answers.specs.Answers.{Sent, silent, sent, error, Decision, staying, frameAnswer}
 use Rattle.who.specs.Calls.{notAllowed}
@@ -56,7 +55,7 @@ replyBytes silent = []
 replyBytes (sent command bytes) = frame command bytes
 replyBytes error = errorFrame
 
--- the frames that end in a piece: one at most, as a call takes no byte behind it
+-- the frames that end in a piece: one at most, as a call takes no byte after it
 abbrev pub endedIn : Board → List ℕ → List Ended
 endedIn board piece = let u = unfinished (board .held) in framesFrom u (take (taken u piece) piece)
 

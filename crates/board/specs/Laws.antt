@@ -14,8 +14,9 @@ use Rattle.stream.specs.Stream.{outside, framesOf, leftBy}
 use Rattle.stream.specs.Calls.{mostHeld, heldOf}
 use Rattle.wire.specs.Laws.{Writable}
 use Rattle.settings.specs.Columns.{count, idAt, widthAt}
-use Rattle.settings.specs.Rules.{allowed, allowedFor, numberAt, partnerNumber, changed, Nearest}
-use Rattle.settings.specs.declared.Table.{Table}
+use Rattle.settings.specs.Rules.{allowedFor, Nearest}
+use Rattle.tables.specs.Rules.{allowed, numberAt, partnerNumber, changed}
+use Rattle.tables.specs.declared.Table.{Table}
 use Rattle.who.specs.Parts.{mostSerial, serialFits, serialOf, noReadings}
 use Rattle.wire.specs.Numbers.{little}
 use Rattle.answers.specs.Answers.{Sent, silent, sent, error, said, getCode, setCode, frameAnswer}

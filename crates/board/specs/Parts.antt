@@ -5,8 +5,8 @@ use lib.IntN.{ℤ, pos, negsuc, natAbs}
 use lib.Signed.{leZ}
 use Rattle.stream.specs.Calls as stream
 use Rattle.stream.specs.Stream.{outside}
-use Rattle.settings.specs.Rules.{allowed}
-use Rattle.settings.specs.declared.Table.{Table}
+use Rattle.tables.specs.Rules.{allowed}
+use Rattle.tables.specs.declared.Table.{Table}
 use Rattle.who.specs.Parts.{identityAllowed, noReadings}
 use Rattle.who.specs.declared.Identity.{Identity}
 use Rattle.who.specs.declared.Readings.{Readings}

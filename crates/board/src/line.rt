@@ -4,7 +4,7 @@ ghost use mathlib.Core.Bool.{true, _&&_};
 ghost use Prim.Native.Nat.{ℕ, _≤_};
 ghost use lib.ListN.{length};
 ghost use Rattle.laws.specs.Promise.{Gives};
-ghost use Rattle.settings.specs.Rules.{allowed};
+ghost use Rattle.tables.specs.Rules.{allowed};
 ghost use Rattle.who.specs.Parts.{identityAllowed};
 ghost use Rattle.answers.specs.Answers.{frameAnswer};
 ghost use Rattle.board.specs.Calls.{errorFrame, decidedBy};
@@ -20,7 +20,7 @@ use answers::Sends;
 use stream::Event;
 use wire::Written;
 
-// The error frame at the buffer's front, as it stands.
+// The error frame at the buffer's front, as it is.
 fn put_error(out: &mut [u8]) -> usize
     requires { ⌜ 75 ≤ length (now out) ⌝ }
     ensures { λ r. ⌜ Gives ℕ (whole errorFrame) (now (out .entry)) r (now (out .exit)) ⌝ }

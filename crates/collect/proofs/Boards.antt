@@ -13,7 +13,7 @@ use Rattle.wire.specs.Numbers.{little, fromLittle}
 use Rattle.wire.proofs.Theorems.{little-is-read}
 use Rattle.settings.specs.Columns.{count, idAt, widthAt}
 use Rattle.settings.proofs.Theorems.{rows-hold, allowed-has-room}
-use Rattle.answers.proofs.Bytes.{length-little}
+use Rattle.wire.proofs.Little.{length-little}
 use Rattle.answers.specs.Answers.{getCode}
 use Rattle.reply.specs.declared.Status.{Status}
 use Rattle.reply.specs.declared.Reply.{Reply}

@@ -9,7 +9,7 @@ use native.Mathlib.Omega.{arith}
 use lib.ListN.{length, replicate}
 use lib.Seq.{take-append-seam, take-all}
 use Rattle.settings.specs.Columns.{count}
-use Rattle.settings.specs.Rules as settings
+use Rattle.tables.specs.Rules as tables
 use Rattle.settings.specs.declared.Setting.{Setting}
 use Rattle.reply.specs.Events.{Event}
 use Rattle.collect.specs.Collecting.{stopped, advanced, begun, allowed}

@@ -28,7 +28,7 @@ use Rattle.collect.specs.Laws.{goodReply, isReply, carries, following, c
 use Rattle.collect.specs.declared.verdict.Verdict.{Verdict}
 use Rattle.collect.proofs.Deciding.{heard-is}
 use Rattle.collect.proofs.Reaching.{taking}
-use Rattle.answers.proofs.Bytes.{length-little}
+use Rattle.wire.proofs.Little.{length-little}
 
 same-as : (xs ys : List ℕ) → xs ≡ ys → same xs ys ≡ true
 same-as xs ys e = ap (same xs) (sym e) ∙ same-self xs

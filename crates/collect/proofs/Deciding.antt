@@ -23,7 +23,7 @@ use Rattle.reply.specs.Events.{heard}
 use Rattle.collect.specs.Collecting.{fits, valued, answeredDue, replied, verdict}
 use Rattle.collect.specs.declared.verdict.Verdict.{Verdict}
 
--- past a list stands what is asked for there
+-- past a list is what is asked for there
 getD-past : (l : List ℕ) (k d : ℕ) → length l ≤ k → getD l k d ≡ d
 getD-past [] k d h = refl
 getD-past (x ∷ l) zero d h = absurd (omega arith)

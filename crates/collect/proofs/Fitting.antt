@@ -12,10 +12,12 @@ use lib.Seq.{getD-append-seam}
 use lib.Dec.{ltb}
 use Rattle.laws.proofs.Lists.{upTo-all}
 use Rattle.settings.specs.Columns.{count, partnerAt, roleAt}
-use Rattle.settings.specs.Rules.{inRange, agrees, allowedFor, allowed, numberAt}
-use Rattle.settings.specs.declared.Table.{Table}
+use Rattle.settings.specs.Rules.{inRange, agrees, allowedFor, allAllowed}
+use Rattle.tables.specs.Rules.{allowed, numberAt}
+use Rattle.tables.specs.declared.Table.{Table}
 use Rattle.settings.proofs.Pairs.{agrees-self, agrees-opposite}
-use Rattle.settings.proofs.Tables.{allowed-range, allowed-agrees, allowed-both, allowed-at, range-at}
+use Rattle.settings.proofs.Windows.{allowed-range, allowed-agrees, allowed-both}
+use Rattle.tables.proofs.Tables.{allowed-at, range-at}
 use Rattle.settings.proofs.Theorems.{rows-hold}
 use Rattle.collect.specs.Collecting.{fits}
 
@@ -29,7 +31,7 @@ module _ (l : List ℕ) (k n : ℕ) where
   unfolding fits
   fits-alone h = rw (le-ltb (partnerAt k) k h)
 
--- what stands from place k on does not matter to it
+-- what is from place k on does not matter to it
 pub fits-front : (l r : List ℕ) (k n : ℕ) → k ≤ length l → fits (l ++ r) k n ≡ fits l k n
 fits-front l r k n h = by (ltb (partnerAt k) k) refl
   where
@@ -113,5 +115,5 @@ module _ (l : List ℕ) (long : length l ≡ count) (all : AllFit l) where
           ⊎-elim (λ is. subst (λ (p : ℕ). agrees (roleAt k) (getD l k 0) (getD l p 0) ≡ true) is (agrees-self (roleAt k) (getD l k 0))) other (eq-or-lt-of-le (ltb-false _ _ e))
 
   pub fit-table : allowed (record { numbers = l }) ≡ true
-  unfolding allowed
+  unfolding allowed allAllowed
   fit-table = upTo-all count (λ k. allowedFor k (getD l k 0) (getD l (partnerAt k) 0)) (λ k h. allowed-both k _ _ (fit-range k h) (fit-agrees k h))

@@ -25,7 +25,7 @@ none-turn l i all x h e = and-assoc all (eqb 0 (getD l i 0)) (every (eqb 0) (dro
 pub none-end : (l : List ℕ) (i : ℕ) (all x : Bool) → length l ≤ i → (all && every (eqb 0) (drop i l)) ≡ x → all ≡ x
 none-end l i all x h e = sym (and-true all) ∙ rw (drop-of-length-le l h) at e
 
--- a phase goes with so many answers
+-- a phase goes with this many answers
 pub few-answered : (p : Phase) (len : ℕ) → within p len ≡ true → len ≤ count
 few-answered Phase.Waiting len e = let less : len < 26 = ltb-true len 26 e in omega arith
 few-answered Phase.Stopped len e = let less : len < 26 = ltb-true len 26 e in omega arith

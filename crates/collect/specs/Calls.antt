@@ -2,9 +2,9 @@
 use Prim.Native.Nat.{ℕ}
 use mathlib.Core.Bool.{cond}
 use mathlib.Core.List.{List}
-use Rattle.settings.specs.Columns.{factory}
+use Rattle.tables.specs.Rules.{factory}
 use Rattle.settings.specs.Calls.{settingAt, notAllowed}
-use Rattle.settings.specs.declared.Table.{Table}
+use Rattle.tables.specs.declared.Table.{Table}
 use Rattle.reply.specs.Events.{Event}
 use Rattle.collect.specs.Collecting.{advanced, begun, allowed}
 use Rattle.collect.specs.declared.Phase.{Phase}

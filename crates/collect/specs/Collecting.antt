@@ -82,7 +82,7 @@ unfoldable pub begun : Collector
 begun = record { len = 0; numbers = replicate count 0; phase = Phase.Waiting }
 
 -- A state is allowed when a start and events give it (the law AllowedIsReached): a setting is due unless all are answered, every number
--- answered fits those before it, and 0 stands past them.
+-- answered fits those before it, and 0 is past them.
 abbrev pub within : Phase → ℕ → Bool
 within Phase.Waiting len = ltb len count
 within Phase.Stopped len = ltb len count

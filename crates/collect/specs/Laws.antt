@@ -9,9 +9,10 @@ use lib.ListN.{length, getD, take, drop}
 use lib.Dec.{ltb, eqb}
 use Rattle.laws.specs.Lists.{same}
 use Rattle.wire.specs.Numbers.{little, fromLittle}
-use Rattle.settings.specs.Columns.{count, idAt, widthAt, factory}
-use Rattle.settings.specs.Rules as settings
-use Rattle.settings.specs.declared.Table.{Table}
+use Rattle.settings.specs.Columns.{count, idAt, widthAt}
+use Rattle.tables.specs.Rules.{factory}
+use Rattle.tables.specs.Rules as tables
+use Rattle.tables.specs.declared.Table.{Table}
 use Rattle.answers.specs.Answers.{said, getCode}
 use Rattle.reply.specs.Events.{Event, heard, refusedFrame, noAnswer, OnStream, isFlag}
 use Rattle.collect.specs.Collecting.{fits, advanced, begun, allowed}
@@ -82,7 +83,7 @@ TableIsCarried = (events : List Event) → OnStream events → Holds (carried []
 
 -- 3. A table that is given as done is allowed; every other is the factory table.
 pub record Handed (last : Collected) : Type 0 where
-  pub done-allowed : last .outcome ≡ Outcome.Done → settings.allowed (last .table) ≡ true
+  pub done-allowed : last .outcome ≡ Outcome.Done → tables.allowed (last .table) ≡ true
   pub else-factory : last .outcome ≢ Outcome.Done → last .table ≡ factory
 
 abbrev pub TableIsAllowed : Type 0
@@ -95,7 +96,7 @@ replies k (n ∷ more) = heard getCode (goodReply k n) ∷ replies (suc k) more
 
 abbrev pub BoardIsRead : Type 0
 BoardIsRead =
-    (t : Table) → length (t .numbers) ≡ count → settings.allowed t ≡ true
+    (t : Table) → length (t .numbers) ≡ count → tables.allowed t ≡ true
     → calls starting (replies 0 (t .numbers))
     ≡ record {
       collector = record { len = count; numbers = t .numbers; phase = Phase.Done };

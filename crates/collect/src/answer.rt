@@ -7,12 +7,12 @@ use crate::Outcome;
 use crate::Phase;
 use crate::place;
 use settings::COUNT;
-use settings::Table;
+use tables::Table;
 
 // 12: a collector that no start and events give.
 const NOT_ALLOWED: u8 = 12;
 
-// The outcome in a phase, with so many settings answered.
+// The outcome in a phase, with this many settings answered.
 fn outcome_of(phase: Phase, len: usize) -> Outcome
     ensures { λ r. ⌜ r ≡ spec.outcomeOf phase len ⌝ }
 {

@@ -6,7 +6,7 @@ ghost use Rattle.reply.specs.Events.{heard, refusedFrame, noAnswer};
 ghost use Rattle.collect.specs.Calls.{starting, collecting};
 use settings::COUNT;
 use settings::Setting;
-use settings::Table;
+use tables::Table;
 
 mod answer;
 mod place;

@@ -48,7 +48,7 @@ fn all_fit(numbers: [u16; COUNT], len: usize) -> bool
     all
 }
 
-// Past the numbers answered stands 0, so that a state has one form.
+// Past the numbers answered is 0, so that a state has one form.
 fn none_after(numbers: [u16; COUNT], len: usize) -> bool
     requires { ⌜ len ≤ count ⌝ }
     ensures { λ r. ⌜ r ≡ spec.noneAfter numbers len ⌝ }
@@ -75,7 +75,7 @@ pub(crate) fn is_allowed(collector: Collector) -> bool
     all_fit(numbers, len) & none_after(numbers, len)
 }
 
-// The phase with so many settings answered.
+// The phase with this many settings answered.
 fn phase_at(len: usize) -> Phase
     ensures { λ r. ⌜ r ≡ spec.phaseAt len ⌝ }
 {

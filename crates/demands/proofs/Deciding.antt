@@ -13,9 +13,9 @@ use Rattle.stream.specs.Stream.{Unfinished, outside, framesFrom, leftFrom, fram
 use Rattle.stream.specs.Calls.{heldOf}
 use Rattle.stream.proofs.Streams.{frames-append}
 use Rattle.settings.specs.Columns.{count}
-use Rattle.settings.specs.Rules.{allowed}
-use Rattle.settings.specs.declared.Table.{Table}
-use Rattle.settings.proofs.Tables.{range-at, agrees-at}
+use Rattle.tables.specs.Rules.{allowed}
+use Rattle.tables.specs.declared.Table.{Table}
+use Rattle.tables.proofs.Tables.{range-at, agrees-at}
 use Rattle.answers.proofs.Theorems.{makes-keeps-allowed}
 use Rattle.board.specs.Parts.{sampleFits, boardAllowed}
 use Rattle.board.specs.Calls.{starting, storing, answering}

@@ -16,7 +16,7 @@ use Rattle.wire.specs.Frame.{frameRoom}
 use Rattle.wire.specs.Reading.{Ended}
 use Rattle.stream.specs.Stream.{Unfinished, outside, framesFrom, leftFrom, framesOf, taken}
 use Rattle.stream.specs.Calls.{heldOf, unfinished}
-use Rattle.settings.specs.declared.Table.{Table}
+use Rattle.tables.specs.declared.Table.{Table}
 use Rattle.answers.specs.Requests.{setRequest}
 use Rattle.board.specs.Parts.{boardAllowed}
 use Rattle.board.specs.Calls.{decidedBy, heardBy, answering}

@@ -7,8 +7,10 @@ use Rattle.wire.specs.Reading.{bodySays}
 use Rattle.stream.specs.Stream.{taken}
 use Rattle.stream.specs.Calls.{noChars, heldOf, unfinished}
 use Rattle.stream.specs.Calls as stream
-use Rattle.settings.specs.Rules.{inRange, lowAgrees, highAgrees, agrees, allowedFor, allowed, nearestOf}
-use Rattle.settings.specs.Calls.{placing, placeOf, finding, setTo, partnerFits, nearing}
+use Rattle.settings.specs.Rules.{inRange, lowAgrees, highAgrees, agrees, allowedFor, allAllowed, nearestOf}
+use Rattle.tables.specs.Rules.{allowed}
+use Rattle.settings.specs.Calls.{placing, placeOf, finding, partnerFits, nearing}
+use Rattle.tables.specs.Calls.{setTo}
 use Rattle.who.specs.Parts.{serialFits, noSerial, identityOf, serialOf, identityAllowed}
 use Rattle.answers.specs.Answers.{tells, restarts, getAnswer, setsSetting, setAnswer, frameAnswer}
 use Rattle.board.specs.Parts.{boardAllowed, freshBoard}
@@ -18,7 +20,7 @@ use Rattle.demands.specs.Lines.{ThirteenHold}
 
 pub thirteen-lines-hold : ThirteenHold
 unfolding overlaid digit nibble check body frame bodySays taken noChars heldOf unfinished stream.allowed
-    inRange lowAgrees highAgrees agrees allowedFor allowed nearestOf placing placeOf finding setTo partnerFits nearing
+    inRange lowAgrees highAgrees agrees allowedFor allAllowed allowed nearestOf placing placeOf finding setTo partnerFits nearing
     serialFits noSerial identityOf serialOf identityAllowed tells restarts getAnswer setsSetting setAnswer frameAnswer
     boardAllowed freshBoard starting deciding decidedBy heardBy answering differs higherFirst exchanged placed turnsFrom order
 thirteen-lines-hold = refl

@@ -15,15 +15,17 @@ use Rattle.stream.specs.Stream.{outside, framesOf, leftBy}
 use Rattle.wire.specs.Laws.{Writable}
 use Rattle.stream.proofs.Theorems.{written-is-heard}
 use Rattle.settings.specs.Columns.{count, idAt, widthAt}
-use Rattle.settings.specs.Rules.{allowedFor, allowed, partnerNumber, changed}
-use Rattle.settings.specs.Calls.{setTo}
-use Rattle.settings.specs.declared.Table.{Table}
-use Rattle.settings.proofs.Theorems.{rows-hold, set-keeps-allowed, set-keeps-count}
-use Rattle.settings.proofs.Tables.{set-accepted, set-refused}
+use Rattle.settings.specs.Rules.{allowedFor}
+use Rattle.tables.specs.Rules.{allowed, partnerNumber, changed}
+use Rattle.tables.specs.Calls.{setTo}
+use Rattle.tables.specs.declared.Table.{Table}
+use Rattle.settings.proofs.Theorems.{rows-hold}
+use Rattle.tables.proofs.Theorems.{set-keeps-allowed, set-keeps-count}
+use Rattle.tables.proofs.Tables.{set-accepted, set-refused}
 use Rattle.answers.specs.Answers.{setCode, said}
 use Rattle.answers.specs.Requests.{setData}
 use Rattle.answers.proofs.Theorems.{set-stores-it}
-use Rattle.answers.proofs.Bytes.{length-little, bytes-little}
+use Rattle.wire.proofs.Little.{length-little, bytes-little}
 use Rattle.answers.proofs.Fitting.{writable-said}
 use Rattle.board.specs.Calls.{deciding}
 use Rattle.board.specs.declared.Board.{Board}

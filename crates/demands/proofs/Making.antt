@@ -13,11 +13,13 @@ use Rattle.wire.specs.Reading.{Ended, good, refused}
 use Rattle.stream.specs.Stream.{Unfinished, framesFrom, firstEnd, taken}
 use Rattle.stream.proofs.Theorems.{first-end-is-first}
 use Rattle.settings.specs.Columns.{count, widthAt}
-use Rattle.settings.specs.Rules.{allowedFor, allowed, partnerNumber, changed}
-use Rattle.settings.specs.Calls.{settingAt, placing, finding, setTo}
-use Rattle.settings.specs.declared.Table.{Table}
+use Rattle.settings.specs.Rules.{allowedFor}
+use Rattle.tables.specs.Rules.{allowed, partnerNumber, changed}
+use Rattle.settings.specs.Calls.{settingAt, placing, finding}
+use Rattle.tables.specs.Calls.{setTo}
+use Rattle.tables.specs.declared.Table.{Table}
 use Rattle.settings.specs.declared.Found.{Found}
-use Rattle.settings.proofs.Tables.{set-accepted, set-refused}
+use Rattle.tables.proofs.Tables.{set-accepted, set-refused}
 use Rattle.answers.specs.Answers as answers
 use Rattle.answers.proofs.Theorems.{answer-makes-it}
 use Rattle.board.specs.Calls.{deciding}

@@ -17,11 +17,13 @@ use Rattle.stream.specs.Calls.{noChars, heldOf, unfinished, hearing}
 use Rattle.stream.specs.declared.Heard.{Heard}
 use Rattle.stream.proofs.Answers.{hearing-heard}
 use Rattle.stream.specs.Calls as stream
-use Rattle.settings.specs.Columns.{count, factory}
-use Rattle.settings.specs.Rules.{inRange, lowAgrees, highAgrees, agrees, allowedFor, allowed, numberAt, changed}
-use Rattle.settings.specs.Calls.{placing, placeOf, finding, setTo}
-use Rattle.settings.specs.declared.Table.{Table}
-use Rattle.settings.proofs.Theorems.{factory-is-allowed}
+use Rattle.settings.specs.Columns.{count}
+use Rattle.tables.specs.Rules.{factory, allowed, numberAt, changed}
+use Rattle.settings.specs.Rules.{inRange, lowAgrees, highAgrees, agrees, allowedFor, allAllowed}
+use Rattle.settings.specs.Calls.{placing, placeOf, finding}
+use Rattle.tables.specs.Calls.{setTo}
+use Rattle.tables.specs.declared.Table.{Table}
+use Rattle.tables.proofs.Theorems.{factory-is-allowed}
 use Rattle.who.specs.Parts.{serialFits, noSerial, identityOf, serialOf, identityAllowed}
 use Rattle.answers.specs.Answers.{said, getCode, setsSetting, setAnswer, frameAnswer}
 use Rattle.answers.specs.Requests.{setRequest}
@@ -54,7 +56,7 @@ capacity-in : capacity < count
 capacity-in = ltb-true 11 26 refl
 
 other-allowed : allowed (withCapacity 500) ≡ true
-unfolding allowed allowedFor inRange agrees lowAgrees highAgrees
+unfolding allowed allAllowed allowedFor inRange agrees lowAgrees highAgrees
 other-allowed = refl
 
 no-serial : serialFits [] ≡ true
@@ -95,7 +97,7 @@ answers-alike h =
     false≢true (sym (rw (table-is (withCapacity 500) other-allowed) at written))
 
 stores-nothing : SetsStored storesNothing → ⊥
-unfolding starting serialFits allowed allowedFor inRange agrees lowAgrees highAgrees freshBoard
+unfolding starting serialFits allowed allAllowed allowedFor inRange agrees lowAgrees highAgrees freshBoard
 stores-nothing h =
     let e = h (startedWith factory) capacity 500 75 (is-allowed factory factory-is-allowed) (at-rest factory factory-is-allowed) capacity-in (leb-true 75 75 refl) refl in
     false≢true (ap (λ (g : Given Answered). eqb (numberAt (g .answer .board .table) capacity) 500) e)
@@ -112,7 +114,7 @@ twoCalls = calls 15 75 ∷ calls 15 75 ∷ []
 
 first-set-alone : Decides firstSetAlone → ⊥
 unfolding overlaid digit nibble check body frame bodySays taken noChars heldOf unfinished stream.allowed
-    inRange lowAgrees highAgrees agrees allowedFor allowed placing placeOf finding setTo
+    inRange lowAgrees highAgrees agrees allowedFor allAllowed allowed placing placeOf finding setTo
     serialFits noSerial identityOf serialOf identityAllowed setsSetting setAnswer frameAnswer
     boardAllowed freshBoard starting deciding decidedBy heardBy answering isComplete isValid makes made
 first-set-alone h =
@@ -122,7 +124,7 @@ first-set-alone h =
 
 stores-nothing-decides : Decides storesNothing → ⊥
 unfolding overlaid digit nibble check body frame bodySays taken noChars heldOf unfinished stream.allowed
-    inRange lowAgrees highAgrees agrees allowedFor allowed placing placeOf finding setTo
+    inRange lowAgrees highAgrees agrees allowedFor allAllowed allowed placing placeOf finding setTo
     serialFits noSerial identityOf serialOf identityAllowed setsSetting setAnswer frameAnswer
     boardAllowed freshBoard starting deciding decidedBy heardBy answering isComplete isValid makes made
 stores-nothing-decides h =
@@ -132,7 +134,7 @@ stores-nothing-decides h =
 
 never-changes : Decides neverChanges → ⊥
 unfolding overlaid digit nibble check body frame bodySays taken noChars heldOf unfinished stream.allowed
-    inRange lowAgrees highAgrees agrees allowedFor allowed placing placeOf finding setTo
+    inRange lowAgrees highAgrees agrees allowedFor allAllowed allowed placing placeOf finding setTo
     serialFits noSerial identityOf serialOf identityAllowed setsSetting setAnswer frameAnswer
     boardAllowed freshBoard starting deciding decidedBy heardBy answering isComplete isValid makes made
 never-changes h =
@@ -141,7 +143,7 @@ never-changes h =
     false≢true e
 
 takes-all : TakesToTheEnd takesAll → ⊥
-unfolding starting serialFits allowed allowedFor inRange agrees lowAgrees highAgrees freshBoard frame body check digit taken heldOf unfinished
+unfolding starting serialFits allowed allAllowed allowedFor inRange agrees lowAgrees highAgrees freshBoard frame body check digit taken heldOf unfinished
 takes-all h =
     let e = h (startedWith factory) twoSets 75 (is-allowed factory factory-is-allowed) (leb-true 75 75 refl) in
     let f : _≡_ {A = Bool} false true = ap (λ (n : ℕ). eqb n 15) e in
@@ -155,7 +157,7 @@ hears-all h =
     false≢true f
 
 sent-count : Counts sentCount → ⊥
-unfolding matched order turnsFrom placed exchanged higherFirst differs allowed allowedFor inRange agrees lowAgrees highAgrees
+unfolding matched order turnsFrom placed exchanged higherFirst differs allowed allAllowed allowedFor inRange agrees lowAgrees highAgrees
 sent-count h =
     let e = h factory (withCapacity 500) [] refl nothing in
     let f : _≡_ {A = Bool} false true = ap (λ (n : ℕ). eqb n 0) e in

@@ -25,7 +25,7 @@ use Rattle.board.proofs.Lines.{answering-short, answering-stray, answering-hear
 use Rattle.demands.specs.Talk.{Said, saidIn, afterOne, afterAll, saidTo, saidToAll, withLine}
 use Rattle.demands.proofs.Making.{AtMostOne, none-ended, one-ended, one-at-most}
 
--- a board, and where the reading of its line stands
+-- a board, and where the reading of its line is
 pub record Line : Type 0 where
   pub board : Board
   pub reading : Unfinished
@@ -119,7 +119,7 @@ heard-reads l piece =
       events-are = same-said (l .board) (heldOf (l .reading)) fs;
     })
 
--- One call, on a board whose line stands anywhere, with any room: what it took is read as one row.
+-- One call, on a board whose line is anywhere, with any room: what it took is read as one row.
 nothing-taken : (l : Line) (piece : List ℕ) → cutting.Reads call stateOf says leaves l piece (record { state = stateOf l; events = []; taken = 0 })
 nothing-taken l piece = record { within = omega arith; state-is = refl; events-are = refl }
 

@@ -21,19 +21,20 @@ use Rattle.stream.specs.Laws.{Writables, whole}
 use Rattle.wire.proofs.Theorems.{little-is-read}
 use Rattle.stream.proofs.Theorems.{written-is-heard, all-is-taken, heard-is-writable}
 use Rattle.settings.specs.Columns.{count, idAt, widthAt}
-use Rattle.settings.specs.Calls.{placeOf, finding, setTo}
-use Rattle.settings.specs.declared.Table.{Table}
+use Rattle.settings.specs.Calls.{placeOf, finding}
+use Rattle.tables.specs.Calls.{setTo}
+use Rattle.tables.specs.declared.Table.{Table}
 use Rattle.settings.specs.declared.Setting.{Setting}
 use Rattle.settings.specs.declared.Found.{Found}
-use Rattle.settings.specs.declared.Answer.{Answer}
+use Rattle.tables.specs.declared.Answer.{Answer}
 use Rattle.settings.proofs.Theorems.{rows-hold, found-has-id}
 use Rattle.answers.specs.Answers as answers
 use Rattle.answers.specs.Answers.{sent, error, Decision, said, frameAnswer}
 use Rattle.answers.specs.Requests.{setData}
-use Rattle.answers.specs.Values.{readOnly}
+use Rattle.who.specs.Values.{readOnly}
 use Rattle.who.specs.declared.Identity.{Identity}
 use Rattle.who.specs.declared.Readings.{Readings}
-use Rattle.answers.proofs.Bytes.{length-little}
+use Rattle.wire.proofs.Little.{length-little}
 use Rattle.answers.proofs.Fitting.{writable-said}
 use Rattle.board.specs.Calls.{endedIn, deciding}
 use Rattle.board.specs.declared.Board.{Board}

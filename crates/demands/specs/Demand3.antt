@@ -16,8 +16,9 @@ use Rattle.stream.specs.Stream.{Unfinished, outside, framesFrom, leftFrom, fram
 use Rattle.stream.specs.Calls.{heldOf}
 use Rattle.stream.specs.Laws.{hears}
 use Rattle.settings.specs.Columns.{count, roleAt}
-use Rattle.settings.specs.Rules.{inRange, agrees, allowed, numberAt, partnerNumber}
-use Rattle.settings.specs.declared.Table.{Table}
+use Rattle.settings.specs.Rules.{inRange, agrees}
+use Rattle.tables.specs.Rules.{allowed, numberAt, partnerNumber}
+use Rattle.tables.specs.declared.Table.{Table}
 use Rattle.who.specs.Parts.{serialFits}
 use Rattle.answers.specs.Requests.{setRequest}
 use Rattle.answers.specs.declared.Outcome.{Outcome}
@@ -46,7 +47,7 @@ pub record Decided (first : Table) (bytes : List ℕ) (end : Talk) : Type 0 wher
   pub table-is : end .board .table ≡ made first (framesOf (take (end .taken) bytes))
 
 -- 1. For every identity, every allowed table, every row of bytes and every row of deeds; said of any way of answering, so that it can be
--- held against a sham, and of the board's own. (A table has its numbers in every value of the type, which `length` says; a serial that
+-- tried on a sham, and of the board's own. (A table has its numbers in every value of the type, which `length` says; a serial that
 -- does not fit is refused at the start.)
 abbrev pub Decides : (Board → List ℕ → ℕ → Given Answered) → Type 0
 Decides answer =

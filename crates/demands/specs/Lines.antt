@@ -11,10 +11,9 @@ use lib.Dec.{eqb}
 use Rattle.laws.specs.Lists.{same}
 use Rattle.laws.specs.Promise.{Given}
 use Rattle.wire.specs.Frame.{newline, frameRoom}
-use Rattle.settings.specs.Columns.{factory}
-use Rattle.settings.specs.Rules.{changed}
+use Rattle.tables.specs.Rules.{factory, changed}
 use Rattle.settings.specs.Calls.{placeOf, nearing}
-use Rattle.settings.specs.declared.Table.{Table}
+use Rattle.tables.specs.declared.Table.{Table}
 use Rattle.settings.specs.declared.Number.{Number}
 use Rattle.answers.specs.declared.Outcome.{Outcome}
 use Rattle.board.specs.Calls.{starting, answering}
@@ -33,7 +32,7 @@ pub data Line : Type 0 where
   refused : (request : String) (number : ℕ) (reply : String) → Line
   -- an id, the number wished for it, the number that its partner holds, and the nearest allowed number
   nearest : (id wished partner number : ℕ) → Line
-  -- the table that stands, the one that is wanted, and the ids of the Sets between them in their order
+  -- the present table, the one that is wanted, and the ids of the Sets between them in their order
   restored : (from to : Table) (ids : List ℕ) → Line
 
 -- the factory table with the numbers of two ids changed

@@ -1,5 +1,5 @@
 -- What the Sets among some frames make of a table. Demand 3: "the table is what the complete, valid Sets among the bytes taken, in order, make
--- of the first one." Nothing of a board is in it: frames are those of `wire`, the table and its rules those of `settings`. Assumes nothing.
+-- of the first one." Nothing of a board is in it: frames are those of `wire`, the rules those of `settings`, the table that of `tables`. Assumes nothing.
 use Prim.Native.Nat.{ℕ}
 use mathlib.Core.Bool.{Bool, cond, _&&_}
 use mathlib.Core.List.{List, [], _∷_}
@@ -8,11 +8,12 @@ use lib.Dec.{eqb, leb, ltb}
 use Rattle.wire.specs.Numbers.{fromLittle}
 use Rattle.wire.specs.Reading.{Ended, good, refused}
 use Rattle.settings.specs.Columns.{count, widthAt, roleAt}
-use Rattle.settings.specs.Rules.{inRange, agrees, partnerNumber, changed}
+use Rattle.settings.specs.Rules.{inRange, agrees}
+use Rattle.tables.specs.Rules.{partnerNumber, changed}
 use Rattle.settings.specs.Calls.{placeOf}
-use Rattle.settings.specs.declared.Table.{Table}
+use Rattle.tables.specs.declared.Table.{Table}
 
--- the place of the setting that a frame's data name, and the value behind id and flags
+-- the place of the setting that a frame's data name, and the value after id and flags
 abbrev pub placeIn : List ℕ → ℕ
 placeIn bytes = placeOf (fromLittle (take 2 bytes))
 

@@ -18,8 +18,9 @@ use Rattle.stream.specs.Calls.{unfinished, hearing}
 use Rattle.stream.specs.declared.Held.{Held}
 use Rattle.stream.specs.declared.Heard.{Heard}
 use Rattle.settings.specs.Columns.{count, idAt, widthAt, factories}
-use Rattle.settings.specs.Rules.{allowedFor, numberAt, partnerNumber, changed}
-use Rattle.settings.specs.declared.Table.{Table}
+use Rattle.settings.specs.Rules.{allowedFor}
+use Rattle.tables.specs.Rules.{numberAt, partnerNumber, changed}
+use Rattle.tables.specs.declared.Table.{Table}
 use Rattle.answers.specs.Answers.{said, getCode}
 use Rattle.answers.specs.Requests.{getRequest, setRequest}
 use Rattle.answers.specs.declared.Outcome.{Outcome}

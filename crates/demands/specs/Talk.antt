@@ -15,7 +15,7 @@ use Rattle.board.specs.declared.Board.{Board}
 use Rattle.board.specs.declared.Sample.{Sample}
 use Rattle.board.specs.declared.Answered.{Answered}
 
--- a store of readings, or a call on so many of the bytes that are not taken yet, with a lent buffer of some room; any number of either may
+-- a store of readings, or a call on this many of the bytes that are not taken yet, with a lent buffer of some room; any number of either may
 -- be 0, and any room too short
 pub data Deed : Type 0 where
   stores : Sample → Deed

@@ -137,7 +137,7 @@ rest n h = omega arith
 high : (number : ℕ) → refusalPacked number / half ≡ number
 high number = omega arith
 
--- the command stands above the count
+-- the command is above the count
 above : (command len : ℕ) → len < 256 → (256 * command + len) / 256 ≡ command
 above command len h = omega arith
 

@@ -11,10 +11,10 @@ use settings::Number;
 use wire::Read;
 use wire::Written;
 
-// A refusal's number stands in the high half of the integer, an answer in the low half.
+// A refusal's number is in the high half of the integer, an answer in the low half.
 const HALF: u32 = 65536;
 
-// A command stands above the count of its data bytes.
+// A command is above the count of its data bytes.
 const COMMAND: u32 = 256;
 
 // Writes the frame of a command and its data to the front of `out`; the answer is the frame's length. Refuses 11 under 75 bytes of room,

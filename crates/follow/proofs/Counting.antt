@@ -11,10 +11,10 @@ use lib.ListN.{length, drop}
 use lib.Dec.{ltb, leb, eqb}
 use Rattle.laws.proofs.Bools.{and-right, both}
 use Rattle.settings.specs.Columns.{count}
-use Rattle.settings.specs.Rules.{allowed, numberAt}
-use Rattle.settings.specs.declared.Table.{Table}
+use Rattle.tables.specs.Rules.{allowed, numberAt}
+use Rattle.tables.specs.declared.Table.{Table}
 use Rattle.settings.proofs.Theorems.{rows-hold, range-has-room}
-use Rattle.settings.proofs.Tables.{range-at}
+use Rattle.tables.proofs.Tables.{range-at}
 use Rattle.restore.specs.Order.{wanted, dueSets}
 use Rattle.restore.specs.Calls.{bothAllowed, dueAfter, dueIn}
 use Rattle.restore.specs.Laws.{Tells, a-set, none-left, not-allowed}

@@ -15,7 +15,7 @@ use Rattle.wire.specs.Numbers.{little, fromLittle}
 use Rattle.wire.specs.Laws.{Bytes}
 use Rattle.wire.proofs.Theorems.{little-is-read, read-is-little}
 use Rattle.answers.specs.Answers.{said, setCode}
-use Rattle.answers.proofs.Bytes.{length-little}
+use Rattle.wire.proofs.Little.{length-little}
 use Rattle.reply.specs.Replies.{flagOf, rest}
 use Rattle.reply.specs.Calls.{reading}
 use Rattle.reply.specs.Laws.{From, a-set}

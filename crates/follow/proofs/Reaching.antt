@@ -1,4 +1,4 @@
--- A follower is allowed exactly when a start and events give it, and where it stands says what was confirmed. Assumes nothing.
+-- A follower is allowed exactly when a start and events give it, and how far it is says what was confirmed. Assumes nothing.
 use mathlib.Core.Path.{_≡_, refl, sym, ap, ap₂, _∙_}
 use mathlib.Core.Logic.{_≢_}
 use mathlib.Core.Bool.{Bool, true, false, cond, false≢true}
@@ -12,19 +12,21 @@ use lib.Seq.{take-length}
 use lib.Dec.{ltb, eqb}
 use Rattle.laws.proofs.Bools.{and-left, and-right, both}
 use Rattle.wire.specs.Laws.{Bytes}
-use Rattle.settings.specs.declared.Table.{Table}
-use Rattle.answers.proofs.Bytes.{bytes-little}
+use Rattle.tables.specs.declared.Table.{Table}
+use Rattle.wire.proofs.Little.{bytes-little}
 use Rattle.restore.specs.Order.{dueSets}
 use Rattle.restore.specs.Calls.{bothAllowed, dueIn}
 use Rattle.restore.specs.declared.Wanted.{Wanted}
 use Rattle.restore.specs.declared.Due.{Due}
 use Rattle.reply.specs.Events.{Event, noAnswer}
 use Rattle.follow.specs.Following.{verdictOn, standing, moved, advanced, begun, followerAllowed}
-use Rattle.follow.specs.Laws.{run, Reached, AllowedIsReached, ownData, matched, CountIsMatched, DoneIsAll, EqualIsNone, ownReply, AllConfirmed}
+use Rattle.follow.specs.Calls.{answered, starting}
+use Rattle.follow.specs.Laws.{run, Reached, AllowedIsReached, ownData, matched, CountIsMatched, calls, CountIsTold, DoneIsAll, EqualIsNone, ownReply, AllConfirmed}
 use Rattle.follow.specs.declared.Follower.{Follower}
+use Rattle.follow.specs.declared.Followed.{Followed}
 use Rattle.follow.specs.declared.Outcome.{Outcome}
 use Rattle.follow.specs.declared.verdict.Verdict.{Verdict}
-use Rattle.follow.proofs.Standing.{standing-is}
+use Rattle.follow.proofs.Standing.{standing-is, told-good, following-good}
 use Rattle.follow.proofs.Matching.{frame-read, verdict-is, own-matches}
 use Rattle.follow.proofs.Counting.{drop-next, at, due-left, sound-due, waits-moves, count-matched, going-few, ended-few, some-left, all-done, Goes, goes-far, begins}
 
@@ -86,7 +88,7 @@ module _ (from to : Table) (ok : bothAllowed from to ≡ true) where
       ∙ ap₂ (λ (f : Follower) (l : List Wanted). run f (map ownReply (take m l))) step (sym left)
       ∙ all-own m (suc n) (omega arith) ∙ ap (λ (k : ℕ). at from to ok k false) next
 
-  -- so many confirmed, and then silence
+  -- this many confirmed, and then silence
   arrive : (n : ℕ) (stopped : Bool) → followerAllowed (at from to ok n stopped) ≡ true → Reached (at from to ok n stopped)
   arrive n false h =
       record {
@@ -106,7 +108,7 @@ module _ (from to : Table) (ok : bothAllowed from to ≡ true) where
             ∙ ap (λ (f : Follower). advanced f noAnswer) there ∙ waits-moves from to ok n (due .0) (due .1) noAnswer;
       }
 
-  -- where it stands
+  -- how far it is
   stands-done : (n : ℕ) (stopped : Bool) → length (dueSets from to) ≤ n → standing (at from to ok n stopped) ≡ cond (eqb n 0) Outcome.Equal Outcome.Done
   stands-done n stopped h = sym (standing-is (at from to ok n stopped) Due.Nothing (all-done from to ok n h))
 
@@ -152,6 +154,19 @@ allowed-reached f = (
 
 pub counts : CountIsMatched
 counts from to events ok r = count-matched from to ok events r
+
+-- a row of calls tells of the follower that the events give
+told-run : (from to : Table) → bothAllowed from to ≡ true → (f : Follower) (events : List Event) → Goes from to f → calls (answered f) events ≡ answered (run f events)
+told-run from to ok f [] g = refl
+told-run from to ok f (e ∷ more) g =
+    rw (sym (following-good f e (g .is-allowed))) (told-run from to ok (advanced f e) more (goes-far from to ok f (e ∷ []) g))
+
+pub counts-told : CountIsTold
+unfolding starting
+counts-told from to events ok r =
+    let start : Goes from to (begun from to) = begins from to ok in
+    rw (sym (told-good (begun from to) (start .is-allowed)))
+    (ap (λ (t : Followed). t .confirmed) (told-run from to ok (begun from to) events start) ∙ counts from to events ok r)
 
 few-of : (from to : Table) (ok : bothAllowed from to ≡ true) (n : ℕ) (stopped : Bool) → followerAllowed (at from to ok n stopped) ≡ true → n ≤ length (dueSets from to)
 few-of from to ok n true e = let less : n < length (dueSets from to) = ended-few from to ok n e in omega arith

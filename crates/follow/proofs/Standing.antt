@@ -1,4 +1,4 @@
--- Where a follower stands, and which followers are allowed. Assumes nothing.
+-- How far a follower is, and which followers are allowed. Assumes nothing.
 use mathlib.Core.Path.{_≡_, refl, sym, ap, _∙_}
 use mathlib.Core.Logic.{_≢_}
 use mathlib.Core.Bool.{Bool, true, false, cond, not, _&&_, false≢true}
@@ -9,7 +9,7 @@ use lib.ListN.{length}
 use lib.Dec.{ltb, leb, eqb}
 use Rattle.laws.proofs.Bools.{and-right, both}
 use Rattle.settings.specs.Columns.{count}
-use Rattle.settings.specs.declared.Table.{Table}
+use Rattle.tables.specs.declared.Table.{Table}
 use Rattle.settings.proofs.Theorems.{rows-hold}
 use Rattle.restore.specs.Order.{dueSets}
 use Rattle.restore.specs.Calls.{bothAllowed, dueIn}
@@ -79,7 +79,7 @@ known from to n d (not-allowed e) = e
 pub due-known : (from to : Table) (n : ℕ) (d : Due) → dueIn from to n ≡ d → Known from to n d
 due-known from to n d e = known from to n d (tells from to n d e)
 
--- so many can have been confirmed
+-- this many can have been confirmed
 module _ (from to : Table) (n : ℕ) where
   pub reached-none : n ≡ 0 → true ≡ reached from to n
   unfolding reached
@@ -150,7 +150,7 @@ module _ (f : Follower) where
       by true e = let less : f .confirmed < total f = ltb-true _ _ e in let all : total f ≤ count = few in omega arith
       by false e = let less : f .confirmed ≤ total f = leb-true _ _ e in let all : total f ≤ count = few in omega arith
 
-  -- where it stands, and what an event makes of it
+  -- how far it is, and what an event makes of it
   pub standing-is : (d : Due) → dueIn (f .from) (f .to) (f .confirmed) ≡ d → standsAt (f .stopped) (f .confirmed) d ≡ standing f
   unfolding standing
   standing-is d e = rw e

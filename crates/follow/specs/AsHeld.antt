@@ -2,7 +2,7 @@
 use Prim.Native.Nat.{ℕ, _-_, _≤_}
 use mathlib.Core.Bool.{Bool, true, false, cond}
 use lib.Dec.{eqb}
-use Rattle.settings.specs.declared.Table.{Table}
+use Rattle.tables.specs.declared.Table.{Table}
 use Rattle.restore.specs.Calls.{dueIn}
 use Rattle.restore.specs.declared.Wanted.{Wanted}
 use Rattle.restore.specs.declared.Due.{Due}
@@ -17,6 +17,6 @@ isSet (Due.Set due) = true
 isSet Due.Nothing = false
 isSet (Due.Refused number) = false
 
--- so many Sets can have been confirmed: none, or there is a last one of them
+-- this many Sets can have been confirmed: none, or there is a last one of them
 unfoldable pub reached : Table → Table → ℕ → Bool
 reached from to confirmed = cond (eqb confirmed 0) true (isSet (dueIn from to (confirmed - 1)))

@@ -1,14 +1,14 @@
 -- What each public call answers, for every input. Assumes nothing.
 use Prim.Native.Nat.{zero}
 use mathlib.Core.Bool.{cond}
-use Rattle.settings.specs.declared.Table.{Table}
+use Rattle.tables.specs.declared.Table.{Table}
 use Rattle.reply.specs.Events.{Event}
 use Rattle.follow.specs.Following.{standing, advanced, begun, followerAllowed}
 use Rattle.follow.specs.declared.Follower.{Follower}
 use Rattle.follow.specs.declared.Outcome.{Outcome}
 use Rattle.follow.specs.declared.Followed.{Followed}
 
--- the follower, where it stands, and the number confirmed
+-- the follower, how far it is, and the number confirmed
 abbrev pub answered : Follower → Followed
 answered f = record { follower = f; outcome = standing f; confirmed = f .confirmed }
 

@@ -8,7 +8,7 @@ use mathlib.Core.List.{List}
 use lib.ListN.{length}
 use lib.Dec.{eqb, ltb, leb}
 use Rattle.wire.specs.Numbers.{fromLittle}
-use Rattle.settings.specs.declared.Table.{Table}
+use Rattle.tables.specs.declared.Table.{Table}
 use Rattle.reply.specs.Replies.{rest}
 use Rattle.reply.specs.Calls.{reading}
 use Rattle.reply.specs.Events.{Event, heard, refusedFrame, noAnswer}
@@ -57,7 +57,7 @@ verdictOn due (heard command bytes) = onReply due command bytes
 verdictOn due refusedFrame = Verdict.Waits
 verdictOn due noAnswer = Verdict.Stops
 
--- where a follower stands, by the Set that is due after those confirmed; 12 where a table is not allowed
+-- how far a follower is, by the Set that is due after those confirmed; 12 where a table is not allowed
 abbrev pub standsAt : Bool → ℕ → Due → Outcome
 standsAt stopped confirmed (Due.Set due) = cond stopped (Outcome.Stopped due) (Outcome.Waiting due)
 standsAt stopped confirmed Due.Nothing = cond (eqb confirmed 0) Outcome.Equal Outcome.Done

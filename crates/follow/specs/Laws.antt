@@ -9,14 +9,16 @@ use lib.ListN.{length, take, getD}
 use lib.Dec.{eqb, leb}
 use Rattle.laws.specs.Lists.{same}
 use Rattle.wire.specs.Numbers.{little}
-use Rattle.settings.specs.declared.Table.{Table}
+use Rattle.tables.specs.declared.Table.{Table}
 use Rattle.answers.specs.Answers.{said, setCode}
 use Rattle.restore.specs.Order.{dueSets}
 use Rattle.restore.specs.Calls.{bothAllowed}
 use Rattle.restore.specs.declared.Wanted.{Wanted}
 use Rattle.reply.specs.Events.{Event, heard, refusedFrame, noAnswer, OnStream, isFlag}
 use Rattle.follow.specs.Following.{standing, advanced, begun, followerAllowed}
+use Rattle.follow.specs.Calls.{starting, following}
 use Rattle.follow.specs.declared.Follower.{Follower}
+use Rattle.follow.specs.declared.Followed.{Followed}
 use Rattle.follow.specs.declared.Outcome.{Outcome}
 
 -- a follower after some events
@@ -61,6 +63,16 @@ abbrev pub CountIsMatched : Type 0
 CountIsMatched =
     (from to : Table) (events : List Event) → bothAllowed from to ≡ true → OnStream events
     → run (begun from to) events .confirmed ≡ matched (dueSets from to) events
+
+-- So is the number that a row of calls tells, each made on the follower that the one before handed back: no call invents one.
+abbrev pub calls : Followed → List Event → Followed
+calls last [] = last
+calls last (e ∷ more) = calls (following (last .follower) e) more
+
+abbrev pub CountIsTold : Type 0
+CountIsTold =
+    (from to : Table) (events : List Event) → bothAllowed from to ≡ true → OnStream events
+    → calls (starting from to) events .confirmed ≡ matched (dueSets from to) events
 
 -- 3. Done exactly when there were Sets and all were confirmed in order; equal exactly when there was none.
 abbrev pub DoneIsAll : Type 0

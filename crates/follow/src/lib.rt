@@ -4,7 +4,7 @@ ghost use mathlib.Core.Path.{_≡_};
 ghost use Rattle.reply.specs.Events.{heard, refusedFrame, noAnswer};
 ghost use Rattle.follow.specs.Calls.{starting, following};
 use restore::Wanted;
-use settings::Table;
+use tables::Table;
 
 mod numbers;
 mod state;
@@ -19,7 +19,7 @@ pub struct Follower {
     pub stopped: bool,
 }
 
-// Where a restore stands: a Set is due; the tables were equal; all Sets are confirmed; it stopped at a Set; or document 01's number of the
+// How far a restore is: a Set is due; the tables were equal; all Sets are confirmed; it stopped at a Set; or document 01's number of the
 // refusal.
 pub enum Outcome {
     Waiting(Wanted),
@@ -29,7 +29,7 @@ pub enum Outcome {
     Refused(u8),
 }
 
-// The advanced follower, where it stands, and how many Sets are confirmed.
+// The advanced follower, how far it is, and how many Sets are confirmed.
 pub struct Followed {
     pub follower: Follower,
     pub outcome: Outcome,

@@ -1,4 +1,4 @@
-// The follower's state: whether it is one that a start and events give, where it stands, and what a verdict makes of it.
+// The follower's state: whether it is one that a start and events give, how far it is, and what a verdict makes of it.
 ghost use mathlib.Core.Path.{_≡_};
 ghost use mathlib.Core.Bool.{true, cond};
 ghost use lib.Dec.{eqb};
@@ -15,9 +15,9 @@ use crate::verdict;
 use crate::verdict::Verdict;
 use restore::Due;
 use restore::Wanted;
-use settings::Table;
+use tables::Table;
 
-// Whether so many Sets can have been confirmed: none, or there is a last one of them.
+// Whether this many Sets can have been confirmed: none, or there is a last one of them.
 fn is_reached(from: Table, to: Table, confirmed: usize) -> bool
     ensures { λ r. ⌜ r ≡ reached from to confirmed ⌝ }
 {
@@ -66,7 +66,7 @@ fn with_none(confirmed: usize) -> Outcome
     Outcome::Done
 }
 
-// Where a follower stands.
+// How far a follower is.
 fn standing_of(follower: Follower) -> Outcome
     ensures { λ r. ⌜ r ≡ standing follower ⌝ }
 {
@@ -156,7 +156,7 @@ pub(crate) fn refused(follower: Follower) -> Followed
     }
 }
 
-// The answer of any follower, as it stands.
+// The answer of any follower, as it is.
 pub(crate) fn told(follower: Follower) -> Followed
     ensures { λ r. ⌜ r ≡ calls.told follower ⌝ }
 {

@@ -12,7 +12,7 @@ use lib.Seq.{take-take, take-add}
 use Rattle.laws.specs.Cutting.{Step, Offer, calls, ready}
 use Rattle.laws.proofs.Bools.{and-left, and-right}
 
--- U is where a reading stands; says and left read a row of bytes from there, state is how a call holds it
+-- U is where a reading is; says and left read a row of bytes from there, state is how a call holds it
 module _ {S E C U : Type 0} (call : S → C → List ℕ → Step S E) (state : U → S) (says : U → List ℕ → List E) (left : U → List ℕ → U) where
   -- a step that takes some bytes and says what they say
   pub record Reads (u : U) (bytes : List ℕ) (s : Step S E) : Type 0 where

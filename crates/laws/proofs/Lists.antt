@@ -15,7 +15,7 @@ use Rattle.laws.proofs.Bools.{and-left, and-right, both, same-test}
 use Rattle.laws.specs.Lists.{every, before, same, sumOf, upTo}
 
 module _ (l : List ℕ) (i : ℕ) (h : i < length l) where
-  -- what is left of a list at a place: the entry there, and what is left behind it
+  -- what is left of a list at a place: the entry there, and what is left after it
   pub drop-turn : drop i l ≡ getD l i 0 ∷ drop (i + 1) l
   drop-turn = rw (add-one i, drop-cons l i 0)
 
@@ -71,7 +71,7 @@ sets-append l i (x ∷ xs) ys =
     sets-append (set l i x) (suc i) xs ys
     ∙ ap (λ (k : ℕ). sets (sets (set l i x) (suc i) xs) k ys) (suc-add i (length xs) ∙ sym (add-suc i (length xs)))
 
--- fixed room: the front of a list, and zeros behind it
+-- fixed room: the front of a list, and zeros after it
 pub take-min : (n : ℕ) (l : List ℕ) → take (min n (length l)) l ≡ take n l
 take-min n [] = take-nil (min n 0) ∙ sym (take-nil n)
 take-min zero (x ∷ xs) = rw zero-min

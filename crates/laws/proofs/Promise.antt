@@ -15,7 +15,7 @@ overlaid-sets written buffer h =
     let fits : 0 + length written ≤ length buffer = omega arith in
     sets-eq written buffer 0 fits ∙ ap (λ (k : ℕ). written ++ drop k buffer) (zero-add (length written))
 
--- and what stands at the front is what was stored
+-- and what is at the front is what was stored
 pub sets-front : (written buffer : List ℕ) → length written ≤ length buffer → take (length written) (sets buffer 0 written) ≡ written
 sets-front written buffer h =
     let fits : 0 + length written ≤ length buffer = omega arith in

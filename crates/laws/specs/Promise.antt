@@ -1,4 +1,4 @@
--- The form of a promise: what a call that is lent a buffer answers, and what stands in the buffer afterwards. Assumes nothing.
+-- The form of a promise: what a call that is lent a buffer answers, and what is in the buffer afterwards. Assumes nothing.
 use Prim.Native.Nat.{ℕ}
 use mathlib.Core.Path.{_≡_}
 use mathlib.Core.List.{List, _++_}

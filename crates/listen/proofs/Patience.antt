@@ -31,7 +31,7 @@ at-end end n =
     (λ e. let h : end ≤ n = leb-true end n e in le-leb end (min end n) (omega arith))
 
 module _ (l : Listener) (ok : allowed (l .held) ≡ true) (room : ℕ) (enough : 35 ≤ room) where
-  -- so many of them counted
+  -- this many of them counted
   abbrev counted : ℕ → Listener
   counted n = record { held = l .held; quiet = min mostQuiet n; noise = zero }
 

@@ -25,7 +25,7 @@ mostQuiet = 5
 abbrev pub mostNoise : ℕ
 mostNoise = 8192
 
--- one more read that gave nothing, and so many more bytes: the counts stop at their ends
+-- one more read that gave nothing, and this many more bytes: the counts stop at their ends
 abbrev pub quieter : ℕ → ℕ
 quieter quiet = min mostQuiet (suc quiet)
 

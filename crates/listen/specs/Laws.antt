@@ -69,7 +69,7 @@ AllIsTaken =
     → (calls listens (listenerAt earlier quiet noise) bytes offers .taken ≡ length bytes)
     × (calls listens (listenerAt earlier quiet noise) bytes offers .events ≡ framesFrom (leftBy earlier) bytes)
 
--- 2. Patience ends. A listener after so many reads, one after the other, that gave nothing.
+-- 2. Patience ends. A listener after this many reads, one after the other, that gave nothing.
 abbrev pub silences : ℕ → Listener → ℕ → Listener
 silences zero l room = l
 silences (suc n) l room = listening (silences n l room) [] room .answer .listener

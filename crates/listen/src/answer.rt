@@ -107,7 +107,7 @@ fn unsound(listener: Listener, number: u8, heard: Heard) -> Listened
     reported(listener, heard)
 }
 
-// What the stream's answer to so many bytes comes to.
+// What the stream's answer to this many bytes comes to.
 pub(crate) fn settled(listener: Listener, count: usize, heard: Heard) -> Listened
     ensures { λ r. ⌜ r ≡ asHeard.settled listener count heard ⌝ }
 {

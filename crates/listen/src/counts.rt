@@ -22,7 +22,7 @@ pub(crate) fn quieter(quiet: usize) -> usize
     quiet + 1
 }
 
-// So many more bytes heard.
+// This many more bytes heard.
 pub(crate) fn louder(noise: usize, taken: usize) -> usize
     ensures { λ r. ⌜ r ≡ louder noise taken ⌝ }
 {

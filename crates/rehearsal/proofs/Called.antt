@@ -5,8 +5,8 @@ use Prim.Native.Nat.{ℕ, _≤_}
 use lib.ListN.{length}
 use Rattle.stream.specs.Calls.{mostHeld}
 use Rattle.settings.specs.Columns.{count}
-use Rattle.settings.specs.Rules.{allowed}
-use Rattle.settings.specs.declared.Table.{Table}
+use Rattle.tables.specs.Rules.{allowed}
+use Rattle.tables.specs.declared.Table.{Table}
 use Rattle.board.specs.Parts.{boardAllowed}
 use Rattle.board.specs.declared.Board.{Board}
 use Rattle.rehearsal.specs.Calls.{unrehearsed}

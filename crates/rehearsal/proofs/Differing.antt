@@ -11,7 +11,7 @@ use lib.Dec.{eqb, ltb}
 use Rattle.laws.specs.Lists.{every}
 use Rattle.laws.proofs.Bools.{and-left, and-right}
 use Rattle.settings.specs.Columns.{count}
-use Rattle.settings.specs.declared.Table.{Table}
+use Rattle.tables.specs.declared.Table.{Table}
 use Rattle.restore.specs.Order.{differs, order, wanted, dueSets}
 use Rattle.restore.specs.Laws.{times}
 use Rattle.restore.proofs.Theorems.{one-for-each, no-other-set}

@@ -22,11 +22,12 @@ use Rattle.stream.proofs.Reached.{kept, unfinished-kept, kept-frames, kept-left
 use Rattle.stream.proofs.Streams.{left-append, frames-append, taken-within}
 use Rattle.stream.proofs.Theorems.{written-is-heard}
 use Rattle.settings.specs.Columns.{count}
-use Rattle.settings.specs.Rules.{allowedFor, partnerNumber, changed}
-use Rattle.settings.specs.Calls.{setTo}
-use Rattle.settings.specs.declared.Table.{Table}
-use Rattle.settings.proofs.Tables.{set-accepted}
-use Rattle.settings.proofs.Theorems.{set-keeps-allowed, set-keeps-count}
+use Rattle.settings.specs.Rules.{allowedFor}
+use Rattle.tables.specs.Rules.{partnerNumber, changed}
+use Rattle.tables.specs.Calls.{setTo}
+use Rattle.tables.specs.declared.Table.{Table}
+use Rattle.tables.proofs.Tables.{set-accepted}
+use Rattle.tables.proofs.Theorems.{set-keeps-allowed, set-keeps-count}
 use Rattle.answers.specs.Answers.{sent, staying, setCode}
 use Rattle.answers.specs.Requests.{setData}
 use Rattle.answers.specs.declared.Outcome as said
@@ -122,7 +123,7 @@ record Next (from to : Table) (f : Follower) (board : Board) (given : Given Answ
   readings-same : given .answer .board .readings ≡ board .readings
   same-left : left (given .answer .board .table) later ≡ left (board .table) ws
 
--- the call on a board whose line stands anywhere
+-- the call on a board whose line is anywhere
 heard-at : (board : Board) (r : Unfinished) (piece : List ℕ) → board .held ≡ heldOf r → boardAllowed board ≡ true
     → answering board piece 75
     ≡ decidedBy board (heldOf (leftFrom r (take (taken (kept r) piece) piece))) (deciding board (framesFrom r (take (taken (kept r) piece) piece))) (taken (kept r) piece)

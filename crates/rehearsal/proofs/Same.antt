@@ -2,7 +2,7 @@
 use mathlib.Core.Path.{_≡_}
 use Prim.Native.Nat.{ℕ}
 use Rattle.laws.proofs.Promise.{equal-same}
-use Rattle.settings.specs.declared.Table.{Table}
+use Rattle.tables.specs.declared.Table.{Table}
 use Rattle.board.specs.declared.Board.{Board}
 use Rattle.rehearsal.specs.declared.Rehearsed.{Rehearsed}
 use Rattle.rehearsal.proofs.rehearse.Reads as rehearse

@@ -9,8 +9,8 @@ use Rattle.laws.proofs.Bools.{both}
 use Rattle.stream.specs.Stream.{outside}
 use Rattle.stream.specs.Calls.{heldOf}
 use Rattle.stream.proofs.Helds.{held-same, unfinished-outside}
-use Rattle.settings.specs.Rules.{allowed}
-use Rattle.settings.specs.declared.Table.{Table}
+use Rattle.tables.specs.Rules.{allowed}
+use Rattle.tables.specs.declared.Table.{Table}
 use Rattle.board.specs.declared.Board.{Board}
 use Rattle.board.proofs.Lines.{table-allowed, held-allowed}
 use Rattle.restore.specs.Order.{order, dueSets}

@@ -9,7 +9,7 @@ use Rattle.stream.specs.Stream.{outside}
 use Rattle.wire.specs.Calls.{notAllowed}
 use Rattle.stream.specs.Calls.{heldOf, hearing}
 use Rattle.stream.specs.declared.Event.{Event}
-use Rattle.settings.specs.declared.Table.{Table}
+use Rattle.tables.specs.declared.Table.{Table}
 use Rattle.board.specs.Parts.{boardAllowed}
 use Rattle.board.specs.Calls.{answering}
 use Rattle.board.specs.declared.Board.{Board}
@@ -38,7 +38,7 @@ turned t list size =
     let here = answering (t .board) (take size (drop (t .at) list)) frameRoom in
     record { board = here .answer .board; followed = listening (t .followed) (here .written); at = t .at + here .answer .taken }
 
--- so many calls, or fewer where no byte is left
+-- this many calls, or fewer where no byte is left
 unfoldable pub rehearsing : ℕ → Turn → List ℕ → ℕ → Turn
 rehearsing zero t list size = t
 rehearsing (suc left) t list size = cond (ltb (t .at) (length list)) (rehearsing left (turned t list size) list size) t
@@ -50,7 +50,7 @@ started board followed = record { board = board; followed = followed; at = zero 
 unfoldable pub isReady : Board → ℕ → Bool
 isReady board size = ltb 0 size && (not (board .held .inside) && boardAllowed board)
 
--- the board, where its restore stands, and the number confirmed
+-- the board, how far its restore is, and the number confirmed
 abbrev pub ended : Turn → Rehearsed
 ended t = record { board = t .board; outcome = t .followed .outcome; confirmed = t .followed .confirmed }
 

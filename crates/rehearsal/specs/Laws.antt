@@ -6,8 +6,8 @@ use lib.ListN.{length}
 use lib.Dec.{eqb}
 use Rattle.stream.specs.Calls.{mostHeld}
 use Rattle.settings.specs.Columns.{count}
-use Rattle.settings.specs.Rules.{allowed}
-use Rattle.settings.specs.declared.Table.{Table}
+use Rattle.tables.specs.Rules.{allowed}
+use Rattle.tables.specs.declared.Table.{Table}
 use Rattle.board.specs.Parts.{boardAllowed}
 use Rattle.board.specs.declared.Board.{Board}
 use Rattle.restore.specs.Order.{differs}
@@ -15,7 +15,7 @@ use Rattle.follow.specs.declared.Outcome.{Outcome}
 use Rattle.rehearsal.specs.Calls.{unrehearsed, rehearsed}
 use Rattle.rehearsal.specs.declared.Rehearsed.{Rehearsed}
 
--- the number of settings that differ, among so many from the first on
+-- the number of settings that differ, among this many from the first on
 unfoldable pub differing : ℕ → Table → Table → ℕ
 differing zero from to = zero
 differing (suc n) from to = differing n from to + cond (differs from to n) 1 0

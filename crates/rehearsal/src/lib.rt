@@ -8,12 +8,12 @@ use board::Board;
 use follow::Follower;
 use follow::Outcome;
 use restore::Listed;
-use settings::Table;
+use tables::Table;
 
 mod line;
 mod numbers;
 
-// The board as it is afterwards, where its restore stands, and how many Sets are confirmed.
+// The board as it is afterwards, how far its restore is, and how many Sets are confirmed.
 pub struct Rehearsed {
     pub board: Board,
     pub outcome: Outcome,

@@ -11,7 +11,7 @@ use follow::Followed;
 use stream::Event;
 use stream::Held;
 
-// Where a rehearsal stands: the board, its follower, and how many bytes of the list the board has taken.
+// How far a rehearsal is: the board, its follower, and how many bytes of the list the board has taken.
 pub(crate) struct Turn {
     pub board: Board,
     pub followed: Followed,

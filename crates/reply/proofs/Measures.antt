@@ -14,7 +14,7 @@ use Rattle.wire.specs.Numbers.{little, fromLittle, complement, signed}
 use Rattle.wire.proofs.Theorems.{little-is-read, complement-is-read}
 use Rattle.reply.specs.Units.{inVolts, inAmperes, inFineAmperes, inAmpHours, inPercent, over}
 use Rattle.reply.specs.Calls.{showing}
-use Rattle.answers.specs.Values.{readOnly}
+use Rattle.who.specs.Values.{readOnly}
 use Rattle.who.specs.declared.Readings.{Readings}
 use Rattle.reply.specs.declared.Shown.{Shown}
 use Rattle.reply.specs.Laws.{NarrowIsShown, WideIsShown, PlainIsShown, measured, BoardIsShown}

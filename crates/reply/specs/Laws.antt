@@ -12,7 +12,7 @@ use lib.Signed.{mag}
 use Rattle.wire.specs.Numbers.{little, complement}
 use Rattle.wire.specs.Laws.{Bytes}
 use Rattle.answers.specs.Answers.{said}
-use Rattle.answers.specs.Values.{readOnly}
+use Rattle.who.specs.Values.{readOnly}
 use Rattle.who.specs.declared.Identity.{Identity}
 use Rattle.who.specs.declared.Readings.{Readings}
 use Rattle.reply.specs.Replies.{flagOf, rest}

@@ -42,7 +42,7 @@ kinded kind Front.Wrong = malformed
 unfoldable pub telling : (Status → ℕ → Reply) → List ℕ → Reply
 telling kind bytes = kinded kind (front bytes)
 
--- the value of such a reply: the rest of the data, behind the first three bytes, under every status
+-- the value of such a reply: the rest of the data, after the first three bytes, under every status
 abbrev pub rest : List ℕ → List ℕ
 rest bytes = drop 3 bytes
 

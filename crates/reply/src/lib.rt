@@ -17,7 +17,7 @@ pub enum Status {
 }
 
 // A reply, a kind for each code: 1, 3, 4, 5, 7, 8, A; or document 01's number of the refusal. The value of the last three kinds is the
-// rest of the data, behind the first three bytes; the payload of the first is all of it.
+// rest of the data, after the first three bytes; the payload of the first is all of it.
 pub enum Reply {
     Done,
     Unknown { command: u8 },

@@ -1,6 +1,8 @@
 // Readings in their units: the exact whole number, divided once. A value of another width is refused.
 ghost use mathlib.Core.Path.{_≡_};
-ghost use Rattle.reply.specs.Units.{inVolts, inAmperes, inFineAmperes, inAmpHours, inPercent};
+ghost use lib.ListN.{length};
+ghost use Rattle.wire.specs.Numbers.{fromLittle, signed};
+ghost use Rattle.reply.specs.Units.{over, inVolts, inAmperes, inFineAmperes, inAmpHours, inPercent};
 use crate::Shown;
 use crate::bytes;
 use crate::numbers;
@@ -12,6 +14,24 @@ fn wrong_width() -> Shown
     Shown::Refused(numbers::WRONG_WIDTH)
 }
 
+// The whole number of two bytes with a sign, divided once.
+fn over_16(value: &[u8], steps: u16) -> f64
+    requires { ⌜ length (now value) ≡ 2 ⌝ }
+    ensures { λ r. ⌜ r ≡ over (signed 2 (fromLittle (now (value .entry)))) steps ⌝ }
+{
+    let number = bytes::signed_16(bytes::two(value));
+    (number as f64) / (steps as f64)
+}
+
+// The same of four bytes.
+fn over_32(value: &[u8], steps: u16) -> f64
+    requires { ⌜ length (now value) ≡ 4 ⌝ }
+    ensures { λ r. ⌜ r ≡ over (signed 4 (fromLittle (now (value .entry)))) steps ⌝ }
+{
+    let number = bytes::signed_32(bytes::four(value));
+    (number as f64) / (steps as f64)
+}
+
 // ED8D: signed 16, in steps of 0.01 V.
 pub(crate) fn volts(value: &[u8]) -> Shown
     ensures { λ r. ⌜ r ≡ inVolts (now (value .entry)) ⌝ }
@@ -19,8 +39,7 @@ pub(crate) fn volts(value: &[u8]) -> Shown
     if value.len() != numbers::TWO {
         return wrong_width();
     }
-    let number = bytes::signed_16(bytes::two(value));
-    Shown::Volts((number as f64) / (numbers::STEPS_OF_VOLT as f64))
+    Shown::Volts(over_16(value, numbers::STEPS_OF_VOLT))
 }
 
 // ED8F: signed 16, in steps of 0.1 A.
@@ -30,8 +49,7 @@ pub(crate) fn amperes(value: &[u8]) -> Shown
     if value.len() != numbers::TWO {
         return wrong_width();
     }
-    let number = bytes::signed_16(bytes::two(value));
-    Shown::Amperes((number as f64) / (numbers::STEPS_OF_AMPERE as f64))
+    Shown::Amperes(over_16(value, numbers::STEPS_OF_AMPERE))
 }
 
 // ED8C: signed 32, in steps of 0.001 A.
@@ -41,8 +59,7 @@ pub(crate) fn fine_amperes(value: &[u8]) -> Shown
     if value.len() != numbers::FOUR {
         return wrong_width();
     }
-    let number = bytes::signed_32(bytes::four(value));
-    Shown::Amperes((number as f64) / (numbers::FINE_STEPS_OF_AMPERE as f64))
+    Shown::Amperes(over_32(value, numbers::FINE_STEPS_OF_AMPERE))
 }
 
 // EEFF: signed 32, in steps of 0.1 Ah.
@@ -52,8 +69,7 @@ pub(crate) fn amp_hours(value: &[u8]) -> Shown
     if value.len() != numbers::FOUR {
         return wrong_width();
     }
-    let number = bytes::signed_32(bytes::four(value));
-    Shown::AmpHours((number as f64) / (numbers::STEPS_OF_AMP_HOUR as f64))
+    Shown::AmpHours(over_32(value, numbers::STEPS_OF_AMP_HOUR))
 }
 
 // 0FFF: in steps of 0.01 %, the one reading without a sign.

@@ -16,7 +16,7 @@ use Rattle.settings.specs.Columns.{count, idAt, widthAt}
 use Rattle.settings.specs.Calls.{settingAt, placing}
 use Rattle.settings.specs.declared.Setting.{Setting}
 use Rattle.settings.specs.declared.Found.{Found}
-use Rattle.answers.proofs.Bytes.{length-little}
+use Rattle.wire.proofs.Little.{length-little}
 use Rattle.answers.specs.Answers.{said, getCode, setCode}
 use Rattle.requests.specs.Calls.{getWritten, setOf, setWritten}
 use Rattle.requests.specs.Laws.{SetIsRequest}
@@ -76,7 +76,7 @@ module _ (k n room : ℕ) where
 pub set-request : SetIsRequest
 set-request k n room h fits enough = set-here k n room enough h ∙ set-held (idAt k) (widthAt k) n (lt-ltb n (256 ^ widthAt k) fits)
 
--- what stands at a place
+-- what is at a place
 pub record Stands (k : ℕ) (s : Setting) : Type 0 where
   pub within : k < count
   pub is : s ≡ settingAt k
@@ -109,7 +109,7 @@ at-none k = by (ltb k count) refl
     by true h e = absurd (false≢true (sym (ap isFound e)))
     by false h e = ltb-false _ _ h
 
--- what a Set of the setting that stands there gives is what is written for its place
+-- what a Set of the setting that is there gives is what is written for its place
 pub found-gives : (k n : ℕ) (s : Setting) (buffer l : List ℕ) (r : Written) → Stands k s → frameRoom ≤ length buffer
     → Gives Written (setOf (s .id) (s .width) n) buffer r l → Gives Written (setWritten k n (length buffer)) buffer r l
 found-gives k n s buffer l r at enough g =

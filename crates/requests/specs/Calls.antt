@@ -15,11 +15,11 @@ use Rattle.answers.specs.Requests.{getRequest}
 unfoldable pub getWritten : ℕ → ℕ → Given Written
 getWritten id room = cond (ltb room frameRoom) (unwritten shortBuffer) (writtenAs (getRequest id))
 
--- a Set of an id to a number in so many bytes, where there is room: 12 where they do not hold it
+-- a Set of an id to a number in this many bytes, where there is room: 12 where they do not hold it
 unfoldable pub setOf : ℕ → ℕ → ℕ → Given Written
 setOf id width n = cond (ltb n (256 ^ width)) (writtenAs (frame setCode (said id 0 (little width n)))) (unwritten notAllowed)
 
--- a Set of a setting: 11, then 12 where no setting stands at the place or its width does not hold the number; it is the request of
+-- a Set of a setting: 11, then 12 where there is no setting at the place or its width does not hold the number; it is the request of
 -- specs/Requests of the crate `answers` (the law SetIsRequest)
 unfoldable pub setWritten : ℕ → ℕ → ℕ → Given Written
 setWritten k n room =

@@ -25,7 +25,7 @@ const NO_FLAGS: u8 = 0;
 // The room that the longest frame takes.
 const FRAME_ROOM: usize = 75;
 
-// 11: a lent buffer is too short; 12: no setting stands at a place, or its width does not hold a number.
+// 11: a lent buffer is too short; 12: there is no setting at a place, or its width does not hold a number.
 const SHORT_BUFFER: u8 = 11;
 
 const NOT_ALLOWED: u8 = 12;

@@ -13,8 +13,9 @@ use Rattle.laws.specs.Lists.{every}
 use Rattle.laws.proofs.Bools.{and-left, and-right, both}
 use Rattle.laws.proofs.Lists.{every-at, upTo-at}
 use Rattle.settings.specs.Columns.{count, partnerAt, roleAt}
-use Rattle.settings.specs.Rules.{agrees, numberAt}
-use Rattle.settings.specs.declared.Table.{Table}
+use Rattle.settings.specs.Rules.{agrees}
+use Rattle.tables.specs.Rules.{numberAt}
+use Rattle.tables.specs.declared.Table.{Table}
 use Rattle.settings.proofs.Theorems.{rows-hold}
 use Rattle.restore.specs.Order.{differs, higherFirst, exchanged, placed, turnsFrom, order}
 use Rattle.restore.specs.Laws.{times, OneForEach, NoOther, goesFirst, InOrder}
@@ -151,7 +152,7 @@ module _ (from to : Table) where
       turn-cases left k h (λ l. every (λ j. ltb j count && differs from to j) l ≡ true)
       (λ d. both _ _ (both _ _ (lt-ltb (turn left k h) count (turn-below left k h)) d) later) (λ d. later)
 
-  -- how often a setting comes up: never before or behind its place, and there if it differs
+  -- how often a setting comes up: never before or after its place, and there if it differs
   apart : (left k j : ℕ) (h : k + suc left ≤ count) → placed from to j ≢ k → eqb (turn left k h) j ≡ false
   apart left k j h e = ne-eqb (turn left k h) j (λ is. e (ap (placed from to) (sym is) ∙ turn-place left k h))
 

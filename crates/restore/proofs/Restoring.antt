@@ -1,4 +1,4 @@
--- The list's Sets, each on the table that those before it left: accepted in turn, and the wanted table stands at the end. Assumes nothing.
+-- The list's Sets, each on the table that those before it left: accepted in turn, and the wanted table results at the end. Assumes nothing.
 use mathlib.Core.Path.{_≡_, refl, sym, ap, ap₂, _∙_}
 use mathlib.Core.Logic.{_≢_}
 use mathlib.Core.Bool.{Bool, true, false, not}
@@ -10,12 +10,15 @@ use lib.ListN.{length, getD}
 use lib.Dec.{ltb, eqb}
 use Rattle.laws.proofs.Bools.{and-right, both}
 use Rattle.settings.specs.Columns.{count, partnerAt, roleAt}
-use Rattle.settings.specs.Rules.{agrees, allowedFor, allowed, numberAt, partnerNumber}
-use Rattle.settings.specs.Calls.{setTo}
-use Rattle.settings.specs.declared.Table.{Table}
-use Rattle.settings.specs.declared.Answer.{Answer}
-use Rattle.settings.proofs.Theorems.{rows-hold, pairs-have-an-order, set-stores-it, set-keeps-allowed, set-keeps-count, set-changes-one}
-use Rattle.settings.proofs.Tables.{allowed-both, range-at}
+use Rattle.settings.specs.Rules.{agrees, allowedFor}
+use Rattle.tables.specs.Rules.{allowed, numberAt, partnerNumber}
+use Rattle.tables.specs.Calls.{setTo}
+use Rattle.tables.specs.declared.Table.{Table}
+use Rattle.tables.specs.declared.Answer.{Answer}
+use Rattle.settings.proofs.Theorems.{rows-hold}
+use Rattle.tables.proofs.Theorems.{pairs-have-an-order, set-stores-it, set-keeps-allowed, set-keeps-count, set-changes-one}
+use Rattle.settings.proofs.Windows.{allowed-both}
+use Rattle.tables.proofs.Tables.{range-at}
 use Rattle.restore.specs.Order.{differs, higherFirst, exchanged, placed, turnsFrom, order, wanted}
 use Rattle.restore.specs.Laws.{Tables, isAccepted, accepted, left, Restores, ListRestores}
 use Rattle.restore.proofs.Placing.{not-flip, by-lower, by-higher, exchanged-same, placed-there, placed-here, placed-back, placed-below, turns-none, turns-more, turns-skip}

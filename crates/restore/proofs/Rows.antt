@@ -14,10 +14,11 @@ use Rattle.laws.specs.Promise.{overlaid, Gives}
 use Rattle.laws.proofs.Promise.{gives-bytes}
 use Rattle.laws.proofs.Bools.{and-left, and-right, both}
 use Rattle.settings.specs.Columns.{count, roleAt}
-use Rattle.settings.specs.Rules.{agrees, allowedFor, allowed, numberAt}
+use Rattle.settings.specs.Rules.{agrees, allowedFor}
+use Rattle.tables.specs.Rules.{allowed, numberAt}
 use Rattle.settings.specs.Calls.{allowing}
-use Rattle.settings.specs.declared.Table.{Table}
-use Rattle.settings.proofs.Tables.{range-at}
+use Rattle.tables.specs.declared.Table.{Table}
+use Rattle.tables.proofs.Tables.{range-at}
 use Rattle.restore.specs.Order.{differs, higherFirst, placed, turnsFrom, order, wanted, dueSets}
 use Rattle.restore.specs.AsHeld.{Holds, setsOf}
 use Rattle.restore.specs.Laws.{SetsAreFew, ListIsShort, Tells, a-set, none-left, not-allowed, DueTells}

@@ -19,14 +19,14 @@ use Rattle.wire.specs.Calls.{writtenAs}
 use Rattle.wire.specs.declared.Written.{Written}
 use Rattle.wire.proofs.Frames.{length-frame}
 use Rattle.settings.specs.Columns.{count, widthAt}
-use Rattle.settings.specs.Rules.{allowed, numberAt}
-use Rattle.settings.specs.declared.Table.{Table}
+use Rattle.tables.specs.Rules.{allowed, numberAt}
+use Rattle.tables.specs.declared.Table.{Table}
 use Rattle.settings.proofs.Theorems.{rows-hold, range-has-room}
-use Rattle.settings.proofs.Tables.{range-at}
+use Rattle.tables.proofs.Tables.{range-at}
 use Rattle.answers.specs.Answers.{setCode}
 use Rattle.answers.specs.Requests.{setData, setRequest}
 use Rattle.requests.specs.Calls.{setWritten}
-use Rattle.answers.proofs.Bytes.{length-little}
+use Rattle.wire.proofs.Little.{length-little}
 use Rattle.requests.proofs.Theorems.{set-is-request}
 use Rattle.restore.specs.Order.{wanted}
 use Rattle.restore.specs.AsHeld.{setsOf}

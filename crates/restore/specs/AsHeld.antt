@@ -1,9 +1,9 @@
--- The order of the Sets as the program holds it: an array of places, so many of which are used. Assumes nothing.
+-- The order of the Sets as the program holds it: an array of places, this many of which are used. Assumes nothing.
 use Prim.Native.Nat.{ℕ}
 use mathlib.Core.Path.{_≡_}
 use mathlib.Core.List.{List, map}
 use lib.ListN.{length, take}
-use Rattle.settings.specs.declared.Table.{Table}
+use Rattle.tables.specs.declared.Table.{Table}
 use Rattle.restore.specs.Order.{wanted}
 use Rattle.restore.specs.declared.Wanted.{Wanted}
 use Rattle.restore.specs.declared.order.Row.{Row}

@@ -6,8 +6,8 @@ use lib.ListN.{length}
 use lib.Dec.{ltb}
 use Rattle.laws.specs.Promise.{Given}
 use Rattle.settings.specs.Columns.{count}
-use Rattle.settings.specs.Rules.{allowed}
-use Rattle.settings.specs.declared.Table.{Table}
+use Rattle.tables.specs.Rules.{allowed}
+use Rattle.tables.specs.declared.Table.{Table}
 use Rattle.answers.specs.Requests.{setRequest}
 use Rattle.restore.specs.Order.{dueSets}
 use Rattle.restore.specs.declared.Wanted.{Wanted}
@@ -37,7 +37,7 @@ unfoldable pub listing : Table → Table → ℕ → Given Listed
 listing from to room =
     cond (ltb room listRoom) (unlisted 11) (cond (bothAllowed from to) (listedAs (dueSets from to)) (unlisted 12))
 
--- the Set that is due when so many before it are done, or none
+-- the Set that is due when this many before it are done, or none
 abbrev pub dueAfter : List Wanted → ℕ → Due
 dueAfter [] n = Due.Nothing
 dueAfter (w ∷ more) zero = Due.Set w

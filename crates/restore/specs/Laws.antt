@@ -8,10 +8,11 @@ use lib.ListN.{length, getD}
 use lib.Dec.{ltb, eqb}
 use Rattle.laws.specs.Lists.{every}
 use Rattle.settings.specs.Columns.{count, partnerAt, roleAt}
-use Rattle.settings.specs.Rules.{agrees, allowed, numberAt}
-use Rattle.settings.specs.Calls.{setTo}
-use Rattle.settings.specs.declared.Table.{Table}
-use Rattle.settings.specs.declared.Answer.{Answer}
+use Rattle.settings.specs.Rules.{agrees}
+use Rattle.tables.specs.Rules.{allowed, numberAt}
+use Rattle.tables.specs.Calls.{setTo}
+use Rattle.tables.specs.declared.Table.{Table}
+use Rattle.tables.specs.declared.Answer.{Answer}
 use Rattle.restore.specs.Order.{differs, order, wanted, dueSets}
 use Rattle.restore.specs.Calls.{bothAllowed, framesFor, listRoom, dueIn}
 use Rattle.restore.specs.declared.Wanted.{Wanted}

@@ -1,14 +1,15 @@
 -- Which Sets restore a table, and in which order. Document 01, "Restore list and its following": "Ascending id, one Set for each differing
 -- setting. Where both of a pair differ, the lower id goes first if its new number agrees with the partner's present one, else the higher."
--- `from` is the table that stands, `to` the one that is wanted; settings are named by their places. Assumes nothing.
+-- `from` is the present table, `to` the one that is wanted; settings are named by their places. Assumes nothing.
 use Prim.Native.Nat.{ℕ, zero, suc}
 use mathlib.Core.Bool.{Bool, cond, not, _&&_}
 use mathlib.Core.List.{List, [], _∷_, _++_, map}
 use lib.Dec.{ltb, eqb}
 use Rattle.settings.specs.Columns.{count, partnerAt, roleAt}
-use Rattle.settings.specs.Rules.{agrees, numberAt}
+use Rattle.settings.specs.Rules.{agrees}
+use Rattle.tables.specs.Rules.{numberAt}
 use Rattle.settings.specs.Calls.{settingAt}
-use Rattle.settings.specs.declared.Table.{Table}
+use Rattle.tables.specs.declared.Table.{Table}
 use Rattle.restore.specs.declared.Wanted.{Wanted}
 
 -- a setting that differs
@@ -31,7 +32,7 @@ placed from to k = cond (exchanged from to k) (partnerAt k) k
 abbrev pub turnAt : Table → Table → ℕ → List ℕ
 turnAt from to k = cond (differs from to (placed from to k)) (placed from to k ∷ []) []
 
--- so many places from place k on
+-- this many places from place k on
 unfoldable pub turnsFrom : ℕ → ℕ → Table → Table → List ℕ
 turnsFrom zero k from to = []
 turnsFrom (suc left) k from to = turnAt from to k ++ turnsFrom left (suc k) from to

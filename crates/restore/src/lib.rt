@@ -6,7 +6,7 @@ ghost use Rattle.laws.specs.Promise.{Gives};
 ghost use Rattle.restore.specs.Calls.{listing, dueIn};
 ghost use Rattle.restore.specs.declared.Listed.{Listed};
 use settings::Setting;
-use settings::Table;
+use tables::Table;
 
 mod numbers;
 mod order;
@@ -18,7 +18,7 @@ pub struct Wanted {
     pub number: u16,
 }
 
-// The Set that is due after so many; nothing after the last; or document 01's number of the refusal.
+// The Set that is due after this many; nothing after the last; or document 01's number of the refusal.
 pub enum Due {
     Set(Wanted),
     Nothing,
@@ -48,7 +48,7 @@ pub fn list(from: Table, to: Table, out: &mut [u8]) -> Listed
     Listed::List { len, sets }
 }
 
-// The Set that is due once so many before it are done: nothing after the last. Refuses 12 for a table that is not allowed.
+// The Set that is due once this many before it are done: nothing after the last. Refuses 12 for a table that is not allowed.
 pub fn due_after(from: Table, to: Table, done: usize) -> Due
     ensures { λ r. ⌜ r ≡ dueIn from to done ⌝ }
 {

@@ -4,7 +4,7 @@ ghost use Prim.Native.Nat.{_<_};
 ghost use mathlib.Core.Path.{_≡_};
 ghost use mathlib.Core.Bool.{true, cond};
 ghost use Rattle.settings.specs.Columns.{count, partnerAt};
-ghost use Rattle.settings.specs.Rules.{allowed};
+ghost use Rattle.tables.specs.Rules.{allowed};
 ghost use Rattle.settings.specs.Calls.{settingAt};
 ghost use Rattle.restore.specs.Order.{differs, higherFirst, exchanged, placed, order, wanted};
 ghost use Rattle.restore.specs.Calls.{bothAllowed};
@@ -13,7 +13,7 @@ use crate::Wanted;
 use settings::COUNT;
 use settings::Found;
 use settings::Setting;
-use settings::Table;
+use tables::Table;
 
 // The differing settings by their places, in the order in which their Sets go.
 pub(crate) struct Row {

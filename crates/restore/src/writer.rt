@@ -8,13 +8,13 @@ ghost use lib.Seq.{sets};
 ghost use Rattle.laws.specs.Lists.{every};
 ghost use Rattle.laws.specs.Promise.{overlaid};
 ghost use Rattle.settings.specs.Columns.{count, widthAt};
-ghost use Rattle.settings.specs.Rules.{allowed};
+ghost use Rattle.tables.specs.Rules.{allowed};
 ghost use Rattle.answers.specs.Requests.{setRequest};
 ghost use Rattle.restore.specs.Calls.{framesFor, listRoom};
 ghost use Rattle.restore.specs.AsHeld.{setsOf};
 use crate::numbers;
 use crate::order::Row;
-use settings::Table;
+use tables::Table;
 use wire::Written;
 
 // Some bytes from a place on.
@@ -29,7 +29,7 @@ fn put_bytes(out: &mut [u8], at: usize, bytes: &[u8])
     }
 }
 
-// A Set at a place of the buffer, and the place behind it. The frame writer wants room for the longest frame, which is not left behind the
+// A Set at a place of the buffer, and the place after it. The frame writer wants room for the longest frame, which is not left after the
 // last Set of a full list, so the Set is written apart.
 fn put_set(out: &mut [u8], at: usize, index: usize, number: u16) -> usize
     requires { ⌜ (at + 15 ≤ length (now out)) × (index < count) × (number < 256 ^ widthAt index) ⌝ }

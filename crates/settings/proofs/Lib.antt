@@ -4,6 +4,5 @@ pub mod Rows
 pub mod Firsts
 pub mod Pairs
 pub mod Windows
-pub mod Tables
 pub mod Theorems
 pub mod Same

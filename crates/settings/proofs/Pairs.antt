@@ -94,6 +94,9 @@ module _ (k : ℕ) (h : k < count) where
   pub parts-opposite : roleAt (partnerAt k) ≡ opposite (roleAt k)
   parts-opposite = same-role _ _ (upTo-at count (λ i. eqb (roleNumber (roleAt (partnerAt i))) (roleNumber (opposite (roleAt i)))) refl k h)
 
+  pub partner-agrees : (n x : ℕ) → agrees (roleAt k) n x ≡ true → agrees (roleAt (partnerAt k)) x n ≡ true
+  partner-agrees n x e = ap (λ (r : Role). agrees r x n) parts-opposite ∙ agrees-opposite (roleAt k) n x ∙ e
+
   pub alone-none : partnerAt k ≡ k → roleAt k ≡ Role.Alone
   alone-none e =
       same-role (roleAt k) Role.Alone

@@ -3,7 +3,7 @@ use mathlib.Core.Path.{_≡_, refl, sym, ap}
 use mathlib.Core.Bool.{Bool, true, false, cond, false≢true}
 use Prim.Native.Nat.{ℕ, suc, _-_, _^_, _≤_, _<_}
 use native.Mathlib.Nat.{le-of-suc-le-suc}
-use borrow.Author.Tests.{lt-ltb, ltb-true, leb-true, eqb-true}
+use borrow.Author.Tests.{lt-ltb, ltb-true, ltb-false, leb-true, eqb-true}
 use lib.Dec.{ltb, leb, eqb}
 use Rattle.laws.proofs.Lists.{upTo-at, before-first}
 use Rattle.settings.specs.Columns.{count, ids, idAt, widthAt, lowAt, highAt, factoryAt, partnerAt, roleAt}
@@ -46,7 +46,7 @@ module _ (k : ℕ) (h : k < count) where
       }
 
 -- a look-up finds each setting, and only by its id
-placed : (k : ℕ) → k < count → placeOf (idAt k) ≡ k
+pub placed : (k : ℕ) → k < count → placeOf (idAt k) ≡ k
 unfolding placeOf
 placed k h = eqb-true _ _ (upTo-at count (λ i. eqb (placeOf (idAt i)) i) refl k h)
 
@@ -62,22 +62,33 @@ pub find-found : FindIsFound
 unfolding finding
 find-found k h = rw (placed k h) (place-found k h)
 
-pub found-id : FoundHasId
-unfolding finding placing
-found-id id s = by (ltb (placeOf id) count) refl
+-- what is found at a place is its setting, and nothing is found past the table
+abbrev settingIn : Setting → Found → Setting
+settingIn other (Found.At s) = s
+settingIn other Found.Nothing = other
+
+abbrev isFound : Found → Bool
+isFound (Found.At s) = true
+isFound Found.Nothing = false
+
+pub place-has : (k : ℕ) (s : Setting) → placing k ≡ Found.At s → (k < count) × (settingAt k ≡ s)
+unfolding placing
+place-has k s = by (ltb k count) refl
   where
-    settingOf : Found → Setting
-    settingOf (Found.At here) = here
-    settingOf Found.Nothing = s
-
-    isFound : Found → Bool
-    isFound (Found.At here) = true
-    isFound Found.Nothing = false
-
-    by : (b : Bool) → ltb (placeOf id) count ≡ b → cond b (Found.At (settingAt (placeOf id))) Found.Nothing ≡ Found.At s
-        → (s .index < count) × (s ≡ settingAt (s .index)) × (s .id ≡ id)
-    by true h e =
-        let is : settingAt (placeOf id) ≡ s = ap settingOf e in
-        let within : placeOf id < count = ltb-true _ _ h in
-        rw (sym is) (within, refl, placed-id id within)
+    by : (b : Bool) → ltb k count ≡ b → cond b (Found.At (settingAt k)) Found.Nothing ≡ Found.At s → (k < count) × (settingAt k ≡ s)
+    by true h e = (ltb-true _ _ h, ap (settingIn s) e)
     by false h e = absurd (false≢true (ap isFound e))
+
+pub place-past : (k : ℕ) → placing k ≡ Found.Nothing → count ≤ k
+unfolding placing
+place-past k = by (ltb k count) refl
+  where
+    by : (b : Bool) → ltb k count ≡ b → cond b (Found.At (settingAt k)) Found.Nothing ≡ Found.Nothing → count ≤ k
+    by true h e = absurd (false≢true (sym (ap isFound e)))
+    by false h e = ltb-false _ _ h
+
+pub found-id : FoundHasId
+unfolding finding
+found-id id s e =
+    let here = place-has (placeOf id) s e in
+    rw (sym (here .1)) (here .0, refl, placed-id id (here .0))

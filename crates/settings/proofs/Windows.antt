@@ -4,16 +4,16 @@ use mathlib.Core.Logic.{⊎-elim}
 use mathlib.Core.Bool.{Bool, true, _&&_, and-true}
 use Prim.Native.Nat.{ℕ, _^_, _≤_, _<_, min, max, zero-le}
 use native.Mathlib.Omega.{arith}
-use borrow.Author.Tests.{le-leb, leb-true, eq-eqb, eqb-true}
+use borrow.Author.Tests.{lt-ltb, le-leb, leb-true, eq-eqb, eqb-true}
 use lib.Dec.{leb, eqb}
 use Rattle.laws.proofs.Bools.{and-left, and-right, both, same-test, or-cases}
 use Rattle.settings.specs.Columns.{count, widthAt, lowAt, highAt, zeroAt, partnerAt, roleAt}
 use Rattle.settings.specs.Rules.{inWindow, inRange, agrees, allowedFor, Nearest, nearestOf}
-use Rattle.settings.specs.Calls.{partnerFits}
-use Rattle.settings.specs.Laws.{RangeHasRoom, AllowedHasRoom}
+use Rattle.settings.specs.Calls.{partnerFits, nearing}
+use Rattle.settings.specs.Laws.{NearestIsAnswered, RangeHasRoom, AllowedHasRoom}
 use Rattle.settings.specs.declared.columns.Role.{Role}
 use Rattle.settings.proofs.Nearness.{window-zero, window-row, window-cases, seek-nearest}
-use Rattle.settings.proofs.Rows.{low-high, high-small, row-holds}
+use Rattle.settings.proofs.Rows.{low-high, high-small, row-holds, placed}
 use Rattle.settings.proofs.Pairs.{agrees-alone, agrees-self, alone-none, same-range}
 
 module _ (z : Bool) (low high p n : ℕ) where
@@ -58,6 +58,23 @@ module _ (k partner : ℕ) where
       → (n : ℕ) → inWindow (zeroAt k && eqb partner 0) (max (lowAt k) partner) (highAt k) n ≡ allowedFor k n partner
   least-window r rule is n = least-same (zeroAt k) (lowAt k) (highAt k) partner n ∙ allowed-by k partner n r (leb partner n) is (rule n)
 
+-- "in its own range and agrees with the partner", apart and together
+pub allowed-range : (k n p : ℕ) → allowedFor k n p ≡ true → inRange k n ≡ true
+unfolding allowedFor
+allowed-range k n p e = and-left _ (agrees (roleAt k) n p) e
+
+pub allowed-agrees : (k n p : ℕ) → allowedFor k n p ≡ true → agrees (roleAt k) n p ≡ true
+unfolding allowedFor
+allowed-agrees k n p e = and-right (inRange k n) _ e
+
+pub allowed-both : (k n p : ℕ) → inRange k n ≡ true → agrees (roleAt k) n p ≡ true → allowedFor k n p ≡ true
+unfolding allowedFor
+allowed-both k n p a b = both _ _ a b
+
+-- without a partner any number serves as the partner's
+pub alone-any : (k n p q : ℕ) → k < count → partnerAt k ≡ k → allowedFor k n p ≡ true → allowedFor k n q ≡ true
+alone-any k n p q h e ok = allowed-both k n q (allowed-range k n p ok) (ap (λ (r : Role). agrees r n q) (alone-none k h e) ∙ agrees-alone n q)
+
 -- Some number is always allowed: the partner's own, and without a partner the lower end.
 
 module _ (k partner : ℕ) (h : k < count) (fit : partnerFits k partner ≡ true) where
@@ -67,8 +84,7 @@ module _ (k partner : ℕ) (h : k < count) (fit : partnerFits k partner ≡ true
       ∙ both _ _ (window-row (zeroAt k) (lowAt k) (highAt k) (lowAt k) (omega arith) (low-high k h)) refl
 
   as-partner : inRange (partnerAt k) partner ≡ true → allowedFor k partner partner ≡ true
-  unfolding allowedFor
-  as-partner e = both _ _ (sym (same-range k h partner) ∙ e) (agrees-self (roleAt k) partner)
+  as-partner e = allowed-both k partner partner (sym (same-range k h partner) ∙ e) (agrees-self (roleAt k) partner)
 
   pub allowed-some : (m : ℕ) × (allowedFor k m partner ≡ true)
   unfolding partnerFits
@@ -81,8 +97,7 @@ unfolding inRange
 range-most k m e = ⊎-elim (λ c. let is : m ≡ 0 = c .1 in omega arith) (λ c. c .1) (window-cases (zeroAt k) (lowAt k) (highAt k) m e)
 
 allowed-most : (k m partner : ℕ) → allowedFor k m partner ≡ true → m ≤ highAt k
-unfolding allowedFor
-allowed-most k m partner e = range-most k m (and-left (inRange k m) (agrees (roleAt k) m partner) e)
+allowed-most k m partner e = range-most k m (allowed-range k m partner e)
 
 pub range-room : RangeHasRoom
 range-room k m h e =
@@ -91,8 +106,7 @@ range-room k m h e =
     omega arith
 
 pub allowed-room : AllowedHasRoom
-unfolding allowedFor
-allowed-room k m partner h e = range-room k m h (and-left (inRange k m) (agrees (roleAt k) m partner) e)
+allowed-room k m partner h e = range-room k m h (allowed-range k m partner e)
 
 -- "one always exists": the search finds it
 pub nearest-found : (k wished partner : ℕ) → k < count → partnerFits k partner ≡ true → wished < 65536
@@ -103,3 +117,7 @@ nearest-found k wished partner h fit small =
     let most : some .0 ≤ highAt k = allowed-most k (some .0) partner (some .1) in
     let below : highAt k < 65536 = high-small k h in
     seek-nearest (λ n. allowedFor k n partner) wished 0 65536 (λ m e. zero-le) (some .0) (some .1) (omega arith)
+
+pub nearest-answered : NearestIsAnswered
+unfolding nearing
+nearest-answered k wished partner h fit = rw (placed k h, lt-ltb k count h, fit)

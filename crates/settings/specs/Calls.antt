@@ -1,23 +1,17 @@
 -- What each public call answers, for every input. Assumes nothing.
-use Prim.Native.Nat.{ℕ, zero}
+use Prim.Native.Nat.{ℕ}
 use mathlib.Core.Bool.{Bool, cond, _&&_, _||_}
 use lib.Dec.{ltb, eqb}
 use Rattle.laws.specs.Lists.{before}
 use Rattle.settings.specs.Columns.{count, ids, idAt, widthAt, partnerAt}
-use Rattle.settings.specs.Rules.{inRange, allowedFor, allowed, numberAt, partnerNumber, changed, nearestOf}
+use Rattle.settings.specs.Rules.{inRange, allowedFor, nearestOf}
 use Rattle.settings.specs.declared.Setting.{Setting}
 use Rattle.settings.specs.declared.Found.{Found}
-use Rattle.settings.specs.declared.Table.{Table}
 use Rattle.settings.specs.declared.Number.{Number}
-use Rattle.settings.specs.declared.Answer.{Answer}
-use Rattle.settings.specs.declared.Change.{Change}
 
--- Document 01: "7 if the id is no setting"; 10 "number not allowed"; 12 "a handed-in number, state or table is not allowed"
+-- Document 01: "7 if the id is no setting"; 12 "a handed-in number, state or table is not allowed"
 abbrev pub noSetting : ℕ
 noSetting = 7
-
-abbrev pub numberNotAllowed : ℕ
-numberNotAllowed = 10
 
 abbrev pub notAllowed : ℕ
 notAllowed = 12
@@ -29,7 +23,7 @@ settingAt k = record { index = k; id = idAt k; width = widthAt k; partner = part
 unfoldable pub placing : ℕ → Found
 placing k = cond (ltb k count) (Found.At (settingAt k)) Found.Nothing
 
--- the place of an id: where it stands first, or past the table
+-- the place of an id: where it comes first, or past the table
 unfoldable pub placeOf : ℕ → ℕ
 placeOf id = before (λ x. eqb x id) ids
 
@@ -43,20 +37,6 @@ ranging k n = ltb k count && inRange k n
 -- "A number is allowed for a setting when it is in its own range and agrees with the partner now held", for any place
 unfoldable pub allowing : ℕ → ℕ → ℕ → Bool
 allowing k n partner = ltb k count && allowedFor k n partner
-
--- a setting's number; 12 for a table that is not allowed or a place past it
-unfoldable pub holding : Table → ℕ → Number
-holding t k = cond (allowed t && ltb k count) (Number.Is (numberAt t k)) (Number.Refused notAllowed)
-
--- A Set of one setting: 12 for a table that is not allowed or a place past it, 10 with the nearest allowed number for a number that is
--- not allowed, and the table then as it was.
-unfoldable pub setTo : Table → ℕ → ℕ → Change
-setTo t k n =
-    cond (allowed t && ltb k count)
-    (cond (allowedFor k n (partnerNumber t k))
-    (record { answer = Answer.Accepted; table = changed t k n })
-    (record { answer = Answer.Refused numberNotAllowed (nearestOf k n (partnerNumber t k)); table = t }))
-    (record { answer = Answer.Refused notAllowed zero; table = t })
 
 -- The nearest allowed number. "7 if the id is no setting, then 12 if the partner is outside its own range", the partner's number being
 -- "unused without a partner".

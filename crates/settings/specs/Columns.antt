@@ -7,7 +7,6 @@ use mathlib.Core.List.{List, [], _∷_, _++_, map}
 use lib.ListN.{length, getD}
 use lib.Dec.{ltb}
 use Rattle.settings.specs.declared.columns.Role.{Role}
-use Rattle.settings.specs.declared.Table.{Table}
 
 -- the number of settings
 abbrev pub count : ℕ
@@ -108,7 +107,7 @@ roles = map (λ (e : Entry). e .role) entries
 abbrev pub roleAt : ℕ → Role
 roleAt k = getD roles k Role.Alone
 
--- the pairs, by the place of the first of each: a setting that stands before its partner
+-- the pairs, by the place of the first of each: a setting that comes before its partner
 abbrev pub firstsBelow : ℕ → List ℕ
 firstsBelow zero = []
 firstsBelow (suc k) = cond (ltb k (partnerAt k)) (firstsBelow k ++ k ∷ []) (firstsBelow k)
@@ -121,7 +120,3 @@ firstAt j = getD firsts j 0
 
 abbrev pub pairs : ℕ
 pairs = length firsts
-
--- the factory table
-abbrev pub factory : Table
-factory = record { numbers = factories }

@@ -2,12 +2,12 @@
 use Prim.Native.Nat.{ℕ, zero, suc, _+_, _-_, _≤_}
 use mathlib.Core.Path.{_≡_}
 use mathlib.Core.Bool.{Bool, true, false, _&&_, _||_}
-use lib.ListN.{getD, set}
+use mathlib.Core.List.{List}
+use lib.ListN.{getD}
 use lib.Dec.{leb, eqb}
 use Rattle.laws.specs.Lists.{upTo}
 use Rattle.settings.specs.Columns.{count, lowAt, highAt, zeroAt, partnerAt, roleAt}
 use Rattle.settings.specs.declared.columns.Role.{Role}
-use Rattle.settings.specs.declared.Table.{Table}
 
 -- the numbers from low to high, and 0 besides where the first argument says so
 abbrev pub inWindow : Bool → ℕ → ℕ → ℕ → Bool
@@ -36,20 +36,9 @@ agrees Role.HighSecond n partner = highAgrees partner n
 unfoldable pub allowedFor : ℕ → ℕ → ℕ → Bool
 allowedFor k n partner = inRange k n && agrees (roleAt k) n partner
 
--- the number of the setting at a place
-abbrev pub numberAt : Table → ℕ → ℕ
-numberAt t k = getD (t .numbers) k 0
-
-abbrev pub partnerNumber : Table → ℕ → ℕ
-partnerNumber t k = numberAt t (partnerAt k)
-
--- a table is allowed when every number is in its own range and every pair agrees
-unfoldable pub allowed : Table → Bool
-allowed t = upTo count (λ k. allowedFor k (numberAt t k) (partnerNumber t k))
-
--- the table with one number changed
-abbrev pub changed : Table → ℕ → ℕ → Table
-changed t k n = record { numbers = set (t .numbers) k n }
+-- the numbers of all settings are allowed when every one is in its own range and every pair agrees
+unfoldable pub allAllowed : List ℕ → Bool
+allAllowed numbers = upTo count (λ k. allowedFor k (getD numbers k 0) (getD numbers (partnerAt k) 0))
 
 -- "The nearest allowed number has the least distance, the smaller on a tie; one always exists."
 abbrev pub distance : ℕ → ℕ → ℕ

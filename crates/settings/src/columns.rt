@@ -2,7 +2,7 @@
 // every look-up of an id, a width, an end, a factory number or a partner comes here.
 ghost use Prim.Native.Nat.{_<_};
 ghost use mathlib.Core.Path.{_≡_};
-ghost use Rattle.settings.specs.Columns.{count, idAt, widthAt, lowAt, highAt, zeroAt, factories, partnerAt, roleAt, lows, highs, zeros, partners, roles, firsts};
+ghost use Rattle.settings.specs.Columns.{count, idAt, widthAt, lowAt, highAt, zeroAt, partnerAt, roleAt, lows, highs, zeros, partners, roles, firsts};
 ghost use Rattle.settings.specs.Calls.{placeOf};
 use crate::COUNT;
 
@@ -161,7 +161,7 @@ const ZEROS: [bool; COUNT] = [
     false, // EEFE
 ];
 
-const FACTORIES: [u16; COUNT] = [
+pub(crate) const FACTORIES: [u16; COUNT] = [
     0, // 0320
     0, // 0321
     0, // 0322
@@ -359,11 +359,4 @@ pub(crate) fn firsts() -> [usize; PAIRS]
     ensures { λ r. ⌜ r ≡ firsts ⌝ }
 {
     FIRSTS
-}
-
-// The whole column of factory numbers.
-pub(crate) fn factory_numbers() -> [u16; COUNT]
-    ensures { λ r. ⌜ r ≡ factories ⌝ }
-{
-    FACTORIES
 }

@@ -1,10 +1,9 @@
 // The settings of document 01: the constant table, the pairs, and the nearest allowed number. Every call takes anything, and its promise
 // fixes its answer (specs/Calls.antt).
 ghost use mathlib.Core.Path.{_≡_};
-ghost use Rattle.settings.specs.Columns.{factory};
-ghost use Rattle.settings.specs.Rules.{allowed};
-ghost use Rattle.settings.specs.Calls.{finding, placing, ranging, allowing, holding, setTo, nearing};
-ghost use Rattle.settings.specs.declared.Answer.{Answer};
+ghost use Rattle.settings.specs.Columns.{factories};
+ghost use Rattle.settings.specs.Rules.{allAllowed};
+ghost use Rattle.settings.specs.Calls.{finding, placing, ranging, allowing, nearing};
 
 mod columns;
 mod rules;
@@ -13,10 +12,8 @@ mod window;
 // The number of settings.
 pub const COUNT: usize = 26;
 
-// 7: an id that is no setting; 10: a number that is not allowed; 12: a place, a table or a partner handed in is not allowed.
+// 7: an id that is no setting; 12: a partner's number handed in is not allowed.
 const NO_SETTING: u8 = 7;
-
-const NUMBER_NOT_ALLOWED: u8 = 10;
 
 const NOT_ALLOWED: u8 = 12;
 
@@ -34,27 +31,10 @@ pub enum Found {
     Nothing,
 }
 
-// The numbers of all settings, in the order of the ids.
-pub struct Table {
-    pub numbers: [u16; COUNT],
-}
-
 // A number, or document 01's number of the refusal.
 pub enum Number {
     Is(u16),
     Refused(u8),
-}
-
-// What a Set of one setting comes to: accepted, or the number of the refusal and, with 10, the nearest allowed number.
-pub enum Answer {
-    Accepted,
-    Refused { number: u8, nearest: u16 },
-}
-
-// The answer to a Set, and the table afterwards.
-pub struct Change {
-    pub answer: Answer,
-    pub table: Table,
 }
 
 // The setting of an id.
@@ -114,73 +94,17 @@ pub fn nearest(id: u16, wished: u16, partner: u16) -> Number
     Number::Is(window::nearest_of(index, wished, partner))
 }
 
-impl Table {
-    // The factory table.
-    pub fn factory() -> Table
-        ensures { λ r. ⌜ r ≡ factory ⌝ }
-    {
-        Table {
-            numbers: columns::factory_numbers(),
-        }
-    }
-
-    // Every number is in its own range, and every pair agrees.
-    pub fn is_allowed(self) -> bool
-        ensures { λ r. ⌜ r ≡ allowed self ⌝ }
-    {
-        let numbers = self.numbers;
-        rules::all_allowed(numbers)
-    }
-
-    // The number of the setting at a place; 12 for a table that is not allowed or a place past it.
-    pub fn number(self, index: usize) -> Number
-        ensures { λ r. ⌜ r ≡ holding self index ⌝ }
-    {
-        if !self.is_allowed() {
-            return Number::Refused(NOT_ALLOWED);
-        }
-        if COUNT <= index {
-            return Number::Refused(NOT_ALLOWED);
-        }
-        let numbers = self.numbers;
-        Number::Is(numbers[index])
-    }
-
-    // A Set of one setting: accepted with the new table, or refused 10 with the nearest allowed number; 12 for a table that is not
-    // allowed or a place past it.
-    pub fn set(self, index: usize, number: u16) -> Change
-        ensures { λ r. ⌜ r ≡ setTo self index number ⌝ }
-    {
-        if !self.is_allowed() {
-            return refused(self, NOT_ALLOWED, 0);
-        }
-        if COUNT <= index {
-            return refused(self, NOT_ALLOWED, 0);
-        }
-        let mut numbers = self.numbers;
-        let other = columns::partner_of(index);
-        let partner = numbers[other];
-        if !rules::allowed_for(index, number, partner) {
-            return refused(
-                self,
-                NUMBER_NOT_ALLOWED,
-                window::nearest_of(index, number, partner),
-            );
-        }
-        numbers[index] = number;
-        Change {
-            answer: Answer::Accepted,
-            table: Table { numbers },
-        }
-    }
+// Whether every number is in its own range and every pair agrees. The numbers of all settings are asked about at once, because a column
+// that is named is made anew.
+pub fn all_allowed(numbers: [u16; COUNT]) -> bool
+    ensures { λ r. ⌜ r ≡ allAllowed numbers ⌝ }
+{
+    rules::all_in_range(numbers) & rules::all_agree(numbers)
 }
 
-// A refused Set leaves the table as it was.
-fn refused(table: Table, number: u8, nearest: u16) -> Change
-    ensures { λ r. ⌜ r ≡ record { answer = Answer.Refused number nearest; table = table } ⌝ }
+// The factory numbers of all settings.
+pub fn factory_numbers() -> [u16; COUNT]
+    ensures { λ r. ⌜ r ≡ factories ⌝ }
 {
-    Change {
-        answer: Answer::Refused { number, nearest },
-        table,
-    }
+    columns::FACTORIES
 }

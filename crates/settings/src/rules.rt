@@ -4,7 +4,7 @@ ghost use mathlib.Core.Path.{_≡_};
 ghost use lib.ListN.{getD};
 ghost use Rattle.laws.specs.Lists.{upTo};
 ghost use Rattle.settings.specs.Columns.{count, partnerAt, roleAt};
-ghost use Rattle.settings.specs.Rules.{inWindow, inRange, lowAgrees, highAgrees, agrees, allowedFor, allowed};
+ghost use Rattle.settings.specs.Rules.{inWindow, inRange, lowAgrees, highAgrees, agrees, allowedFor};
 ghost use Rattle.settings.specs.Calls.{partnerFits};
 use crate::COUNT;
 use crate::columns;
@@ -75,7 +75,7 @@ pub(crate) fn is_fit(index: usize, partner: u16) -> bool
 }
 
 // Every number is in its own range. The columns are fetched once, and not again for each number.
-fn all_in_range(numbers: [u16; COUNT]) -> bool
+pub(crate) fn all_in_range(numbers: [u16; COUNT]) -> bool
     ensures { λ r. ⌜ r ≡ upTo count (λ k. inRange k (getD numbers k 0)) ⌝ }
 {
     let zeros = columns::zeros();
@@ -91,7 +91,7 @@ fn all_in_range(numbers: [u16; COUNT]) -> bool
 }
 
 // Every number agrees with its partner's. The first of each pair is asked: the second agrees when it does.
-fn all_agree(numbers: [u16; COUNT]) -> bool
+pub(crate) fn all_agree(numbers: [u16; COUNT]) -> bool
     ensures { λ r. ⌜ r ≡ upTo count (λ k. agrees (roleAt k) (getD numbers k 0) (getD numbers (partnerAt k) 0)) ⌝ }
 {
     let firsts = columns::firsts();
@@ -106,11 +106,4 @@ fn all_agree(numbers: [u16; COUNT]) -> bool
         i += 1;
     }
     all
-}
-
-// Every number is in its own range, and every pair agrees.
-pub(crate) fn all_allowed(numbers: [u16; COUNT]) -> bool
-    ensures { λ r. ⌜ r ≡ allowed (record { numbers = numbers }) ⌝ }
-{
-    all_in_range(numbers) & all_agree(numbers)
 }

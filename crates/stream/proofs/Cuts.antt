@@ -111,7 +111,7 @@ first-end u (b ∷ rest) = by (ends u b) refl (first-end (next u b) rest)
           one-there = λ h. rw (e, none-ends u b e) (later .one-there (le-of-suc-le-suc (rw e at h)));
         }
 
--- One call, from any state that bytes left: the reading stands where the earlier bytes left it.
+-- One call, from any state that bytes left: the reading is where the earlier bytes left it.
 
 abbrev Reads : List ℕ → List ℕ → Step Held Ended → Type 0
 Reads = cutting.Reads hears (λ (e : List ℕ). heldOf (leftBy e)) (λ (e : List ℕ). framesFrom (leftBy e)) (λ (e xs : List ℕ). e ++ xs)

@@ -44,7 +44,7 @@ hear-frame u xs b ys f quiet ending e =
     let frames : framesFrom u (xs ++ b ∷ []) ≡ f ∷ [] = frames-append u xs (b ∷ []) ∙ rw (quiet, e) in
     rw (bytes, left-append u xs (b ∷ []), frames, quiet-then u xs b ys quiet ending)
 
--- behind bytes that end no frame, what is heard is what is heard from where they leave
+-- after bytes that end no frame, what is heard is what is heard from where they leave
 abbrev pub behind : ℕ → Given Heard → Given Heard
 behind n g =
     record { answer = record { held = g .answer .held; event = g .answer .event; taken = n + g .answer .taken }; written = g .written }
@@ -64,7 +64,7 @@ module _ (chars piece : List ℕ) where
       hear-nothing (inside chars) piece (stay-frames chars piece staying)
       ∙ ap (λ (u : Unfinished). heardNothing u (length piece)) (stay-left chars piece staying)
 
-  -- the byte at that place, with what stands before and behind it
+  -- the byte at that place, with what is before and after it
   module _ (h : before endsFrame piece < length piece) where
     ends-at : (b : ℕ) → getD piece (before endsFrame piece) 0 ≡ b → (f : Ended) → ends (inside (chars ++ take (before endsFrame piece) piece)) b ≡ true → endedBy (inside (chars ++ take (before endsFrame piece) piece)) b ≡ f ∷ []
         → heardOf (inside chars) piece ≡ heardFrame (next (inside (chars ++ take (before endsFrame piece) piece)) b) f (before endsFrame piece + 1)
@@ -86,7 +86,7 @@ module _ (chars piece : List ℕ) where
         → heardOf (inside chars) piece ≡ heardFrame outside (bodySays (chars ++ take (before endsFrame piece) piece)) (before endsFrame piece + 1)
     inside-newline is = ends-at newline is _ refl refl
 
--- Right behind a colon, in the words of the code: `end` is the first place of a newline or a colon.
+-- Right after a colon, in the words of the code: `end` is the first place of a newline or a colon.
 
 pub begun-more : (piece : List ℕ) (b held : Held) → b ≡ heldOf (inside []) → held ≡ heldOf (inside (take (b .len) (b .chars) ++ piece)) → held ≡ heldOf (inside piece)
 unfolding heldOf

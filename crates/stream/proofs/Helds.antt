@@ -43,7 +43,7 @@ pub copied : (from into : List ℕ) {last : List ℕ} → last ≡ take (length 
 unfolding overlaid
 copied from into e = rw (take-length from) at e
 
--- characters in front, more behind them, and zeros up to a fixed room
+-- characters in front, more after them, and zeros up to a fixed room
 padded-behind : (front more zeros last : List ℕ) (k m : ℕ) → zeros ≡ replicate k 0 → k ≤ m → last ≡ overlaid (take (min (length more) k) more) (take k zeros)
     → front ++ (last ++ drop k zeros) ≡ take (length front + k) ((front ++ more) ++ replicate m 0)
 unfolding overlaid
@@ -84,7 +84,7 @@ module _ (h : Held) (ok : allowed h ≡ true) (long : length (h .chars) ≡ 74) 
   rest-zero : drop (h .len) (h .chars) ≡ replicate (74 - h .len) 0
   rest-zero = every-zero (drop (h .len) (h .chars)) (allowed-zero h ok) ∙ rw (length-drop, long)
 
--- more characters behind those that are held, none of them past the 74th
+-- more characters after those that are held, none of them past the 74th
 module _ (h : Held) (ok : allowed h ≡ true) (long : length (h .chars) ≡ 74) (more : List ℕ) where
   more-len : h .len + min (length more) (74 - h .len) ≡ min 74 (length (take (h .len) (h .chars) ++ more))
   more-len = rw (length-append, length-kept h ok long) (omega (arith, allowed-few h ok))

@@ -1,4 +1,4 @@
--- Laws of the stream's definitions: rows of bytes one behind the other, rows that end no frame, and the place where the first frame
+-- Laws of the stream's definitions: rows of bytes one after the other, rows that end no frame, and the place where the first frame
 -- ends. Assumes nothing.
 use mathlib.Core.Path.{_≡_, refl, sym, ap, _∙_}
 use mathlib.Core.Bool.{Bool, true, false, not, _||_, false≢true}
@@ -15,7 +15,7 @@ use Rattle.wire.specs.Reading.{Ended, bodySays}
 use Rattle.stream.specs.Stream.{Unfinished, outside, inside, next, endedBy, framesFrom, leftFrom, ends, firstEnd, taken}
 use Rattle.stream.specs.Calls.{stays}
 
--- Rows of bytes one behind the other.
+-- Rows of bytes one after the other.
 
 pub left-append : (u : Unfinished) (xs ys : List ℕ) → leftFrom u (xs ++ ys) ≡ leftFrom (leftFrom u xs) ys
 left-append u [] ys = refl
@@ -47,7 +47,7 @@ none-ends (inside chars) b e = by (eqb b newline) (eqb b colon) refl refl
     by false true p q = absurd (false≢true (sym (simp (p, q) at e)))
     by false false p q = simp (p, q)
 
--- A row that ends no frame is taken whole, and the first end behind it is where it would be without it.
+-- A row that ends no frame is taken whole, and the first end after it is where it would be without it.
 
 nil-left : (fs gs : List Ended) → fs ++ gs ≡ [] → fs ≡ []
 nil-left [] gs e = refl
@@ -73,12 +73,12 @@ pub taken-within : (u : Unfinished) (piece : List ℕ) → taken u piece ≤ len
 unfolding taken
 taken-within u piece = omega arith
 
--- with nothing behind it
+-- with nothing after it
 pub quiet-all : (u : Unfinished) (xs : List ℕ) → framesFrom u xs ≡ [] → taken u xs ≡ length xs
 unfolding taken
 quiet-all u xs e = let z : firstEnd u xs ≡ length xs + 0 = rw append-nil at (quiet-end u xs [] e) in omega arith
 
--- with a byte behind it that ends a frame
+-- with a byte after it that ends a frame
 pub quiet-then : (u : Unfinished) (xs : List ℕ) (b : ℕ) (ys : List ℕ) → framesFrom u xs ≡ [] → ends (leftFrom u xs) b ≡ true → taken u (xs ++ b ∷ ys) ≡ length xs + 1
 unfolding taken
 quiet-then u xs b ys e f = quiet-taken u xs (b ∷ ys) e ∙ rw f (omega arith)
@@ -123,14 +123,14 @@ noise-frames [] e = refl
 noise-frames (x ∷ xs) e =
     rw (not-true (eqb x colon) (and-left (isNoise x) (every isNoise xs) e)) (noise-frames xs (and-right (isNoise x) (every isNoise xs) e))
 
--- a colon behind them begins a frame
+-- a colon after them begins a frame
 pub colon-left : (xs : List ℕ) → every isNoise xs ≡ true → leftFrom outside (xs ++ colon ∷ []) ≡ inside []
 colon-left xs e = left-append outside xs (colon ∷ []) ∙ rw (noise-left xs e)
 
 pub colon-frames : (xs : List ℕ) → every isNoise xs ≡ true → framesFrom outside (xs ++ colon ∷ []) ≡ []
 colon-frames xs e = frames-append outside xs (colon ∷ []) ∙ rw (noise-frames xs e, noise-left xs e)
 
--- A whole frame: a colon, characters that stay in it, and a newline. What stands behind it is read as if it stood alone.
+-- A whole frame: a colon, characters that stay in it, and a newline. What is after it is read as if it stood alone.
 
 pub whole-frames : (chars rest : List ℕ) → every stays chars ≡ true → framesFrom outside ((colon ∷ chars ++ newline ∷ []) ++ rest) ≡ bodySays chars ∷ framesFrom outside rest
 whole-frames chars rest e =

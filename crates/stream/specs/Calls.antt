@@ -63,7 +63,7 @@ abbrev pub dataOfFirst : List Ended → List ℕ
 dataOfFirst [] = []
 dataOfFirst (e ∷ rest) = readAs e .written
 
--- what a piece makes of an unfinished frame: the bytes taken are read from where it stands
+-- what a piece makes of an unfinished frame: the bytes taken are read from where it is
 abbrev pub heardOf : Unfinished → List ℕ → Given Heard
 heardOf u piece =
     let bytes = take (taken u piece) piece in

@@ -9,7 +9,7 @@ use lib.Dec.{eqb}
 use Rattle.wire.specs.Frame.{colon, newline}
 use Rattle.wire.specs.Reading.{Ended, bodySays, brokenSays}
 
--- where the reading stands: outside a frame, or inside one with the characters since its colon
+-- where the reading is: outside a frame, or inside one with the characters since its colon
 pub data Unfinished : Type 0 where
   outside : Unfinished
   inside : List ℕ → Unfinished

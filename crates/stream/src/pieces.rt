@@ -58,7 +58,7 @@ fn event_of(read: Read) -> Event
     }
 }
 
-// A frame that a colon broke after so many characters: 1 if they are over 73, else 2.
+// A frame that a colon broke after this many characters: 1 if they are over 73, else 2.
 fn broken(len: usize) -> Event
     ensures { λ r. ⌜ r ≡ eventFrom (readAs (brokenSays len) .answer) ⌝ }
 {
@@ -101,7 +101,7 @@ fn in_frame(held: Held, piece: &[u8], into: &mut [u8]) -> Heard
     }
 }
 
-// The call right behind a colon: a frame that ends within the piece is read where it stands, and nothing of it is held.
+// The call right after a colon: a frame that ends within the piece is read where it is, and nothing of it is held.
 fn fresh(piece: &[u8], into: &mut [u8]) -> Heard
     requires { ⌜ 35 ≤ length (now into) ⌝ }
     ensures { λ r. ⌜ Gives Heard (heardOf (inside []) (now (piece .entry))) (now (into .entry)) r (now (into .exit)) ⌝ }

@@ -8,7 +8,7 @@ use lib.ListN.{length}
 use lib.Dec.{leb}
 use Rattle.laws.proofs.Bools.{and-left, and-right}
 use Rattle.settings.specs.Columns.{count}
-use Rattle.settings.specs.declared.Table.{Table}
+use Rattle.tables.specs.declared.Table.{Table}
 use Rattle.restore.specs.Order.{dueSets}
 use Rattle.restore.specs.Calls.{bothAllowed, listedAs, unlisted, listing}
 use Rattle.restore.specs.declared.Listed.{Listed}

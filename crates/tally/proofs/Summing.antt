@@ -102,7 +102,7 @@ shares unread e =
       due-few = omega arith;
     }
 
--- A tally that has room for so many more.
+-- A tally that has room for this many more.
 record Room (t : Tally) (n : ℕ) : Type 0 where
   pub done-room : t .done + 26 * n ≤ most
   pub equal-room : t .equal + 26 * n ≤ most

@@ -35,7 +35,7 @@ abbrev pub addUp : (Result → ℕ) → List Result → ℕ
 addUp n [] = zero
 addUp n (r ∷ more) = n r + addUp n more
 
--- where a follower stands, by its own word
+-- how far a follower is, by its own word
 abbrev pub isDone : Outcome → Bool
 isDone (Outcome.Waiting due) = false
 isDone Outcome.Equal = false

@@ -15,7 +15,7 @@ pub data Result : Type 0 where
   silent : Result
   unread : Result
 
--- so many trailers of each kind, and no Set
+-- this many trailers of each kind, and no Set
 abbrev pub tallyOf : ℕ → ℕ → ℕ → ℕ → ℕ → Tally
 tallyOf done equal stopped mute unbegun =
     record { done = done; equal = equal; stopped = stopped; silent = mute; unread = unbegun; confirmed = zero; due = zero }
@@ -35,7 +35,7 @@ hasEnded (Outcome.Refused number) = false
 abbrev pub stoppedAs : Bool → Tally
 stoppedAs answered = cond answered (tallyOf 0 0 1 0 0) (tallyOf 0 0 0 1 0)
 
--- one trailer, by where its follower stands; nothing where that is no end
+-- one trailer, by where its follower is; nothing where that is no end
 abbrev pub endedAs : Outcome → Bool → Tally
 endedAs (Outcome.Waiting due) answered = nothing
 endedAs Outcome.Equal answered = tallyOf 0 1 0 0 0
@@ -43,12 +43,12 @@ endedAs Outcome.Done answered = tallyOf 1 0 0 0 0
 endedAs (Outcome.Stopped due) answered = stoppedAs answered
 endedAs (Outcome.Refused number) answered = nothing
 
--- with so many Sets confirmed, of so many that were due
+-- with this many Sets confirmed, of this many that were due
 abbrev pub withSets : Tally → ℕ → ℕ → Tally
 withSets t confirmed due =
     record { done = t .done; equal = t .equal; stopped = t .stopped; silent = t .silent; unread = t .unread; confirmed = confirmed; due = due }
 
--- What one trailer adds: where its follower stands, the Sets that its follower counted as confirmed, and those of its list.
+-- What one trailer adds: where its follower is, the Sets that its follower counted as confirmed, and those of its list.
 abbrev pub shareOf : Result → Tally
 shareOf (restored f answered) = withSets (endedAs (standing f) answered) (f .confirmed) (total f)
 shareOf silent = tallyOf 0 0 0 1 0

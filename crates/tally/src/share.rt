@@ -9,9 +9,9 @@ use crate::Tally;
 use crate::numbers;
 use follow::Outcome;
 use restore::Listed;
-use settings::Table;
+use tables::Table;
 
-// So many trailers of each kind, and no Set.
+// This many trailers of each kind, and no Set.
 pub(crate) fn tally_of(
     done: usize,
     equal: usize,
@@ -67,7 +67,7 @@ fn stopped_as(answered: bool) -> Tally
     tally_of(0, 0, 0, 1, 0)
 }
 
-// One trailer, by where its follower stands.
+// One trailer, by where its follower is.
 fn ended_as(outcome: Outcome, answered: bool) -> Tally
     ensures { λ r. ⌜ r ≡ endedAs outcome answered ⌝ }
 {

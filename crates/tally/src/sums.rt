@@ -60,7 +60,7 @@ pub(crate) fn accepted(tally: Tally) -> Counted
     }
 }
 
-// A follower tells where it stands and its own count when it is told of a refused frame, which changes nothing.
+// A follower tells where it is and its own count when it is told of a refused frame, which changes nothing.
 pub(crate) fn with_follower(tally: Tally, follower: Follower, answered: bool) -> Counted
     requires { ⌜ tallyAllowed tally ≡ true ⌝ }
     ensures { λ r. ⌜ r ≡ calls.counting tally (restored follower answered) ⌝ }

@@ -6,7 +6,7 @@ use board::Board;
 // The room that the longest reply takes.
 const REPLY_ROOM: usize = 75;
 
-// A device that said nothing in so many reads, a second each, is done with: a day.
+// A device that said nothing in this many reads, a second each, is done with: a day.
 const MOST_QUIET: usize = 86400;
 
 // The board after a read, and what the read gave: bytes, nothing, or an end.

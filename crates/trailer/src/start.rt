@@ -3,7 +3,7 @@ use crate::words;
 use backup::Verdict as Read;
 use board::Board;
 use board::Judged;
-use settings::Table;
+use tables::Table;
 use who::Verdict;
 
 // The board of document 01's worked lines.

@@ -1,4 +1,4 @@
--- A serial in the identity's own array, with zeros behind it. Assumes nothing.
+-- A serial in the identity's own array, with zeros after it. Assumes nothing.
 use mathlib.Core.Path.{_≡_, sym, ap, _∙_}
 use mathlib.Core.Bool.{true}
 use mathlib.Core.List.{List, _++_}
@@ -19,7 +19,7 @@ drop-replicate zero m a = let same : m ≡ m - 0 = omega arith in ap (λ (k : �
 drop-replicate (suc n) zero a = let none : 0 ≡ 0 - suc n = omega arith in ap (λ (k : ℕ). replicate k a) none
 drop-replicate (suc n) (suc m) a = let same : m - n ≡ suc m - suc n = omega arith in drop-replicate n m a ∙ ap (λ (k : ℕ). replicate k a) same
 
--- what stands in an array of 32 with zeros behind it
+-- what is in an array of 32 with zeros after it
 pub filled : (front s : List ℕ) → s ≡ front ++ replicate (32 - length front) 0 → overlaid front noSerial ≡ s
 unfolding overlaid noSerial
 filled front s e = ap (λ (t : List ℕ). front ++ t) (drop-replicate (length front) 32 0) ∙ sym e

@@ -1,4 +1,5 @@
--- Document 01: who a board is, and what it has measured. Read them in this order.
+-- Document 01: who a board is, what it has measured, and what of it is read out. Read them in this order.
 pub mod Parts
+pub mod Values
 pub mod Calls
 pub mod Laws

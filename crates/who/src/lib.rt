@@ -1,10 +1,11 @@
-// Who a board is, and what it measures. Every call takes anything, and its promise fixes its answer (specs/Calls.antt).
+// Who a board is, what it measures, and what of it is read out. Every call takes anything, and its promise fixes its answer (specs/Calls.antt).
 ghost use mathlib.Core.Path.{_≡_};
 ghost use Rattle.who.specs.Parts.{identityAllowed, noReadings};
-ghost use Rattle.who.specs.Calls.{naming};
+ghost use Rattle.who.specs.Calls.{naming, readingOut};
 
 mod names;
 mod numbers;
+mod values;
 
 // Who a board is: product and version of two bytes, and a serial of 0 to 32 bytes; past its length the array is 0.
 pub struct Identity {
@@ -33,6 +34,18 @@ pub struct Readings {
     pub fine: i32,
     pub consumed: i32,
     pub charge: u16,
+}
+
+// A read-only value of up to 32 bytes: they fill the front of the array, and the rest is 0.
+pub struct Value {
+    pub len: usize,
+    pub bytes: [u8; numbers::MOST_SERIAL],
+}
+
+// What an id reads out: its value, or the number of the refusal and no value.
+pub struct Looked {
+    pub verdict: Verdict,
+    pub value: Value,
 }
 
 impl Identity {
@@ -74,4 +87,14 @@ impl Readings {
             charge: 0,
         }
     }
+}
+
+// The value of a read-only id: 12 for an identity that is not allowed, then 7 for an id that is not read-only.
+pub fn read_only(identity: Identity, readings: Readings, id: u16) -> Looked
+    ensures { λ r. ⌜ r ≡ readingOut identity readings id ⌝ }
+{
+    if !names::is_identity(identity) {
+        return values::refused(numbers::NOT_ALLOWED);
+    }
+    values::looked(identity, readings, id)
 }

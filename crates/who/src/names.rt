@@ -16,7 +16,7 @@ fn is_within(low: u8, b: u8, high: u8) -> bool
     (low <= b) & (b <= high)
 }
 
-// Every byte is: those of a serial, and the zeros behind it.
+// Every byte is: those of a serial, and the zeros after it.
 fn all_within(bytes: &[u8], low: u8, high: u8) -> bool
     ensures { λ r. ⌜ r ≡ every (λ b. leb low b && leb b high) (now (bytes .entry)) ⌝ }
 {

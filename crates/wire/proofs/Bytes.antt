@@ -31,7 +31,7 @@ bytesOf-short [] h = refl
 bytesOf-short (x ∷ []) h = refl
 bytesOf-short (x ∷ y ∷ rest) h = absurd (not-suc-le-zero (le-of-suc-le-suc (le-of-suc-le-suc h)))
 
--- writing: the digits of one byte, and then of those behind it
+-- writing: the digits of one byte, and then of those after it
 pub digits-turn : (bytes : List ℕ) (i : ℕ) → i < length bytes → (out : List ℕ) (at : ℕ)
     → sets (sets out (at + 2 * i) (digitsOf (getD bytes i 0 ∷ []))) (at + 2 * (i + 1)) (digitsOf (drop (i + 1) bytes))
     ≡ sets out (at + 2 * i) (digitsOf (drop i bytes))
@@ -39,7 +39,7 @@ digits-turn bytes i h out at =
     let e : at + 2 * (i + 1) ≡ suc (suc (at + 2 * i)) = omega arith in
     rw (drop-turn bytes i h, e)
 
--- reading: the byte of two digits, and then those behind it
+-- reading: the byte of two digits, and then those after it
 pub bytes-turn : (chars : List ℕ) (i : ℕ) → 2 * i + 2 < length chars → (into : List ℕ)
     → sets (set into i (nibble (getD chars (2 * i + 1) 0) * 16 + nibble (getD chars (2 * i + 2) 0))) (i + 1) (bytesOf (drop (2 * (i + 1) + 1) chars))
     ≡ sets into i (bytesOf (drop (2 * i + 1) chars))

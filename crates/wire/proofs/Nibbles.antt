@@ -35,7 +35,7 @@ nibble-none : (c : ℕ) → (leb 48 c && leb c 57) ≡ false → (leb 65 c && le
 unfolding nibble
 nibble-none c p q = simp (p, q)
 
--- a character is a digit by where it stands
+-- a character is a digit by where it is
 pub digit-test : (c : ℕ) → ((leb 48 c && leb c 57) || (leb 65 c && leb c 70)) ≡ isDigit c
 digit-test c = by (leb 48 c && leb c 57) (leb 65 c && leb c 70) refl refl
   where

@@ -165,7 +165,7 @@ bytes-small (x ∷ y ∷ rest) e =
     let two : nibble y < 16 = two-second x y rest e in
     rw (lt-ltb (nibble x * 16 + nibble y) 256 (omega arith)) (bytes-small rest (two-rest x y rest e))
 
--- the payload is the data and one byte behind them
+-- the payload is the data and one byte after them
 last-behind : (l : List ℕ) → 0 < length l → l ≡ take (length l - 1) l ++ getD l (length l - 1) 0 ∷ []
 last-behind l h =
     let here : length l - 1 < length l = omega arith in

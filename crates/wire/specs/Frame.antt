@@ -39,7 +39,7 @@ abbrev pub digitsOf : List ℕ → List ℕ
 digitsOf [] = []
 digitsOf (b ∷ bs) = digit (b / 16) ∷ digit (b % 16) ∷ digitsOf bs
 
--- what stands between colon and newline
+-- what is between colon and newline
 unfoldable pub body : ℕ → List ℕ → List ℕ
 body command bytes = digit command ∷ digitsOf (bytes ++ check command bytes ∷ [])
 

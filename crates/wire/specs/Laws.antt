@@ -36,7 +36,7 @@ pub record Writable (command : ℕ) (bytes : List ℕ) : Type 0 where
   pub few : length bytes ≤ mostData
   pub small : Bytes bytes
 
--- 3. A number written in so many bytes is read back from them, and bytes are those of their number; and so is a whole number in two's
+-- 3. A number written in this many bytes is read back from them, and bytes are those of their number; and so is a whole number in two's
 -- complement read back: a negative one has the magnitude that it exceeds -1 by.
 abbrev pub LittleIsRead : Type 0
 LittleIsRead = (width n : ℕ) → n < 256 ^ width → fromLittle (little width n) ≡ n

@@ -6,7 +6,7 @@ use mathlib.Core.List.{List, [], _∷_}
 use lib.IntN.{ℤ, pos, negsuc}
 use lib.Dec.{ltb}
 
--- a number in so many bytes, and the number of some bytes
+-- a number in this many bytes, and the number of some bytes
 abbrev pub little : ℕ → ℕ → List ℕ
 little zero n = []
 little (suc width) n = (n % 256) ∷ little width (n / 256)
@@ -15,7 +15,7 @@ abbrev pub fromLittle : List ℕ → ℕ
 fromLittle [] = 0
 fromLittle (b ∷ bs) = b + 256 * fromLittle bs
 
--- a whole number in two's complement of so many bytes, and the whole number that it stands for
+-- a whole number in two's complement of this many bytes, and the whole number that it stands for
 abbrev pub complement : ℕ → ℤ → ℕ
 complement width (pos n) = n
 complement width (negsuc n) = 256 ^ width - suc n

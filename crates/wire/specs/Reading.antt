@@ -22,7 +22,7 @@ bytesOf (x ∷ y ∷ rest) = (nibble x * 16 + nibble y) ∷ bytesOf rest
 abbrev pub commandOf : List ℕ → ℕ
 commandOf chars = nibble (getD chars 0 0)
 
--- the data bytes with the check byte behind them
+-- the data bytes with the check byte after them
 abbrev pub payloadOf : List ℕ → List ℕ
 payloadOf chars = bytesOf (drop 1 chars)
 
@@ -46,6 +46,6 @@ bodySays chars =
     (cond (not (sumsUp chars)) (refused 4)
     (good (commandOf chars) (dataOf chars)))))
 
--- ended by a colon after so many characters: 2 "a colon broke it", after 1
+-- ended by a colon after this many characters: 2 "a colon broke it", after 1
 unfoldable pub brokenSays : ℕ → Ended
 brokenSays count = cond (ltb mostChars count) (refused 1) (refused 2)

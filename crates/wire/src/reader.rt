@@ -46,7 +46,7 @@ pub(crate) fn bad_count(n: usize) -> bool
     n < 3 || n % 2 == 0
 }
 
-// The bytes behind the command, the check byte last, at the front of an array that has room for them all.
+// The bytes after the command, the check byte last, at the front of an array that has room for them all.
 fn payload_of(chars: &[u8]) -> [u8; MOST_PAYLOAD]
     requires { ⌜ (length (now chars) ≤ 73) × (every isDigit (now chars) ≡ true) ⌝ }
     ensures { λ r. ⌜ (length r ≡ 36) × (take (length (payloadOf (now (chars .entry)))) r ≡ payloadOf (now (chars .entry))) ⌝ }

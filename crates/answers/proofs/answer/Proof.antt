@@ -3,7 +3,7 @@ use mathlib.Core.Path.{_≡_, ap, _∙_}
 use mathlib.Core.Bool.{true, false, _&&_}
 use borrow.Author.Tests.{not-true, not-false}
 use Rattle.laws.proofs.Bools.{and-left}
-use Rattle.settings.specs.Rules.{allowed}
+use Rattle.tables.specs.Rules.{allowed}
 use Rattle.who.specs.Parts.{identityAllowed}
 use Rattle.answers.specs.AsHeld.{decidedOf}
 use Rattle.answers.proofs.Deciding.{answer-refused, answer-given}

@@ -2,7 +2,7 @@
 use mathlib.Core.Path.{_≡_, sym, ap, _∙_}
 use Prim.Native.Nat.{_-_, _<_, _≤_}
 use borrow.Author.Tests.{not-true, not-false}
-use Rattle.settings.specs.Rules.{allowed}
+use Rattle.tables.specs.Rules.{allowed}
 use Rattle.restore.specs.Order.{order, wanted, dueSets}
 use Rattle.restore.specs.declared.Due.{Due}
 use Rattle.laws.proofs.Bools.{and-right}

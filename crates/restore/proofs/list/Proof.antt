@@ -2,7 +2,7 @@
 use mathlib.Core.Path.{_≡_, sym, _∙_}
 use Prim.Native.Nat.{_-_}
 use borrow.Author.Tests.{not-true, not-false}
-use Rattle.settings.specs.Rules.{allowed}
+use Rattle.tables.specs.Rules.{allowed}
 use Rattle.laws.proofs.Bools.{and-right}
 use Rattle.laws.proofs.Promise.{gives-none}
 use lib.ListN.{length}

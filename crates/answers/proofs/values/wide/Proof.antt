@@ -1,27 +1,34 @@
 -- `answers::values::wide` meets its contract. Assumes nothing.
-use mathlib.Core.Path.{_≡_, ap, _∙_}
-use Prim.Native.Nat.{ℕ}
+use mathlib.Core.Path.{_≡_}
 use native.Mathlib.Omega.{arith}
-use Rattle.wire.specs.Numbers.{little}
-use Rattle.answers.specs.AsHeld.{valueOf}
+use borrow.Author.Needs.{needs}
+use Rattle.laws.specs.Promise.{overlaid}
+use Rattle.who.specs.Parts.{noSerial}
+use Rattle.who.specs.Calls.{valueOf}
 use Rattle.answers.proofs.values.wide.Statement.{statement}
 use Rattle.answers.proofs.values.wide.Tie as tie
 
-single-requires : tie.Need-single-requires
-single-requires c κs = tt
+cast-bytes : tie.Need-cast-bytes
+cast-bytes c = search needs
 
-two-requires : tie.Need-two-requires
-two-requires c κs = tt
+array-write-bytes : tie.Need-array-write-bytes
+array-write-bytes c = search needs
 
 returns : tie.Need-returns
-returns c = c .single .ensures ∙ rw (c .before .if1 .taken)
+unfolding valueOf overlaid noSerial
+returns c = rw (c .if1 .taken)
+
+cast-bytes-2 : tie.Need-cast-bytes-2
+cast-bytes-2 c = search needs
+
+array-write-bytes-2 : tie.Need-array-write-bytes-2
+array-write-bytes-2 c = search needs
 
 returns-2 : tie.Need-returns-2
+unfolding valueOf overlaid noSerial
 returns-2 c =
-    let start = c .before .before in
-    let is : 2 ≡ start .args .width = omega (arith, start .pre .0, start .pre .1, c .before .if1 .left) in
-    c .two .ensures ∙ ap (λ (w : ℕ). valueOf (little w (start .args .n))) is
+    let two : c .before .args .width ≡ 2 = omega (arith, c .before .pre .0, c .before .pre .1, c .if1 .left) in
+    rw two
 
 pub wide-spec : {M : Type 1} → statement M
-wide-spec =
-    tie.close (tie.spec single-requires returns two-requires returns-2)
+wide-spec = tie.close (tie.spec cast-bytes array-write-bytes returns cast-bytes-2 array-write-bytes-2 returns-2)

@@ -13,7 +13,7 @@ use native.Mathlib.Omega.{arith}
 use Rattle.collect.proofs.verdict.of_value.Statement.{statement}
 use Rattle.collect.proofs.verdict.of_value.Tie as tie
 
--- the number behind the first three bytes
+-- the number after the first three bytes
 number-is : (c : tie.After-number-of) → c .number-of .result ≡ fromLittle (drop 3 (now (c .before .before .before .before .before .before .args .bytes)))
 number-is c = c .number-of .ensures ∙ ap fromLittle (part-to-end (now (c .before .before .before .before .before .before .args .bytes)) _ 3 refl)
 

@@ -1,7 +1,4 @@
 -- `follow::state::answered` meets its contract. Assumes nothing.
-use mathlib.Core.Path.{ap}
-use Prim.Native.Nat.{_-_}
-use Rattle.follow.specs.declared.Outcome.{Outcome}
 use borrow.Author.Needs.{needs}
 use Rattle.follow.proofs.state.answered.Statement.{statement}
 use Rattle.follow.proofs.state.answered.Tie as tie
@@ -10,7 +7,7 @@ standing-of-requires : tie.Need-standing-of-requires
 standing-of-requires c κs = search needs
 
 returns : tie.Need-returns
-returns c = ap (λ (o : Outcome). record { follower = c .before .args .follower; outcome = o; confirmed = c .before .args .follower .confirmed }) (c .standing-of .ensures)
+returns c = rw (c .standing-of .ensures)
 
 pub answered-spec : {M : Type 1} → statement M
 answered-spec = tie.close (tie.spec standing-of-requires returns)

@@ -1,10 +1,7 @@
 -- `reply::units::amperes` meets its contract. Assumes nothing.
 use mathlib.Core.Path.{sym, _∙_}
 use borrow.Author.Tests.{eq-eqb, ne-eqb}
-use mir.Syntax.{w16}
-use mir.Val.{SFits}
-use mir.ValLaws.{toZ-ofZ}
-use Rattle.reply.specs.Units.{inAmperes, over}
+use Rattle.reply.specs.Units.{inAmperes}
 use borrow.Author.Needs.{needs}
 use Rattle.reply.proofs.units.amperes.Statement.{statement}
 use Rattle.reply.proofs.units.amperes.Tie as tie
@@ -16,32 +13,12 @@ returns : tie.Need-returns
 unfolding inAmperes
 returns c = c .wrong-width .ensures ∙ sym (rw (ne-eqb _ 2 (c .before .if1 .taken)))
 
-two-requires : tie.Need-two-requires
-two-requires c κs = search needs
-
-signed-16-requires : tie.Need-signed-16-requires
-signed-16-requires c κs = search needs
-
-int-to-float-t6 : tie.Need-int-to-float-t6
-int-to-float-t6 c = search needs
-
-int-to-float-t7 : tie.Need-int-to-float-t7
-int-to-float-t7 c = search needs
+over-16-requires : tie.Need-over-16-requires
+over-16-requires c κs = search needs
 
 returns-2 : tie.Need-returns-2
-unfolding inAmperes over
-returns-2 c =
-    let fits : SFits w16 (c .before .signed-16 .result) = search needs in
-    rw (eq-eqb _ 2 (c .before .before .before .if1 .left), toZ-ofZ w16 _ fits, c .before .signed-16 .ensures, c .before .before .two .ensures)
+unfolding inAmperes
+returns-2 c = rw (eq-eqb _ 2 (c .before .if1 .left), c .over-16 .ensures)
 
 pub amperes-spec : {M : Type 1} → statement M
-amperes-spec =
-    tie.close
-    (tie.spec
-    wrong-width-requires
-    returns
-    two-requires
-    signed-16-requires
-    int-to-float-t6
-    int-to-float-t7
-    returns-2)
+amperes-spec = tie.close (tie.spec wrong-width-requires returns over-16-requires returns-2)

@@ -1,10 +1,7 @@
 -- `reply::units::fine_amperes` meets its contract. Assumes nothing.
 use mathlib.Core.Path.{sym, _∙_}
 use borrow.Author.Tests.{eq-eqb, ne-eqb}
-use mir.Syntax.{w32}
-use mir.Val.{SFits}
-use mir.ValLaws.{toZ-ofZ}
-use Rattle.reply.specs.Units.{inFineAmperes, over}
+use Rattle.reply.specs.Units.{inFineAmperes}
 use borrow.Author.Needs.{needs}
 use Rattle.reply.proofs.units.fine_amperes.Statement.{statement}
 use Rattle.reply.proofs.units.fine_amperes.Tie as tie
@@ -16,32 +13,12 @@ returns : tie.Need-returns
 unfolding inFineAmperes
 returns c = c .wrong-width .ensures ∙ sym (rw (ne-eqb _ 4 (c .before .if1 .taken)))
 
-four-requires : tie.Need-four-requires
-four-requires c κs = search needs
-
-signed-32-requires : tie.Need-signed-32-requires
-signed-32-requires c κs = search needs
-
-int-to-float-t6 : tie.Need-int-to-float-t6
-int-to-float-t6 c = search needs
-
-int-to-float-t7 : tie.Need-int-to-float-t7
-int-to-float-t7 c = search needs
+over-32-requires : tie.Need-over-32-requires
+over-32-requires c κs = search needs
 
 returns-2 : tie.Need-returns-2
-unfolding inFineAmperes over
-returns-2 c =
-    let fits : SFits w32 (c .before .signed-32 .result) = search needs in
-    rw (eq-eqb _ 4 (c .before .before .before .if1 .left), toZ-ofZ w32 _ fits, c .before .signed-32 .ensures, c .before .before .four .ensures)
+unfolding inFineAmperes
+returns-2 c = rw (eq-eqb _ 4 (c .before .if1 .left), c .over-32 .ensures)
 
 pub fine-amperes-spec : {M : Type 1} → statement M
-fine-amperes-spec =
-    tie.close
-    (tie.spec
-    wrong-width-requires
-    returns
-    four-requires
-    signed-32-requires
-    int-to-float-t6
-    int-to-float-t7
-    returns-2)
+fine-amperes-spec = tie.close (tie.spec wrong-width-requires returns over-32-requires returns-2)

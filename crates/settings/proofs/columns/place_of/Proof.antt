@@ -1,5 +1,5 @@
 -- `settings::columns::place_of` meets its contract. Assumes nothing.
-use Prim.Native.Nat.{_+_, _≤_, _-_}
+use Prim.Native.Nat.{_+_, _≤_, _<_, _-_}
 use mathlib.Core.Path.{_≡_, sym, _∙_}
 use native.Mathlib.Omega.{arith}
 use borrow.Author.Tests.{eq-eqb, ne-eqb}
@@ -18,6 +18,10 @@ Inv-loop id i₀ i = (i ≤ count) × (i + before (λ x. eqb x id) (drop i ids) 
 abbrev μ-loop : tie.MeasureT-loop
 μ-loop id i₀ i = count - i
 
+-- inside the loop the place is one of the table
+within : (c : tie.In-loop Inv-loop μ-loop) → c .before .loop .i < count
+within c = omega arith
+
 loop-holds : tie.Need-loop-holds Inv-loop μ-loop
 unfolding placeOf
 loop-holds c = (omega arith, omega arith)
@@ -26,7 +30,7 @@ id-of-requires : tie.Need-id-of-requires Inv-loop μ-loop
 id-of-requires c κs = omega arith
 
 returns : tie.Need-returns Inv-loop μ-loop
-returns c = sym (before-here ids _ (c .before .before .loop-test .taken) _ (eq-eqb _ _ (sym (c .before .id-of .ensures) ∙ c .if1 .taken))) ∙ c .before .before .before .loop .inv .1
+returns c = sym (before-here ids _ (within (c .before .before)) _ (eq-eqb _ _ (sym (c .before .id-of .ensures) ∙ c .if1 .taken))) ∙ c .before .before .before .loop .inv .1
 
 add-i : tie.Need-add-i Inv-loop μ-loop
 add-i c = omega arith
@@ -35,7 +39,7 @@ loop-less : tie.Need-loop-less Inv-loop μ-loop
 loop-less c = omega arith
 
 loop-again : tie.Need-loop-again Inv-loop μ-loop
-loop-again c = (omega arith, before-turn ids _ (c .before .before .loop-test .taken) _ (ne-eqb _ _ (λ e. c .if1 .left (c .before .id-of .ensures ∙ e))) ∙ c .before .before .before .loop .inv .1)
+loop-again c = (omega arith, before-turn ids _ (within (c .before .before)) _ (ne-eqb _ _ (λ e. c .if1 .left (c .before .id-of .ensures ∙ e))) ∙ c .before .before .before .loop .inv .1)
 
 returns-2 : tie.Need-returns-2 Inv-loop μ-loop
 returns-2 c = sym (before-end _ ids _ (c .loop-test .left)) ∙ c .before .loop .inv .1

@@ -1,0 +1,4 @@
+-- Laws of the definitions of specs/, and what the proofs of the functions cite. In those proofs `cN` is the place N steps before `c`.
+pub mod Tables
+pub mod Theorems
+pub mod Same

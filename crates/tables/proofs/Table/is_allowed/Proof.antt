@@ -1,0 +1,14 @@
+-- `tables::Table::is_allowed` meets its contract. Assumes nothing.
+use Rattle.tables.specs.Rules.{allowed}
+use Rattle.tables.proofs.Table.is_allowed.Statement.{statement}
+use Rattle.tables.proofs.Table.is_allowed.Tie as tie
+
+all-allowed-requires : tie.Need-all-allowed-requires
+all-allowed-requires c κs = tt
+
+returns : tie.Need-returns
+unfolding allowed
+returns c = rw (c .all-allowed .ensures)
+
+pub is-allowed-spec : {M : Type 1} → statement M
+is-allowed-spec = tie.close (tie.spec all-allowed-requires returns)

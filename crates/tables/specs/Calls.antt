@@ -1,0 +1,30 @@
+-- What each public call answers, for every input. Assumes nothing.
+use Prim.Native.Nat.{ℕ, zero}
+use mathlib.Core.Bool.{cond, _&&_}
+use lib.Dec.{ltb}
+use Rattle.settings.specs.Columns.{count}
+use Rattle.settings.specs.Rules.{allowedFor, nearestOf}
+use Rattle.settings.specs.Calls.{notAllowed}
+use Rattle.settings.specs.declared.Number.{Number}
+use Rattle.tables.specs.Rules.{allowed, numberAt, partnerNumber, changed}
+use Rattle.tables.specs.declared.Table.{Table}
+use Rattle.tables.specs.declared.Answer.{Answer}
+use Rattle.tables.specs.declared.Change.{Change}
+
+-- Document 01: 10 "number not allowed"
+abbrev pub numberNotAllowed : ℕ
+numberNotAllowed = 10
+
+-- a setting's number; 12 for a table that is not allowed or a place past it
+unfoldable pub holding : Table → ℕ → Number
+holding t k = cond (allowed t && ltb k count) (Number.Is (numberAt t k)) (Number.Refused notAllowed)
+
+-- A Set of one setting: 12 for a table that is not allowed or a place past it, 10 with the nearest allowed number for a number that is
+-- not allowed, and the table then as it was.
+unfoldable pub setTo : Table → ℕ → ℕ → Change
+setTo t k n =
+    cond (allowed t && ltb k count)
+    (cond (allowedFor k n (partnerNumber t k))
+    (record { answer = Answer.Accepted; table = changed t k n })
+    (record { answer = Answer.Refused numberNotAllowed (nearestOf k n (partnerNumber t k)); table = t }))
+    (record { answer = Answer.Refused notAllowed zero; table = t })

@@ -1,0 +1,101 @@
+-- Read-only values: they are bytes, and few enough for a reply. Assumes nothing.
+use mathlib.Core.Path.{_≡_, refl, _∙_}
+use mathlib.Core.Bool.{Bool, true, false, cond}
+use mathlib.Core.List.{List, [], _∷_, _++_}
+use mathlib.Core.Option.{Option, none, some}
+use Prim.Native.Nat.{ℕ, _+_, _≤_, _<_}
+use native.Mathlib.Omega.{arith}
+use borrow.Author.Tests.{lt-ltb, ltb-true, leb-true}
+use lib.Dec.{leb, ltb, eqb}
+use lib.ListN.{length, take, length-append, length-take}
+use Rattle.laws.specs.Lists.{every}
+use Rattle.laws.proofs.Bools.{and-left, and-right, both, pick}
+use Rattle.laws.proofs.Lists.{every-append}
+use Rattle.wire.specs.Numbers.{little}
+use Rattle.wire.proofs.Little.{byte, length-little, bytes-little}
+use Rattle.who.specs.Parts.{printed, serialOf, identityAllowed}
+use Rattle.who.specs.Values.{productValue, serialValue, readOnly}
+use Rattle.who.specs.Calls.{notAllowed, valueOf, noValue, lookedOf, readingOut}
+use Rattle.who.specs.Laws.{Small, small-none, small-some, ValuesFit, NothingReadsZero}
+use Rattle.who.specs.declared.Identity.{Identity}
+use Rattle.who.specs.declared.Readings.{Readings}
+use Rattle.who.proofs.Serials.{serial-within}
+
+small-little : (width n : ℕ) → width ≤ 32 → Small (some (little width n))
+small-little width n h = small-some {v = little width n} (rw (length-little width n) h) (bytes-little width n)
+
+pub looked-short : (o : Option (List ℕ)) → Small o → lookedOf o .value .len ≤ 32
+unfolding lookedOf noValue valueOf
+looked-short none small-none = leb-true 0 32 refl
+looked-short (some v) (small-some short bytes) = short
+
+-- the call, by whether the identity is allowed
+module _ (identity : Identity) (readings : Readings) (id : ℕ) where
+  pub read-refused : identityAllowed identity ≡ false → noValue notAllowed ≡ readingOut identity readings id
+  unfolding readingOut
+  read-refused e = rw e
+
+  pub read-given : identityAllowed identity ≡ true → lookedOf (readOnly identity readings id) ≡ readingOut identity readings id
+  unfolding readingOut
+  read-given e = rw e
+
+printed-bytes : (l : List ℕ) → every printed l ≡ true → every byte l ≡ true
+printed-bytes [] e = refl
+printed-bytes (b ∷ bs) e =
+    let least : b ≤ 0x7E = leb-true b 0x7E (and-right (leb 0x20 b) _ (and-left (printed b) (every printed bs) e)) in
+    let less : b < 256 = omega arith in
+    both _ _ (lt-ltb b 256 less) (printed-bytes bs (and-right (printed b) _ e))
+
+take-short : (n : ℕ) (l : List ℕ) → length (take n l) ≤ n
+take-short n l = rw (length-take n l) (omega arith)
+
+small-product : (identity : Identity) → Small (some (productValue identity))
+small-product identity =
+    small-some (leb-true 4 32 refl)
+    (every-append byte (little 2 (identity .product)) (0xFF ∷ []) ∙ both _ _ (bytes-little 2 (identity .product)) refl)
+
+module _ (identity : Identity) (ok : identityAllowed identity ≡ true) where
+  serial-short : length (serialOf identity) ≤ identity .len
+  unfolding serialOf
+  serial-short = take-short (identity .len) (identity .serial)
+
+  serial-bytes : every byte (serialOf identity) ≡ true
+  unfolding identityAllowed
+  serial-bytes = printed-bytes (serialOf identity) (and-left (every printed (serialOf identity)) _ (and-right (leb (identity .len) 32) _ ok))
+
+  -- the serial, and a zero byte after it where there is room for one
+  small-behind : (rest : List ℕ) → length rest + identity .len ≤ 32 → every byte rest ≡ true → Small (some (serialOf identity ++ rest))
+  small-behind rest h bytes =
+      let short : length (serialOf identity) ≤ identity .len = serial-short in
+      small-some {v = serialOf identity ++ rest} (rw (length-append (serialOf identity) rest) (omega arith))
+      (every-append byte (serialOf identity) rest ∙ both _ _ serial-bytes bytes)
+
+  small-serial : Small (some (serialValue identity))
+  unfolding serialValue
+  small-serial = by (ltb (identity .len) 32) refl
+    where
+      by : (b : Bool) → ltb (identity .len) 32 ≡ b → Small (some (serialOf identity ++ cond b (0 ∷ []) []))
+      by true h = let less : identity .len < 32 = ltb-true _ _ h in small-behind (0 ∷ []) (omega arith) refl
+      by false h = let most : identity .len ≤ 32 = serial-within identity ok in small-behind [] (omega arith) refl
+
+  small-read : (readings : Readings) (id : ℕ) → Small (readOnly identity readings id)
+  unfolding readOnly
+  small-read readings id =
+      let two : (n : ℕ) → Small (some (little 2 n)) = λ n. small-little 2 n (leb-true 2 32 refl) in
+      let four : (n : ℕ) → Small (some (little 4 n)) = λ n. small-little 4 n (leb-true 4 32 refl) in
+      pick Small (eqb id 0x0100) (small-product identity)
+      (pick Small (eqb id 0x010A) small-serial
+      (pick Small (eqb id 0xEEF9) (two _)
+      (pick Small (eqb id 0xED8D) (two _)
+      (pick Small (eqb id 0xED8F) (two _)
+      (pick Small (eqb id 0xED8C) (four _)
+      (pick Small (eqb id 0xEEFF) (four _)
+      (pick Small (eqb id 0x0FFF) (two _) small-none)))))))
+
+pub values-small : ValuesFit
+values-small identity readings id ok = small-read identity ok readings id
+
+-- a board that has measured nothing reads out zeros
+pub nothing-zero : NothingReadsZero
+unfolding readOnly
+nothing-zero identity = (refl, refl, refl, refl, refl)

@@ -1,0 +1,32 @@
+-- The read-only values as bytes. Document 01, "Read-only values". Assumes nothing.
+use Prim.Native.Nat.{ℕ}
+use mathlib.Core.Bool.{cond}
+use mathlib.Core.List.{List, [], _∷_, _++_}
+use mathlib.Core.Option.{Option, none, some}
+use lib.Dec.{eqb, ltb}
+use Rattle.wire.specs.Numbers.{little, complement}
+use Rattle.who.specs.Parts.{mostSerial, serialOf}
+use Rattle.who.specs.declared.Identity.{Identity}
+use Rattle.who.specs.declared.Readings.{Readings}
+
+-- "0100: four bytes 00, product low, product high, FF"
+abbrev pub productValue : Identity → List ℕ
+productValue identity = 0 ∷ little 2 (identity .product) ++ 0xFF ∷ []
+
+-- "010A: serial, 0 to 32 bytes [..], one zero byte after it if under 32"
+unfoldable pub serialValue : Identity → List ℕ
+serialValue identity = serialOf identity ++ cond (ltb (identity .len) mostSerial) (0 ∷ []) []
+
+-- "EEF9: version, 2 bytes. Readings: ED8D signed 16 [..]; ED8F signed 16 [..]; ED8C signed 32 [..]; EEFF signed 32 [..]; 0FFF unsigned 16":
+-- the value of a read-only id, and none for any other
+unfoldable pub readOnly : Identity → Readings → ℕ → Option (List ℕ)
+readOnly identity readings id =
+    cond (eqb id 0x0100) (some (productValue identity))
+    (cond (eqb id 0x010A) (some (serialValue identity))
+    (cond (eqb id 0xEEF9) (some (little 2 (identity .version)))
+    (cond (eqb id 0xED8D) (some (little 2 (complement 2 (readings .voltage))))
+    (cond (eqb id 0xED8F) (some (little 2 (complement 2 (readings .current))))
+    (cond (eqb id 0xED8C) (some (little 4 (complement 4 (readings .fine))))
+    (cond (eqb id 0xEEFF) (some (little 4 (complement 4 (readings .consumed))))
+    (cond (eqb id 0x0FFF) (some (little 2 (readings .charge)))
+    none)))))))
