@@ -1,21 +1,19 @@
--- Laws of a line: what is put behind it, cut or not. Assumes nothing.
+-- Laws of a line: what is put after it, cut or not. Assumes nothing.
 use mathlib.Core.Path.{_≡_, refl, sym, ap, ap₂, _∙_}
 use mathlib.Core.Bool.{true}
 use mathlib.Core.List.{List, [], _∷_, _++_, append-assoc, append-nil}
-use Prim.Native.Nat.{ℕ, zero, suc, _+_, _-_, _≤_, _<_, min}
-use native.Mathlib.Nat.{zero-min, min-zero, suc-min-suc}
+use Prim.Native.Nat.{ℕ, zero, suc, _+_, _-_, _≤_, min}
 use Prim.Native.String.{String}
 use native.Mathlib.Omega.{arith}
-use borrow.Author.Tests.{ltb-true}
 use borrow.Rule.Slice.PartMut.{putMid}
 use lib.ListN.{length, getD, take, drop, replicate, length-take, length-drop, length-append, length-replicate, drop-of-length-le}
-use lib.Seq.{take-all, length-take-le, take-append-add, take-take, take-append-le}
-use lib.Dec.{eqb, ltb}
+use lib.Seq.{take-length, length-take-le, take-append-add, take-take, take-append-le}
+use lib.Dec.{eqb}
 use Rattle.laws.specs.Lists.{every}
 use Rattle.laws.specs.Promise.{overlaid}
-use Rattle.laws.proofs.Bools.{and-left, and-right}
 use Rattle.laws.proofs.Lists.{padded, take-replicate, take-min, take-again, every-zero, zeros-behind}
-use Rattle.lines.specs.Lines.{most, mostText, newline, chars, blank, lineOf, textOf, adding, printed, ended, Says}
+use Rattle.lines.specs.Lines.{most, chars, blank, lineOf, textOf, adding, Says}
+use Rattle.lines.specs.Laws.{LineIsText}
 use Rattle.lines.specs.declared.Line.{Line}
 
 -- a line by its two parts
@@ -63,7 +61,12 @@ further l {m} {n} a b e f =
 pub from-start : {l m : Line} (a : List ℕ) → l ≡ lineOf [] → m ≡ adding l a → m ≡ lineOf a
 from-start a e f = f ∙ ap (λ (k : Line). adding k a) e ∙ adding-line [] a
 
--- front characters, more behind them, and zeros up to the room of a line
+-- what is copied to the front of some room overlays it
+pub copied : (from into : List ℕ) {last : List ℕ} → last ≡ take (length from) from ++ drop (length from) into → last ≡ overlaid from into
+unfolding overlaid
+copied from into e = rw (take-length from) at e
+
+-- front characters, more after them, and zeros up to the room of a line
 behind : (front more zeros last : List ℕ) (k m : ℕ) → zeros ≡ replicate k 0 → k ≤ m → last ≡ overlaid (take (min (length more) k) more) (take k zeros)
     → front ++ (last ++ drop k zeros) ≡ take (length front + k) ((front ++ more) ++ replicate m 0)
 unfolding overlaid
@@ -113,7 +116,7 @@ module _ (l : Line) (tidy : l ≡ lineOf (textOf l)) where
   tidy-text : length (textOf l) ≡ l .len
   tidy-text = length-take-le (l .len) (l .chars) (omega (arith, tidy-few, tidy-long))
 
-  -- more characters behind them, none past the 160th
+  -- more characters after them, none past the 160th
   module _ (more : List ℕ) (n : ℕ) (least : n ≡ min (length more) (most - l .len)) where
     more-len : l .len + n ≡ min most (length (textOf l ++ more))
     more-len = rw (length-append, tidy-text) (omega (arith, tidy-few))
@@ -132,66 +135,37 @@ module _ (l : Line) (tidy : l ≡ lineOf (textOf l)) where
     unfolding adding lineOf
     more-line last e = ap₂ line more-len (more-chars last e)
 
--- a line that is ended, cut at 159 characters before the newline
-take-less : (k n : ℕ) (xs : List ℕ) → take k (take n xs) ≡ take (min n k) xs
-take-less zero n xs = rw min-zero
-take-less (suc k) zero xs = rw zero-min
-take-less (suc k) (suc n) [] = rw suc-min-suc
-take-less (suc k) (suc n) (x ∷ xs) = rw (suc-min-suc, take-less k n xs)
+-- Words that a line has are words of its text, also where that is cut.
 
-pub ended-line : {n : Line} (l : Line) (k : ℕ) → k ≡ min (l .len) mostText → n ≡ adding (line k (l .chars)) (newline ∷ []) → n ≡ ended l
-unfolding adding printed
-ended-line l k e f =
-    f ∙ ap (λ (t : List ℕ). lineOf (t ++ newline ∷ [])) (ap (λ (i : ℕ). take i (l .chars)) e ∙ sym (take-less mostText (l .len) (l .chars)))
+in-front : (k : ℕ) (t w : List ℕ) → take (length w) (take k t) ≡ w → take (length w) t ≡ w
+in-front k t [] e = refl
+in-front zero t (c ∷ w) e = let z : _≡_ {A = ℕ} 0 (suc (length w)) = ap (λ (l : List ℕ). length l) e in absurd (omega arith)
+in-front (suc k) [] (c ∷ w) e = e
+in-front (suc k) (y ∷ t) (c ∷ w) e =
+    ap₂ (λ (d : ℕ) (l : List ℕ). d ∷ l) (ap (λ (l : List ℕ). getD l 0 0) e) (in-front k t w (ap (λ (l : List ℕ). drop 1 l) e))
 
-pub finished : {l n : Line} (text : List ℕ) → l ≡ lineOf text → n ≡ ended l → n ≡ printed text
-unfolding printed
-finished text e f =
-    f ∙ ap ended e ∙ ap printed (text-back text)
-    ∙ ap (λ (t : List ℕ). lineOf (t ++ newline ∷ [])) (take-take mostText most text (omega arith))
+after-front : (k : ℕ) (b t w : List ℕ) → take (length w) (drop (length b) (take k (b ++ t))) ≡ w → take (length w) t ≡ w
+after-front k [] t w e = in-front k t w e
+after-front zero (x ∷ b) t [] e = refl
+after-front zero (x ∷ b) t (c ∷ w) e = let z : _≡_ {A = ℕ} 0 (suc (length w)) = ap (λ (l : List ℕ). length l) e in absurd (omega arith)
+after-front (suc k) (x ∷ b) t w e = after-front k b t w e
 
--- a whole sentence, from its start to its newline
-pub sentence : {l m n : Line} (text : List ℕ) → l ≡ lineOf [] → m ≡ adding l text → n ≡ ended m → n ≡ printed text
-sentence text e f g = finished text (from-start text e f) g
+pub says-text : (b t : List ℕ) (words : String) → Says (lineOf (b ++ t)) (length b) words → take (length (chars words)) t ≡ chars words
+says-text b t words e =
+    after-front most b t (chars words) (ap (λ (l : List ℕ). take (length (chars words)) (drop (length b) l)) (sym (text-back (b ++ t))) ∙ e)
 
--- What can be read of a printed line.
+-- and the first words of a text are those of its line
+pub text-says : (t : List ℕ) (words : String) → length (chars words) ≤ most → take (length (chars words)) t ≡ chars words → Says (lineOf t) 0 words
+text-says t words few e =
+    ap (λ (l : List ℕ). take (length (chars words)) l) (text-back t) ∙ take-take (length (chars words)) most t few ∙ e
 
-pub printed-text : (text : List ℕ) → textOf (printed text) ≡ take mostText text ++ newline ∷ []
-unfolding printed
-printed-text text =
-    text-back (take mostText text ++ newline ∷ [])
-    ∙ take-all most (take mostText text ++ newline ∷ []) (rw (length-append, length-take) (omega arith))
-
--- words without a newline that stand in it are words of its text
-in-front : (k : ℕ) (t w : List ℕ) → every (ltb newline) w ≡ true → take (length w) (take k t ++ newline ∷ []) ≡ w → take (length w) t ≡ w
-in-front k t [] h e = refl
-in-front zero t (c ∷ w) h e =
-    let same : newline ≡ c = ap (λ (l : List ℕ). getD l 0 0) e in
-    let over : newline < c = ltb-true newline c (and-left (ltb newline c) (every (ltb newline) w) h) in
-    absurd (omega arith)
-in-front (suc k) [] (c ∷ w) h e =
-    let same : newline ≡ c = ap (λ (l : List ℕ). getD l 0 0) e in
-    let over : newline < c = ltb-true newline c (and-left (ltb newline c) (every (ltb newline) w) h) in
-    absurd (omega arith)
-in-front (suc k) (y ∷ t) (c ∷ w) h e =
-    let same : y ≡ c = ap (λ (l : List ℕ). getD l 0 0) e in
-    ap₂ (λ (d : ℕ) (l : List ℕ). d ∷ l) same (in-front k t w (and-right (ltb newline c) (every (ltb newline) w) h) (ap (λ (l : List ℕ). drop 1 l) e))
-
-behind-front : (k : ℕ) (b t w : List ℕ) → every (ltb newline) w ≡ true → take (length w) (drop (length b) (take k (b ++ t) ++ newline ∷ [])) ≡ w → take (length w) t ≡ w
-behind-front k [] t w h e = in-front k t w h e
-behind-front zero (x ∷ []) t w h e = none-of w t h e
-  where
-    none-of : (w t : List ℕ) → every (ltb newline) w ≡ true → take (length w) [] ≡ w → take (length w) t ≡ w
-    none-of [] t h e = refl
-    none-of (c ∷ w) t h e = let z : _≡_ {A = ℕ} 0 (suc (length w)) = ap (λ (l : List ℕ). length l) e in absurd (omega arith)
-behind-front zero (x ∷ y ∷ b) t w h e = behind-front zero (y ∷ b) t w h (shorter (length b) w e)
-  where
-    shorter : (n : ℕ) (w : List ℕ) → take (length w) [] ≡ w → take (length w) (drop n []) ≡ w
-    shorter zero w e = e
-    shorter (suc n) w e = e
-behind-front (suc k) (x ∷ b) t w h e = behind-front k b t w h e
-
-pub says-text : (b t : List ℕ) (words : String) → every (ltb newline) (chars words) ≡ true → Says (printed (b ++ t)) (length b) words → take (length (chars words)) t ≡ chars words
-says-text b t words h e =
-    behind-front mostText b t (chars words) h
-    (ap (λ (l : List ℕ). take (length (chars words)) (drop (length b) l)) (sym (printed-text (b ++ t))) ∙ e)
+-- the line of a text by its parts
+pub line-text : LineIsText
+unfolding lineOf blank
+line-text text =
+    record {
+      text-is = text-back text;
+      len-is = sym (length-take most text);
+      room-is = length-take-le most (text ++ blank) (rw (length-append, length-replicate) (omega arith));
+      zeros-are = zeros-behind text most most (omega arith);
+    }

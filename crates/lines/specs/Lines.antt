@@ -1,5 +1,5 @@
 -- A line that the night box prints (ours): up to 160 characters in an array of fixed room, 0 past them. Assumes nothing.
-use Prim.Native.Nat.{ℕ, _-_, min}
+use Prim.Native.Nat.{ℕ, min}
 use Prim.Native.Char.{code}
 use Prim.Native.String.{String, [] as end, _∷_ as _then_}
 use mathlib.Core.Path.{_≡_}
@@ -10,19 +10,12 @@ use Rattle.lines.specs.declared.Line.{Line}
 abbrev pub most : ℕ
 most = 160
 
--- the last place is the newline's
-abbrev pub mostText : ℕ
-mostText = most - 1
-
-abbrev pub newline : ℕ
-newline = 10
-
 -- the characters of a text as it is written here
 abbrev pub chars : String → List ℕ
 chars end = []
 chars (c then more) = code c ∷ chars more
 
--- nothing stands past the characters
+-- an array with no character in it
 unfoldable pub blank : List ℕ
 blank = replicate most 0
 
@@ -34,17 +27,10 @@ lineOf text = record { len = min most (length text); chars = take most (text ++ 
 abbrev pub textOf : Line → List ℕ
 textOf line = take (line .len) (line .chars)
 
--- a line with some more characters behind it
+-- a line with some more characters after it
 unfoldable pub adding : Line → List ℕ → Line
 adding line more = lineOf (textOf line ++ more)
 
--- a line that is ready to be written out: a newline ends it, also where the text is cut
-unfoldable pub printed : List ℕ → Line
-printed text = lineOf (take mostText text ++ newline ∷ [])
-
-abbrev pub ended : Line → Line
-ended line = printed (textOf line)
-
--- these words stand in a line behind so many characters
+-- a line has these words after its first n characters
 abbrev pub Says : Line → ℕ → String → Type 0
 Says line n words = take (length (chars words)) (drop n (textOf line)) ≡ chars words

@@ -3,14 +3,13 @@ use Prim.Native.Nat.{ℕ, zero, suc, _+_, _/_, _%_}
 use mathlib.Core.Bool.{cond}
 use mathlib.Core.List.{List, [], _∷_, _++_}
 use lib.Dec.{ltb, eqb}
-use Rattle.wire.specs.Frame.{digitsOf}
 use Rattle.lines.specs.Lines.{chars}
 
 -- the last decimal digit of a number
 abbrev pub lastDigit : ℕ → List ℕ
 lastDigit n = (48 + n % 10) ∷ []
 
--- the digits of a number without leading zeros: those of a tenth of it, then its last one; so many are made in front of the last at most
+-- the digits of a number without leading zeros: those of a tenth of it, then its last one; at most `more` are made before the last
 unfoldable pub decimalFrom : ℕ → ℕ → List ℕ
 decimalFrom zero n = lastDigit n
 decimalFrom (suc more) n = cond (ltb n 10) (lastDigit n) (decimalFrom more (n / 10) ++ lastDigit n)
@@ -19,15 +18,11 @@ decimalFrom (suc more) n = cond (ltb n 10) (lastDigit n) (decimalFrom more (n / 
 abbrev pub decimal : ℕ → List ℕ
 decimal n = decimalFrom 19 n
 
--- `7 of 12`
-unfoldable pub ofText : ℕ → ℕ → List ℕ
-ofText done due = decimal done ++ chars " of " ++ decimal due
-
--- how many steps a unit has at so many decimals: 0, 1, 2, and 3 for any other
+-- how many steps a unit has: by its decimals 0, 1, 2, and 3 for any other
 abbrev pub steps : ℕ → ℕ
 steps decimals = cond (eqb decimals 0) 1 (cond (eqb decimals 1) 10 (cond (eqb decimals 2) 100 1000))
 
--- the point and the digits behind it
+-- the point and the digits after it
 abbrev pub fraction : ℕ → ℕ → List ℕ
 fraction decimals n =
     cond (eqb decimals 0) []
@@ -38,10 +33,3 @@ fraction decimals n =
 -- a whole number of steps in the unit: 120 at one decimal is 12.0
 unfoldable pub pointed : ℕ → ℕ → List ℕ
 pointed n decimals = decimal (n / steps decimals) ++ fraction decimals n
-
--- a byte in two digits, and an id in four
-abbrev pub hexByte : ℕ → List ℕ
-hexByte b = digitsOf (b ∷ [])
-
-abbrev pub hexId : ℕ → List ℕ
-hexId id = digitsOf (id / 256 ∷ id % 256 ∷ [])

@@ -1,4 +1,4 @@
-// Numbers put behind a line, digit by digit.
+// Numbers put after a line, digit by digit.
 ghost use mathlib.Core.Path.{_≡_};
 ghost use Rattle.lines.specs.Lines.{adding};
 ghost use Rattle.lines.specs.Numbers.{lastDigit, decimalFrom, steps, fraction};
@@ -7,14 +7,14 @@ use crate::Line;
 // No number here has more decimal digits.
 pub(crate) const MOST_DIGITS: usize = 20;
 
-// The line with the last decimal digit of a number behind it.
+// The line with the last decimal digit of a number after it.
 fn put_digit(line: Line, n: usize) -> Line
     ensures { λ r. ⌜ r ≡ adding line (lastDigit n) ⌝ }
 {
     line.put(&[b'0' + (n % 10) as u8])
 }
 
-// The line with the digits of a number behind it, at most so many in front of the last.
+// The line with the digits of a number after it, at most `more` of them before the last.
 pub(crate) fn put_digits(line: Line, n: usize, more: usize) -> Line
     ensures { λ r. ⌜ r ≡ adding line (decimalFrom more n) ⌝ }
 {
@@ -43,7 +43,7 @@ pub(crate) fn steps_of(decimals: u8) -> usize
     1000
 }
 
-// The line with the point and the digits behind it.
+// The line with the point and the digits after it.
 pub(crate) fn put_fraction(line: Line, n: usize, decimals: u8) -> Line
     ensures { λ r. ⌜ r ≡ adding line (fraction decimals n) ⌝ }
 {

@@ -5,7 +5,7 @@ use native.Mathlib.Omega.{arith}
 use borrow.Author.Needs.{needs}
 use lib.ListN.{length, length-take, length-drop}
 use Rattle.lines.specs.Lines.{most}
-use Rattle.lines.proofs.Adding.{tidy-few, tidy-long, more-line}
+use Rattle.lines.proofs.Adding.{copied, tidy-few, tidy-long, more-line}
 use Rattle.lines.proofs.copied.joined.Statement.{statement}
 use Rattle.lines.proofs.copied.joined.Tie as tie
 
@@ -42,18 +42,18 @@ copy-requires c κs =
     let c5 = c .before .before .before .before .before in
     rw (length-take, length-take, length-drop) (omega (arith, c .before .before .least .ensures, long c5))
 
-add-t7 : tie.Need-add-t7
-add-t7 c =
+add-t6 : tie.Need-add-t6
+add-t6 c =
     let c4 = c .before .before .before .before in
     record { fits = omega (arith, few (c4 .before .before .before), c4 .least .ensures) }
 
 returns : tie.Need-returns
 returns c =
     let c4 = c .before .before .before .before in
-    more-line _ (c4 .before .before .before .pre) _ _ (c4 .least .ensures) _ (c .before .copy .ensures)
+    more-line _ (c4 .before .before .before .pre) _ _ (c4 .least .ensures) _ (copied _ _ (c .before .copy .ensures .1))
 
 pub joined-spec : {M : Type 1} → statement M
 joined-spec =
     tie.close
     (tie.spec
-    sub-least least-requires slice-aggregate-copy sub-copy part-chars-start part-chars-end copy-requires add-t7 returns)
+    sub-least least-requires slice-aggregate-copy sub-copy part-chars-start part-chars-end copy-requires add-t6 returns)

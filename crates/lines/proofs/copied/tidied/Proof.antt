@@ -4,7 +4,7 @@ use native.Mathlib.Omega.{arith}
 use borrow.Author.Needs.{needs}
 use lib.ListN.{length, length-take}
 use Rattle.lines.specs.Lines.{most, blank}
-use Rattle.lines.proofs.Adding.{kept-length, tidy-line}
+use Rattle.lines.proofs.Adding.{copied, kept-length, tidy-line}
 use Rattle.lines.proofs.copied.tidied.Statement.{statement}
 use Rattle.lines.proofs.copied.tidied.Tie as tie
 
@@ -32,7 +32,7 @@ returns : tie.Need-returns
 unfolding blank
 returns c =
     let c4 = c .before .before .before .before in
-    tidy-line _ (long (c4 .before .before)) _ (c4 .least .ensures) _ (c .before .copy .ensures)
+    tidy-line _ (long (c4 .before .before)) _ (c4 .least .ensures) _ (copied _ _ (c .before .copy .ensures .1))
 
 pub tidied-spec : {M : Type 1} → statement M
 tidied-spec =

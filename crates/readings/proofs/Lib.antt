@@ -1,5 +1,0 @@
--- Laws of the definitions of specs/, and what the proofs of the functions cite. In those proofs `cN` is the place N steps before `c`.
-pub mod Serials
-pub mod Alike
-pub mod Same
-pub mod Theorems

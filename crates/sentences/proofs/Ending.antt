@@ -1,0 +1,172 @@
+-- What a follower says of itself, and the Sets of its list. Assumes nothing.
+use mathlib.Core.Path.{_≡_, refl, sym, ap, ap₂, _∙_}
+use mathlib.Core.Bool.{Bool, true, false, cond, false≢true}
+use mathlib.Core.List.{List, [], _∷_}
+use Prim.Native.Nat.{ℕ, _≤_, _<_}
+use native.Mathlib.Omega.{arith}
+use borrow.Author.Tests.{ltb-true, leb-true, eqb-true}
+use lib.Dec.{ltb, leb, eqb}
+use Rattle.laws.proofs.Bools.{and-left, and-right}
+use Rattle.restore.specs.Order.{wanted}
+use Rattle.restore.specs.Calls.{bothAllowed, dueIn}
+use Rattle.restore.specs.Laws.{Tells, a-set, none-left, not-allowed}
+use Rattle.restore.specs.declared.Wanted.{Wanted}
+use Rattle.restore.specs.declared.Due.{Due}
+use Rattle.restore.proofs.Theorems.{due-tells}
+use Rattle.tables.specs.declared.Table.{Table}
+use Rattle.follow.specs.Following.{standsAt, standing, advanced, begun, total, followerAllowed}
+use Rattle.reply.specs.Events.{Event, refusedFrame}
+use Rattle.follow.specs.Calls.{answered, starting, following}
+use Rattle.follow.specs.Laws.{run, calls}
+use Rattle.follow.specs.declared.Follower.{Follower}
+use Rattle.follow.specs.declared.Outcome.{Outcome}
+use Rattle.follow.specs.declared.Followed.{Followed}
+use Rattle.follow.proofs.Standing.{told-good, told-stray, following-good, following-refused}
+use Rattle.follow.proofs.Counting.{Goes, goes-far, begins}
+use Rattle.tally.specs.Laws.{isDone}
+use Rattle.lines.specs.Lines.{chars, adding}
+use Rattle.lines.specs.declared.Line.{Line}
+use Rattle.sentences.specs.Texts.{ofText, refusedText, endText, followedText, progressText}
+use Rattle.sentences.specs.Laws.{followedBy}
+
+-- none is due any more
+abbrev isOver : Outcome → Bool
+isOver (Outcome.Waiting due) = false
+isOver Outcome.Equal = true
+isOver Outcome.Done = true
+isOver (Outcome.Stopped due) = false
+isOver (Outcome.Refused number) = false
+
+still-due : (stopped : Bool) (due : Wanted) → isOver (cond stopped (Outcome.Stopped due) (Outcome.Waiting due)) ≡ false
+still-due true due = refl
+still-due false due = refl
+
+equal-true : (b : Bool) → cond b Outcome.Equal Outcome.Done ≡ Outcome.Equal → b ≡ true
+equal-true true e = refl
+equal-true false e = absurd (false≢true (sym (ap isDone e)))
+
+-- it is not refused
+abbrev pub isKnown : Outcome → Bool
+isKnown (Outcome.Waiting due) = true
+isKnown Outcome.Equal = true
+isKnown Outcome.Done = true
+isKnown (Outcome.Stopped due) = true
+isKnown (Outcome.Refused number) = false
+
+set-known : (stopped : Bool) (due : Wanted) → isKnown (cond stopped (Outcome.Stopped due) (Outcome.Waiting due)) ≡ true
+set-known true due = refl
+set-known false due = refl
+
+none-known : (b : Bool) → isKnown (cond b Outcome.Equal Outcome.Done) ≡ true
+none-known true = refl
+none-known false = refl
+
+module _ (f : Follower) where
+  -- the texts, by whether a start and events give it
+  pub followed-good : followerAllowed f ≡ true → endText (standing f) (f .confirmed) (total f) ≡ followedText f
+  unfolding followedText
+  followed-good ok = rw ok
+
+  pub followed-stray : followerAllowed f ≡ false → refusedText 12 ≡ followedText f
+  unfolding followedText
+  followed-stray ok = rw ok
+
+  pub progress-good : followerAllowed f ≡ true → ofText [] (f .confirmed) (total f) (chars " confirmed") ≡ progressText f
+  unfolding progressText
+  progress-good ok = rw ok
+
+  pub progress-stray : followerAllowed f ≡ false → refusedText 12 ≡ progressText f
+  unfolding progressText
+  progress-stray ok = rw ok
+
+  -- an allowed one is never refused, and any other always
+  pub stands-known : followerAllowed f ≡ true → isKnown (standing f) ≡ true
+  unfolding standing followerAllowed
+  stands-known ok = by (dueIn (f .from) (f .to) (f .confirmed)) (due-tells (f .from) (f .to) (f .confirmed))
+    where
+      by : (d : Due) → Tells (f .from) (f .to) (f .confirmed) d → isKnown (standsAt (f .stopped) (f .confirmed) d) ≡ true
+      by d (a-set k is below sure more) = set-known (f .stopped) (wanted (f .to) k)
+      by d (none-left sure none) = none-known (eqb (f .confirmed) 0)
+      by d (not-allowed bad) = absurd (false≢true (sym bad ∙ and-left (bothAllowed (f .from) (f .to)) _ ok))
+
+  word-good : followerAllowed f ≡ true → following f refusedFrame .outcome ≡ standing f
+  word-good ok = sym (ap (λ (w : Followed). w .outcome) (told-good f ok ∙ following-refused f))
+
+  pub known-allowed : {w : Followed} (o : Outcome) → w ≡ following f refusedFrame → w .outcome ≡ o → isKnown o ≡ followerAllowed f
+  known-allowed {w} o is e = by (followerAllowed f) refl
+    where
+      own : o ≡ following f refusedFrame .outcome
+      own = sym e ∙ ap (λ (v : Followed). v .outcome) is
+
+      by : (t : Bool) → followerAllowed f ≡ t → isKnown o ≡ followerAllowed f
+      by true ok = ap isKnown (own ∙ word-good ok) ∙ stands-known ok ∙ sym ok
+      by false ok = ap isKnown (own ∙ sym (ap (λ (v : Followed). v .outcome) (told-stray f ok ∙ following-refused f))) ∙ sym ok
+
+  -- what the functions put after a line
+  pub follower-line : (l : Line) {n : Line} (w : Followed) (due : ℕ) → followerAllowed f ≡ true → w ≡ following f refusedFrame → due ≡ total f
+      → n ≡ adding l (endText (w .outcome) (f .confirmed) due) → n ≡ adding l (followedText f)
+  follower-line l w due ok is counts e =
+      e ∙ ap (adding l)
+      (ap₂ (λ (o : Outcome) (k : ℕ). endText o (f .confirmed) k) (ap (λ (v : Followed). v .outcome) is ∙ word-good ok) counts ∙ followed-good ok)
+
+  pub confirmed-line : (l : Line) {n : Line} (due : ℕ) → followerAllowed f ≡ true → due ≡ total f
+      → n ≡ adding l (ofText [] (f .confirmed) due (chars " confirmed")) → n ≡ adding l (progressText f)
+  confirmed-line l due ok counts e = e ∙ ap (adding l) (ap (λ (k : ℕ). ofText [] (f .confirmed) k (chars " confirmed")) counts ∙ progress-good ok)
+
+  -- the Sets of its list are those of the list that is made
+  pub both-allowed : followerAllowed f ≡ true → bothAllowed (f .from) (f .to) ≡ true
+  unfolding followerAllowed
+  both-allowed ok = and-left (bothAllowed (f .from) (f .to)) _ ok
+
+  pub list-sets : (n : ℕ) → followerAllowed f ≡ true → n ≡ cond (bothAllowed (f .from) (f .to)) (total f) 0 → n ≡ total f
+  list-sets n ok e = e ∙ ap (λ (t : Bool). cond t (total f) 0) (both-allowed ok)
+
+  -- no more are confirmed than its list has
+  pub within-list : followerAllowed f ≡ true → f .confirmed ≤ total f
+  unfolding followerAllowed
+  within-list e = by (f .stopped) (and-right (bothAllowed (f .from) (f .to)) _ e)
+    where
+      by : (b : Bool) → cond b (ltb (f .confirmed) (total f)) (leb (f .confirmed) (total f)) ≡ true → f .confirmed ≤ total f
+      by true e = let less : f .confirmed < total f = ltb-true _ _ e in omega arith
+      by false e = leb-true _ _ e
+
+  -- and no fewer where none is due
+  over-list : isOver (standing f) ≡ true → total f ≤ f .confirmed
+  unfolding standing
+  over-list e = by (dueIn (f .from) (f .to) (f .confirmed)) (due-tells (f .from) (f .to) (f .confirmed)) e
+    where
+      by : (d : Due) → Tells (f .from) (f .to) (f .confirmed) d → isOver (standsAt (f .stopped) (f .confirmed) d) ≡ true → total f ≤ f .confirmed
+      by d (a-set k is below ok more) e = absurd (false≢true (sym (still-due (f .stopped) (wanted (f .to) k)) ∙ e))
+      by d (none-left ok none) e = none
+      by d (not-allowed bad) e = absurd (false≢true e)
+
+  pub done-list : standing f ≡ Outcome.Done → total f ≤ f .confirmed
+  done-list e = over-list (ap isOver e)
+
+  pub equal-list : standing f ≡ Outcome.Equal → total f ≤ f .confirmed
+  equal-list e = over-list (ap isOver e)
+
+  pub equal-none : standing f ≡ Outcome.Equal → f .confirmed ≡ 0
+  unfolding standing
+  equal-none e = by (dueIn (f .from) (f .to) (f .confirmed)) (due-tells (f .from) (f .to) (f .confirmed)) e
+    where
+      by : (d : Due) → Tells (f .from) (f .to) (f .confirmed) d → standsAt (f .stopped) (f .confirmed) d ≡ Outcome.Equal → f .confirmed ≡ 0
+      by d (a-set k is below ok more) e = absurd (false≢true (sym (still-due (f .stopped) (wanted (f .to) k)) ∙ ap isOver e))
+      by d (none-left ok none) e = eqb-true (f .confirmed) 0 (equal-true (eqb (f .confirmed) 0) e)
+      by d (not-allowed bad) e = absurd (false≢true (ap isOver e))
+
+-- after a row of calls
+module _ (from to : Table) (ok : bothAllowed from to ≡ true) where
+  called : (f : Follower) (events : List Event) → Goes from to f → calls (answered f) events ≡ answered (run f events)
+  called f [] g = refl
+  called f (e ∷ more) g = rw (sym (following-good f e (g .is-allowed))) (called (advanced f e) more (goes-far from to ok f (e ∷ []) g))
+
+  pub arrived : (events : List Event) → followedBy from to events ≡ run (begun from to) events
+  unfolding starting
+  arrived events =
+      let start : Goes from to (begun from to) = begins from to ok in
+      ap (λ (w : Followed). calls w events .follower) (sym (told-good (begun from to) (start .is-allowed)))
+      ∙ ap (λ (w : Followed). w .follower) (called (begun from to) events start)
+
+  pub goes : (events : List Event) → Goes from to (run (begun from to) events)
+  goes events = goes-far from to ok (begun from to) events (begins from to ok)

@@ -1,0 +1,34 @@
+-- Two answers that meet a call's own contract are the same. `Post` is what the call ensures, as its source states it. Assumes nothing.
+use mathlib.Core.Path.{_≡_}
+use Rattle.laws.proofs.Promise.{equal-same}
+use Rattle.follow.specs.declared.Follower.{Follower}
+use Rattle.collect.specs.declared.Collector.{Collector}
+use Rattle.backup.specs.declared.Verdict.{Verdict}
+use Rattle.tally.specs.declared.Tally.{Tally}
+use Rattle.lines.specs.declared.Line.{Line}
+use Rattle.sentences.specs.declared.Kept.{Kept}
+use Rattle.sentences.proofs.followed.Reads as followed
+use Rattle.sentences.proofs.progress.Reads as progress
+use Rattle.sentences.proofs.collected.Reads as collected
+use Rattle.sentences.proofs.saved.Reads as saved
+use Rattle.sentences.proofs.checked.Reads as checked
+use Rattle.sentences.proofs.summed.Reads as summed
+
+pub followed-same : (follower : Follower) (r r′ : Line) → followed.Post tt (follower, tt) r (follower, tt) → followed.Post tt (follower, tt) r′ (follower, tt) → r ≡ r′
+followed-same follower r r′ met met′ = equal-same met met′
+
+pub progress-same : (follower : Follower) (r r′ : Line) → progress.Post tt (follower, tt) r (follower, tt) → progress.Post tt (follower, tt) r′ (follower, tt) → r ≡ r′
+progress-same follower r r′ met met′ = equal-same met met′
+
+pub collected-same : (collector : Collector) (r r′ : Line) → collected.Post tt (collector, tt) r (collector, tt) → collected.Post tt (collector, tt) r′ (collector, tt) → r ≡ r′
+collected-same collector r r′ met met′ = equal-same met met′
+
+pub saved-same : (collector : Collector) (kept : Kept) (r r′ : Line)
+    → saved.Post tt (collector, (kept, tt)) r (collector, (kept, tt)) → saved.Post tt (collector, (kept, tt)) r′ (collector, (kept, tt)) → r ≡ r′
+saved-same collector kept r r′ met met′ = equal-same met met′
+
+pub checked-same : (verdict : Verdict) (r r′ : Line) → checked.Post tt (verdict, tt) r (verdict, tt) → checked.Post tt (verdict, tt) r′ (verdict, tt) → r ≡ r′
+checked-same verdict r r′ met met′ = equal-same met met′
+
+pub summed-same : (tally : Tally) (r r′ : Line) → summed.Post tt (tally, tt) r (tally, tt) → summed.Post tt (tally, tt) r′ (tally, tt) → r ≡ r′
+summed-same tally r r′ met met′ = equal-same met met′

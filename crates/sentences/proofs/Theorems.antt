@@ -1,0 +1,355 @@
+-- Proofs of the statements of specs/Laws.antt and specs/Worked.antt. Assumes nothing.
+use mathlib.Core.Path.{_≡_, refl, sym, ap, ap₂, subst, _∙_}
+use mathlib.Core.Logic.{_↔_}
+use mathlib.Core.Bool.{Bool, true, false, false≢true}
+use mathlib.Core.List.{List, [], _∷_, _++_, append-assoc}
+use Prim.Native.Nat.{ℕ, _≤_}
+use native.Mathlib.Omega.{arith}
+use lib.ListN.{length, getD, take}
+use Rattle.settings.specs.Columns.{count}
+use Rattle.tables.specs.declared.Table.{Table}
+use Rattle.restore.specs.Order.{dueSets}
+use Rattle.restore.specs.Calls.{bothAllowed}
+use Rattle.reply.specs.Events.{Event}
+use Rattle.follow.specs.Following.{standing, begun, total, followerAllowed}
+use Rattle.follow.specs.Laws.{run, matched}
+use Rattle.follow.specs.declared.Follower.{Follower}
+use Rattle.follow.specs.declared.Outcome as follows
+use Rattle.follow.proofs.Theorems.{count-is-matched, done-is-all, equal-is-none}
+use Rattle.collect.specs.Collecting.{allowed, begun as collected-none}
+use Rattle.collect.specs.Calls.{outcomeOf, told}
+use Rattle.collect.specs.Laws.{run as collected-run}
+use Rattle.collect.proofs.Calling.{called}
+use Rattle.collect.proofs.Reaching.{begun-ends, ends-allowed}
+use Rattle.collect.proofs.Theorems.{table-is-carried}
+use Rattle.collect.specs.declared.Collected.{Collected}
+use Rattle.collect.specs.declared.Phase.{Phase}
+use Rattle.collect.specs.declared.Collector.{Collector}
+use Rattle.collect.specs.declared.Outcome as collects
+use Rattle.backup.specs.declared.Verdict.{Verdict}
+use Rattle.backup.specs.declared.Backup.{Backup}
+use Rattle.laws.specs.Promise.{Given}
+use Rattle.backup.specs.Text.{Says as Judgement, good, refused, textOf, textSays}
+use Rattle.backup.specs.Calls.{writtenAs, writing, reading, readAs}
+use Rattle.backup.specs.declared.Written.{Written}
+use Rattle.backup.proofs.Theorems.{read-is-written, written-is-read}
+use Rattle.tally.specs.Results.{tallyAllowed}
+use Rattle.lines.specs.Lines.{chars, lineOf, Says}
+use Rattle.lines.specs.Numbers.{decimalFrom, decimal}
+use Rattle.lines.proofs.Adding.{says-text, text-says}
+use Rattle.sentences.specs.Texts.{betweenText, ofText, refusedText, stoppedText, endText, followedText, progressText, readText, own, collectedText, keptText, fileText, savedText, goodText, atText, checkedText, countsText, summedText}
+use Rattle.sentences.specs.Laws.{AllDone, DoneIsDone, NothingDue, EqualIsEqual, followedBy, LineIsMatched, ReadIsRead, collectedBy, LineIsCarried, SavedIsSaved, NotSavedIsNot, GoodIsGood, IsBackup, GoodIsBackup, WellIsWell, NoneIsNone, StrayFollower, StrayCollector, StrayTally, CollectorsCount, FilesCount, FollowersFit, FilesFit, YardsFit}
+use Rattle.sentences.specs.Worked.{LinesRead}
+use Rattle.sentences.specs.declared.Kept.{Kept}
+use Rattle.sentences.proofs.Ending.{isKnown, followed-good, followed-stray, progress-good, progress-stray, stands-known, within-list, done-list, equal-list, equal-none, arrived, goes}
+use Rattle.sentences.proofs.Gathering.{isDone, own-good, done-read, read-done, collected-good, collected-stray, saved-good, saved-stray, saved-done, collectors-say}
+use Rattle.sentences.proofs.Yard.{first-digit, well-said, none-said-ready, tally-stray}
+use Rattle.sentences.proofs.Uncut.{followers-uncut, files-uncut, yards-uncut}
+
+-- the first letter tells the sentences apart
+first : {l m : List ℕ} → l ≡ m → getD l 0 0 ≡ getD m 0 0
+first e = ap (λ (l : List ℕ). getD l 0 0) e
+
+done-end : (o : follows.Outcome) (confirmed due : ℕ) → take 6 (endText o confirmed due) ≡ chars "done: " → o ≡ follows.Outcome.Done
+unfolding betweenText ofText refusedText stoppedText
+done-end follows.Outcome.Done confirmed due e = refl
+done-end follows.Outcome.Equal confirmed due e = let z : _≡_ {A = ℕ} 0x65 0x64 = first e in absurd (omega arith)
+done-end (follows.Outcome.Stopped wanted) confirmed due e = let z : _≡_ {A = ℕ} 0x73 0x64 = first e in absurd (omega arith)
+done-end (follows.Outcome.Waiting wanted) confirmed due e = let z : _≡_ {A = ℕ} 0x6E 0x64 = first e in absurd (omega arith)
+done-end (follows.Outcome.Refused number) confirmed due e = let z : _≡_ {A = ℕ} 0x72 0x64 = first e in absurd (omega arith)
+
+equal-end : (o : follows.Outcome) (confirmed due : ℕ) → take 7 (endText o confirmed due) ≡ chars "equal: " → o ≡ follows.Outcome.Equal
+unfolding betweenText ofText refusedText stoppedText
+equal-end follows.Outcome.Done confirmed due e = let z : _≡_ {A = ℕ} 0x64 0x65 = first e in absurd (omega arith)
+equal-end follows.Outcome.Equal confirmed due e = refl
+equal-end (follows.Outcome.Stopped wanted) confirmed due e = let z : _≡_ {A = ℕ} 0x73 0x65 = first e in absurd (omega arith)
+equal-end (follows.Outcome.Waiting wanted) confirmed due e = let z : _≡_ {A = ℕ} 0x6E 0x65 = first e in absurd (omega arith)
+equal-end (follows.Outcome.Refused number) confirmed due e = let z : _≡_ {A = ℕ} 0x72 0x65 = first e in absurd (omega arith)
+
+-- a text by the outcome of a follower that is allowed
+by-outcome : (f : Follower) (o : follows.Outcome) → followerAllowed f ≡ true → standing f ≡ o → followedText f ≡ endText o (f .confirmed) (total f)
+by-outcome f o ok is = sym (followed-good f ok) ∙ ap (λ (k : follows.Outcome). endText k (f .confirmed) (total f)) is
+
+pub done-is-done : DoneIsDone
+unfolding betweenText ofText refusedText
+done-is-done f = (
+  λ e. by (followerAllowed f) refl (says-text [] (followedText f) "done: " e),
+  λ all. text-says (followedText f) "done: " (omega arith) (ap (take 6) (by-outcome f follows.Outcome.Done (all .is-allowed) (all .is-done))),
+)
+  where
+    by : (t : Bool) → followerAllowed f ≡ t → take 6 (followedText f) ≡ chars "done: " → AllDone f
+    by true ok e =
+        let is : standing f ≡ follows.Outcome.Done = done-end (standing f) (f .confirmed) (total f) (ap (take 6) (followed-good f ok) ∙ e) in
+        let few : f .confirmed ≤ total f = within-list f ok in
+        let all : total f ≤ f .confirmed = done-list f is in
+        record { is-allowed = ok; is-done = is; all-confirmed = omega arith }
+    by false ok e = let z : _≡_ {A = ℕ} 0x72 0x64 = first (ap (take 6) (followed-stray f ok) ∙ e) in absurd (omega arith)
+
+pub equal-is-equal : EqualIsEqual
+unfolding betweenText refusedText
+equal-is-equal f = (
+  λ e. by (followerAllowed f) refl (says-text [] (followedText f) "equal: " e),
+  λ all. text-says (followedText f) "equal: " (omega arith) (ap (take 7) (by-outcome f follows.Outcome.Equal (all .is-allowed) (all .is-equal))),
+)
+  where
+    by : (t : Bool) → followerAllowed f ≡ t → take 7 (followedText f) ≡ chars "equal: " → NothingDue f
+    by true ok e =
+        let is : standing f ≡ follows.Outcome.Equal = equal-end (standing f) (f .confirmed) (total f) (ap (take 7) (followed-good f ok) ∙ e) in
+        let all : total f ≤ f .confirmed = equal-list f is in
+        let none : f .confirmed ≡ 0 = equal-none f is in
+        record { is-allowed = ok; is-equal = is; none-due = omega arith }
+    by false ok e = let z : _≡_ {A = ℕ} 0x72 0x65 = first (ap (take 7) (followed-stray f ok) ∙ e) in absurd (omega arith)
+
+-- the same of the public calls
+module _ (from to : Table) (events : List Event) (ok : bothAllowed from to ≡ true) where
+  abbrev end : Follower
+  end = run (begun from to) events
+
+  list-is : total end ≡ length (dueSets from to)
+  list-is = ap₂ (λ (a b : Table). length (dueSets a b)) (goes from to ok events .from-is) (goes from to ok events .to-is)
+
+  line-says : (words : follows.Outcome) (text : List ℕ → Type 0) {q : Type 0} → (text (followedText end) → standing end ≡ words) → (standing end ≡ words → text (followedText end))
+      → (standing end ≡ words) ↔ q → text (followedText (followedBy from to events)) ↔ q
+  line-says words text {q} there back all = subst (λ (f : Follower). text (followedText f) ↔ q) (sym (arrived from to ok events)) (λ e. all .0 (there e), λ z. back (all .1 z))
+
+pub line-is-matched : LineIsMatched
+unfolding ofText
+line-is-matched from to events ok r =
+    let f : Follower = end from to events ok in
+    let fine : followerAllowed f ≡ true = goes from to ok events .is-allowed in
+    let matches : f .confirmed ≡ matched (dueSets from to) events = count-is-matched from to events ok r in
+    let list : total f ≡ length (dueSets from to) = list-is from to events ok in
+    record {
+      done-when = line-says from to events ok follows.Outcome.Done (λ (t : List ℕ). Says (lineOf t) 0 "done: ")
+          (λ e. done-is-done f .0 e .is-done)
+          (λ is. text-says (followedText f) "done: " (omega arith) (ap (take 6) (by-outcome f follows.Outcome.Done fine is)))
+          (done-is-all from to events ok r);
+      equal-when = line-says from to events ok follows.Outcome.Equal (λ (t : List ℕ). Says (lineOf t) 0 "equal: ")
+          (λ e. equal-is-equal f .0 e .is-equal)
+          (λ is. text-says (followedText f) "equal: " (omega arith) (ap (take 7) (by-outcome f follows.Outcome.Equal fine is)))
+          (equal-is-none from to events ok);
+      numbers-are = subst (λ (g : Follower). followedText g ≡ endText (standing g) (matched (dueSets from to) events) (length (dueSets from to))) (sym (arrived from to ok events))
+          (sym (followed-good f fine) ∙ ap₂ (λ (m n : ℕ). endText (standing f) m n) matches list);
+      progress-is = ap progressText (arrived from to ok events) ∙ (sym (progress-good f fine) ∙ ap₂ (λ (m n : ℕ). ofText [] m n (chars " confirmed")) matches list);
+    }
+
+read-end : (o : collects.Outcome) (answered due : ℕ) → take 4 (readText o answered due) ≡ chars "all " → isDone o ≡ true
+unfolding betweenText ofText refusedText
+read-end collects.Outcome.Done answered due e = refl
+read-end (collects.Outcome.Stopped setting) answered due e = let z : _≡_ {A = ℕ} 0x73 0x61 = first e in absurd (omega arith)
+read-end (collects.Outcome.Waiting setting) answered due e = let z : _≡_ {A = ℕ} 0x6E 0x61 = first e in absurd (omega arith)
+read-end (collects.Outcome.Refused number) answered due e = let z : _≡_ {A = ℕ} 0x72 0x61 = first e in absurd (omega arith)
+
+pub read-is-read : ReadIsRead
+unfolding collectedText betweenText
+read-is-read c = (
+  λ e. done-read c (read-end (own c .outcome) (own c .answered) count (says-text [] (collectedText c) "all " e)),
+  λ all. text-says (collectedText c) "all " (omega arith) (ap (λ (o : collects.Outcome). take 4 (readText o (own c .answered) count)) (read-done c all)),
+)
+
+-- what a row of calls tells is the collector's own word
+module _ (events : List Event) where
+  own-word : own (collectedBy events .collector) ≡ collectedBy events
+  unfolding told
+  own-word = rw (called events) (own-good (collected-run collected-none events) (ends-allowed (begun-ends events)))
+
+pub line-is-carried : LineIsCarried
+unfolding collectedText
+line-is-carried events r =
+    let c : Collector = collectedBy events .collector in
+    let holds = table-is-carried events r in
+    let said : own c .outcome ≡ collectedBy events .outcome = ap (λ (w : Collected). w .outcome) (own-word events) in
+    record {
+      all-when = (
+        λ e. holds .done-when .0 (sym said ∙ read-done c (read-is-read c .0 e)),
+        λ all. read-is-read c .1 (done-read c (ap isDone (said ∙ holds .done-when .1 all))),
+      );
+      numbers-are = ap (λ (w : Collected). readText (w .outcome) (w .answered) count) (own-word events)
+          ∙ ap (λ (n : ℕ). readText (collectedBy events .outcome) n count) (holds .answered-are);
+    }
+
+-- a file, by its first letters
+letter : (n : ℕ) {l m : List ℕ} → l ≡ m → getD l n 0 ≡ getD m n 0
+letter n e = ap (λ (l : List ℕ). getD l n 0) e
+
+kept-whole : (kept : Kept) (settings : ℕ) → take 7 (keptText kept settings) ≡ chars "saved: " → kept ≡ Kept.Whole
+kept-whole Kept.Whole settings e = refl
+kept-whole Kept.Not settings e = let z : _≡_ {A = ℕ} 0x6E 0x73 = first e in absurd (omega arith)
+kept-whole Kept.Unsure settings e = let z : _≡_ {A = ℕ} 0x6E 0x73 = first e in absurd (omega arith)
+
+file-whole : (o : collects.Outcome) (answered : ℕ) (kept : Kept) → take 7 (fileText o answered kept) ≡ chars "saved: " → (isDone o ≡ true) × (kept ≡ Kept.Whole)
+unfolding refusedText betweenText
+file-whole collects.Outcome.Done answered kept e = (refl, kept-whole kept answered e)
+file-whole (collects.Outcome.Stopped setting) answered kept e = let z : _≡_ {A = ℕ} 0x6E 0x73 = first e in absurd (omega arith)
+file-whole (collects.Outcome.Waiting setting) answered kept e = let z : _≡_ {A = ℕ} 0x6E 0x73 = first e in absurd (omega arith)
+file-whole (collects.Outcome.Refused number) answered kept e = let z : _≡_ {A = ℕ} 0x72 0x73 = first e in absurd (omega arith)
+
+pub saved-is-saved : SavedIsSaved
+unfolding savedText betweenText
+saved-is-saved c kept = (
+  λ e.
+      let said = file-whole (own c .outcome) (own c .answered) kept (says-text [] (savedText c kept) "saved: " e) in
+      (done-read c (said .0), said .1),
+  λ all. text-says (savedText c kept) "saved: " (omega arith) (ap (take 7) (saved-done c kept (all .0) ∙ ap (λ (k : Kept). keptText k (c .len)) (all .1))),
+)
+
+kept-not : (kept : Kept) (settings : ℕ) → take 32 (keptText kept settings) ≡ chars "not saved: the file is as it was" → kept ≡ Kept.Not
+unfolding betweenText
+kept-not Kept.Not settings e = refl
+kept-not Kept.Whole settings e = let z : _≡_ {A = ℕ} 0x73 0x6E = first e in absurd (omega arith)
+kept-not Kept.Unsure settings e = let z : _≡_ {A = ℕ} 0x75 0x61 = letter 5 e in absurd (omega arith)
+
+file-not : (o : collects.Outcome) (answered : ℕ) (kept : Kept) → take 32 (fileText o answered kept) ≡ chars "not saved: the file is as it was" → (isDone o ≡ true) × (kept ≡ Kept.Not)
+unfolding refusedText betweenText
+file-not collects.Outcome.Done answered kept e = (refl, kept-not kept answered e)
+file-not (collects.Outcome.Stopped setting) answered kept e = let z : _≡_ {A = ℕ} 0x6E 0x74 = letter 11 e in absurd (omega arith)
+file-not (collects.Outcome.Waiting setting) answered kept e = let z : _≡_ {A = ℕ} 0x6E 0x74 = letter 11 e in absurd (omega arith)
+file-not (collects.Outcome.Refused number) answered kept e = let z : _≡_ {A = ℕ} 0x72 0x6E = first e in absurd (omega arith)
+
+pub not-saved-is-not : NotSavedIsNot
+unfolding savedText
+not-saved-is-not c kept = (
+  λ e.
+      let said = file-not (own c .outcome) (own c .answered) kept (says-text [] (savedText c kept) "not saved: the file is as it was" e) in
+      (done-read c (said .0), said .1),
+  λ all. text-says (savedText c kept) "not saved: the file is as it was" (omega arith)
+      (ap (take 32) (saved-done c kept (all .0) ∙ ap (λ (k : Kept). keptText k (c .len)) (all .1))),
+)
+
+pub good-is-good : GoodIsGood
+unfolding goodText refusedText betweenText
+good-is-good verdict = (
+  λ e. by verdict (says-text [] (checkedText verdict) "good: " e),
+  λ is. text-says (checkedText verdict) "good: " (omega arith) (ap (λ (v : Verdict). take 6 (checkedText v)) is),
+)
+  where
+    by : (v : Verdict) → take 6 (checkedText v) ≡ chars "good: " → v ≡ Verdict.Accepted
+    by Verdict.Accepted e = refl
+    by (Verdict.Refused number line) e = let z : _≡_ {A = ℕ} 0x72 0x67 = first e in absurd (omega arith)
+
+-- a text that is accepted is read as some table, which it is the text of
+read-as : (text : List ℕ) (s : Judgement) → textSays text ≡ s → readAs s .verdict ≡ Verdict.Accepted → IsBackup text
+unfolding reading writing
+read-as text (good table) is e =
+    let written = read-is-written text table (ap readAs is) in
+    let made : writing table 512 ≡ writtenAs (textOf table) = rw (written .is-allowed) refl in
+    let same : text ≡ textOf table = ap (λ (g : Given Written). g .written) (sym (written .is-written 512 (omega arith)) ∙ made) in
+    record { table = table; is-whole = written .is-whole; is-allowed = written .is-allowed; is-text = same }
+read-as text (refused number line) is e = let z : _≡_ {A = ℕ} 0 1 = cc in absurd (omega arith)
+
+pub good-is-backup : GoodIsBackup
+unfolding reading
+good-is-backup text = (
+  λ e. read-as text (textSays text) refl (good-is-good (reading text .verdict) .0 e),
+  λ b. good-is-good (reading text .verdict) .1
+      (ap (λ (l : List ℕ). reading l .verdict) (b .is-text) ∙ ap (λ (r : Backup). r .verdict) (written-is-read (b .table) (b .is-whole) (b .is-allowed))),
+)
+
+pub well-is-well : WellIsWell
+well-is-well = well-said
+
+pub none-is-none : NoneIsNone
+none-is-none = none-said-ready
+
+-- a refusal begins with its own letter
+end-known : (o : follows.Outcome) (confirmed due : ℕ) → take 10 (endText o confirmed due) ≡ chars "refused 12" → isKnown o ≡ false
+unfolding betweenText ofText stoppedText
+end-known follows.Outcome.Done confirmed due e = let z : _≡_ {A = ℕ} 0x64 0x72 = first e in absurd (omega arith)
+end-known follows.Outcome.Equal confirmed due e = let z : _≡_ {A = ℕ} 0x65 0x72 = first e in absurd (omega arith)
+end-known (follows.Outcome.Stopped wanted) confirmed due e = let z : _≡_ {A = ℕ} 0x73 0x72 = first e in absurd (omega arith)
+end-known (follows.Outcome.Waiting wanted) confirmed due e = let z : _≡_ {A = ℕ} 0x6E 0x72 = first e in absurd (omega arith)
+end-known (follows.Outcome.Refused number) confirmed due e = refl
+
+first-kept : (l : List ℕ) → getD (take 10 l) 0 0 ≡ getD l 0 0
+first-kept [] = refl
+first-kept (x ∷ l) = refl
+
+of-known : (m n : ℕ) (after : List ℕ) → take 10 (ofText [] m n after) ≡ chars "refused 12" → ⊥
+unfolding ofText
+of-known m n after e =
+    let in-row : decimal m ++ chars " of " ++ decimal n ++ after ≡ decimal m ++ (chars " of " ++ (decimal n ++ after)) = simp append-assoc in
+    let digit : getD (decimal m ++ (chars " of " ++ (decimal n ++ after))) 0 0 ≤ 57 = first-digit 19 m (chars " of " ++ (decimal n ++ after)) in
+    let letter : getD (decimal m ++ (chars " of " ++ (decimal n ++ after))) 0 0 ≡ 0x72 =
+    ap (λ (l : List ℕ). getD l 0 0) (sym in-row) ∙ sym (first-kept (decimal m ++ chars " of " ++ decimal n ++ after)) ∙ first e in
+    absurd (omega arith)
+
+pub stray-follower : StrayFollower
+unfolding refusedText betweenText decimalFrom
+stray-follower f = (
+  (
+    λ e. by-end (followerAllowed f) refl (says-text [] (followedText f) "refused 12" e),
+    λ bad. text-says (followedText f) "refused 12" (omega arith) (ap (take 10) (sym (followed-stray f bad))),
+  ),
+  (
+    λ e. by-count (followerAllowed f) refl (says-text [] (progressText f) "refused 12" e),
+    λ bad. text-says (progressText f) "refused 12" (omega arith) (ap (take 10) (sym (progress-stray f bad))),
+  ),
+)
+  where
+    by-end : (t : Bool) → followerAllowed f ≡ t → take 10 (followedText f) ≡ chars "refused 12" → followerAllowed f ≡ false
+    by-end true ok e = absurd (false≢true (sym (end-known (standing f) (f .confirmed) (total f) (ap (take 10) (followed-good f ok) ∙ e)) ∙ stands-known f ok))
+    by-end false bad e = bad
+
+    by-count : (t : Bool) → followerAllowed f ≡ t → take 10 (progressText f) ≡ chars "refused 12" → followerAllowed f ≡ false
+    by-count true ok e = absurd (of-known (f .confirmed) (total f) (chars " confirmed") (ap (take 10) (progress-good f ok) ∙ e))
+    by-count false bad e = bad
+
+read-known : (p : Phase) (len answered due : ℕ) → take 10 (readText (outcomeOf p len) answered due) ≡ chars "refused 12" → ⊥
+unfolding betweenText ofText
+read-known Phase.Done len answered due e = let z : _≡_ {A = ℕ} 0x61 0x72 = first e in absurd (omega arith)
+read-known Phase.Waiting len answered due e = let z : _≡_ {A = ℕ} 0x6E 0x72 = first e in absurd (omega arith)
+read-known Phase.Stopped len answered due e = let z : _≡_ {A = ℕ} 0x73 0x72 = first e in absurd (omega arith)
+
+kept-known : (kept : Kept) (settings : ℕ) → take 10 (keptText kept settings) ≡ chars "refused 12" → ⊥
+unfolding betweenText
+kept-known Kept.Whole settings e = let z : _≡_ {A = ℕ} 0x73 0x72 = first e in absurd (omega arith)
+kept-known Kept.Not settings e = let z : _≡_ {A = ℕ} 0x6E 0x72 = first e in absurd (omega arith)
+kept-known Kept.Unsure settings e = let z : _≡_ {A = ℕ} 0x6E 0x72 = first e in absurd (omega arith)
+
+file-known : (p : Phase) (len answered : ℕ) (kept : Kept) → take 10 (fileText (outcomeOf p len) answered kept) ≡ chars "refused 12" → ⊥
+file-known Phase.Done len answered kept e = kept-known kept answered e
+file-known Phase.Waiting len answered kept e = let z : _≡_ {A = ℕ} 0x6E 0x72 = first e in absurd (omega arith)
+file-known Phase.Stopped len answered kept e = let z : _≡_ {A = ℕ} 0x6E 0x72 = first e in absurd (omega arith)
+
+pub stray-collector : StrayCollector
+unfolding refusedText betweenText decimalFrom
+stray-collector c kept = (
+  (
+    λ e. by-read (allowed c) refl (says-text [] (collectedText c) "refused 12" e),
+    λ bad. text-says (collectedText c) "refused 12" (omega arith) (ap (take 10) (collected-stray c bad)),
+  ),
+  (
+    λ e. by-file (allowed c) refl (says-text [] (savedText c kept) "refused 12" e),
+    λ bad. text-says (savedText c kept) "refused 12" (omega arith) (ap (take 10) (saved-stray c kept bad)),
+  ),
+)
+  where
+    by-read : (t : Bool) → allowed c ≡ t → take 10 (collectedText c) ≡ chars "refused 12" → allowed c ≡ false
+    by-read true ok e = absurd (read-known (c .phase) (c .len) (c .len) count (ap (take 10) (sym (collected-good c ok)) ∙ e))
+    by-read false bad e = bad
+
+    by-file : (t : Bool) → allowed c ≡ t → take 10 (savedText c kept) ≡ chars "refused 12" → allowed c ≡ false
+    by-file true ok e = absurd (file-known (c .phase) (c .len) (c .len) kept (ap (take 10) (sym (saved-good c kept ok)) ∙ e))
+    by-file false bad e = bad
+
+pub stray-tally : StrayTally
+stray-tally = tally-stray
+
+pub collectors-count : CollectorsCount
+collectors-count = collectors-say
+
+pub files-count : FilesCount
+files-count text table e = ap (λ (b : Backup). checkedText (b .verdict)) e ∙ ap goodText (sym (read-is-written text table e .is-whole))
+
+pub followers-fit : FollowersFit
+followers-fit = followers-uncut
+
+pub files-fit : FilesFit
+files-fit = files-uncut
+
+pub yards-fit : YardsFit
+yards-fit = yards-uncut
+
+pub lines-read : LinesRead
+unfolding decimalFrom betweenText ofText refusedText stoppedText goodText atText countsText summedText tallyAllowed
+lines-read = refl

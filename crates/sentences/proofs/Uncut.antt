@@ -1,0 +1,143 @@
+-- How long a sentence is. Assumes nothing.
+use mathlib.Core.Path.{_≡_, refl}
+use mathlib.Core.Bool.{Bool, true, false, cond}
+use mathlib.Core.List.{List, [], _++_}
+use Prim.Native.Nat.{ℕ, _+_, _-_, _≤_}
+use native.Mathlib.Omega.{arith}
+use lib.ListN.{length, length-append}
+use lib.Dec.{eqb}
+use Rattle.laws.proofs.Bools.{pick}
+use Rattle.settings.specs.Columns.{count}
+use Rattle.follow.specs.Following.{standing, total, followerAllowed}
+use Rattle.follow.specs.declared.Outcome as follows
+use Rattle.collect.specs.declared.Outcome as collects
+use Rattle.backup.specs.declared.Verdict.{Verdict}
+use Rattle.tally.specs.Results.{tallyAllowed}
+use Rattle.tally.specs.declared.Tally.{Tally}
+use Rattle.tally.proofs.Counting.{within-of}
+use Rattle.lines.specs.Lines.{chars}
+use Rattle.lines.specs.Numbers.{decimal}
+use Rattle.lines.proofs.Digits.{digits-few, digits-under}
+use Rattle.sentences.specs.Texts.{betweenText, ofText, refusedText, stoppedText, endText, followedText, progressText, readText, own, collectedText, keptText, fileText, savedText, goodText, atText, checkedText, countsText, summedText}
+use Rattle.sentences.specs.Laws.{Fits, FollowersFit, FilesFit, YardsFit}
+use Rattle.sentences.specs.declared.Kept.{Kept}
+
+between-long : (before after : List ℕ) (n k : ℕ) → length (decimal n) ≤ k → length (betweenText before n after) ≤ length before + k + length after
+unfolding betweenText
+between-long before after n k h = rw (length-append (before ++ decimal n) after, length-append before (decimal n)) (omega arith)
+
+of-long : (before after : List ℕ) (m n k : ℕ) → length (decimal m) ≤ k → length (decimal n) ≤ k → length (ofText before m n after) ≤ length before + k + k + 4 + length after
+unfolding ofText
+of-long before after m n k h i =
+    rw (length-append (before ++ decimal m ++ chars " of " ++ decimal n) after, length-append (before ++ decimal m ++ chars " of ") (decimal n), length-append (before ++ decimal m) (chars " of "), length-append before (decimal m)) (omega arith)
+
+-- with any counts
+fits-between : (before after : List ℕ) (n : ℕ) → length before + length after ≤ 140 → Fits (betweenText before n after)
+fits-between before after n h = omega (arith, between-long before after n 20 (digits-few 19 n))
+
+fits-of : (before after : List ℕ) (m n : ℕ) → length before + length after ≤ 116 → Fits (ofText before m n after)
+fits-of before after m n h = omega (arith, of-long before after m n 20 (digits-few 19 m) (digits-few 19 n))
+
+joined : (a b : List ℕ) (m n : ℕ) → length a ≤ m → length b ≤ n → length (a ++ b) ≤ m + n
+joined a b m n h k = rw (length-append a b) (omega arith)
+
+refused-long : (number : ℕ) → length (refusedText number) ≤ 28
+unfolding refusedText
+refused-long number = between-long (chars "refused ") [] number 20 (digits-few 19 number)
+
+refused-fits : (number : ℕ) → Fits (refusedText number)
+refused-fits number = omega (arith, refused-long number)
+
+stopped-fits : (confirmed due : ℕ) → Fits (stoppedText confirmed due)
+unfolding stoppedText
+stopped-fits confirmed due =
+    let a : List ℕ = ofText (chars "stopped: ") confirmed due (chars " settings confirmed, ") in
+    let b : List ℕ = betweenText [] (due - confirmed) (chars " not confirmed") in
+    let la : length a ≤ 74 = of-long (chars "stopped: ") (chars " settings confirmed, ") confirmed due 20 (digits-few 19 confirmed) (digits-few 19 due) in
+    let lb : length b ≤ 34 = between-long [] (chars " not confirmed") (due - confirmed) 20 (digits-few 19 (due - confirmed)) in
+    let all : length (a ++ b) ≤ 108 = joined a b 74 34 la lb in
+    omega arith
+
+end-fits : (o : follows.Outcome) (confirmed due : ℕ) → Fits (endText o confirmed due)
+end-fits follows.Outcome.Done confirmed due = fits-of _ _ _ _ (omega arith)
+end-fits follows.Outcome.Equal confirmed due = omega arith
+end-fits (follows.Outcome.Stopped wanted) confirmed due = stopped-fits _ _
+end-fits (follows.Outcome.Waiting wanted) confirmed due = fits-of _ _ _ _ (omega arith)
+end-fits (follows.Outcome.Refused number) confirmed due = refused-fits _
+
+pub followers-uncut : FollowersFit
+unfolding followedText progressText
+followers-uncut f = (
+  pick Fits (followerAllowed f) (end-fits (standing f) (f .confirmed) (total f)) (refused-fits 12),
+  pick Fits (followerAllowed f) (fits-of _ _ _ _ (omega arith)) (refused-fits 12),
+)
+
+read-fits : (o : collects.Outcome) (answered due : ℕ) → Fits (readText o answered due)
+read-fits collects.Outcome.Done answered due = fits-between _ _ _ (omega arith)
+read-fits (collects.Outcome.Stopped setting) answered due = fits-of _ _ _ _ (omega arith)
+read-fits (collects.Outcome.Waiting setting) answered due = fits-of _ _ _ _ (omega arith)
+read-fits (collects.Outcome.Refused number) answered due = refused-fits _
+
+kept-fits : (kept : Kept) (settings : ℕ) → Fits (keptText kept settings)
+kept-fits Kept.Not settings = omega arith
+kept-fits Kept.Unsure settings = omega arith
+kept-fits Kept.Whole settings = fits-between _ _ _ (omega arith)
+
+file-fits : (o : collects.Outcome) (answered : ℕ) (kept : Kept) → Fits (fileText o answered kept)
+file-fits collects.Outcome.Done answered kept = kept-fits kept answered
+file-fits (collects.Outcome.Stopped setting) answered kept = omega arith
+file-fits (collects.Outcome.Waiting setting) answered kept = omega arith
+file-fits (collects.Outcome.Refused number) answered kept = refused-fits _
+
+at-long : (line : ℕ) → length (atText line) ≤ 27
+unfolding atText
+at-long line = pick (λ (l : List ℕ). length l ≤ 27) (eqb line 0) (omega arith) (between-long (chars ", line ") [] line 20 (digits-few 19 line))
+
+good-fits : (settings : ℕ) → Fits (goodText settings)
+unfolding goodText
+good-fits settings = fits-between _ _ _ (omega arith)
+
+checked-fits : (verdict : Verdict) → Fits (checkedText verdict)
+checked-fits Verdict.Accepted = good-fits _
+checked-fits (Verdict.Refused number line) = let all : length (refusedText number ++ atText line) ≤ 55 = joined (refusedText number) (atText line) 28 27 (refused-long number) (at-long line) in omega arith
+
+pub files-uncut : FilesFit
+unfolding collectedText savedText
+files-uncut c kept verdict = (read-fits (own c .outcome) (own c .answered) count, (file-fits (own c .outcome) (own c .answered) kept, checked-fits verdict))
+
+-- with counts up to a million: seven digits
+between-short : (before after : List ℕ) (n : ℕ) → n ≤ 1000000 → length (betweenText before n after) ≤ length before + 7 + length after
+between-short before after n h = between-long before after n 7 (digits-under 19 n 6 (omega arith))
+
+counts-fit : (t : Tally) → tallyAllowed t ≡ true → Fits (countsText t)
+unfolding countsText
+counts-fit t ok =
+    let w = within-of t ok in
+    let a : List ℕ = betweenText (chars "yard: ") (t .done) (chars " done, ") in
+    let b : List ℕ = betweenText [] (t .equal) (chars " equal, ") in
+    let c : List ℕ = betweenText [] (t .stopped) (chars " stopped, ") in
+    let d : List ℕ = betweenText [] (t .silent) (chars " silent, ") in
+    let e : List ℕ = betweenText [] (t .unread) (chars " not begun; ") in
+    let f : List ℕ = ofText [] (t .confirmed) (t .due) (chars " settings confirmed") in
+    let la : length a ≤ 20 = between-short (chars "yard: ") (chars " done, ") (t .done) (w .done-few) in
+    let lb : length b ≤ 15 = between-short [] (chars " equal, ") (t .equal) (w .equal-few) in
+    let lc : length c ≤ 17 = between-short [] (chars " stopped, ") (t .stopped) (w .stopped-few) in
+    let ld : length d ≤ 16 = between-short [] (chars " silent, ") (t .silent) (w .silent-few) in
+    let le : length e ≤ 19 = between-short [] (chars " not begun; ") (t .unread) (w .unread-few) in
+    let m : length (decimal (t .confirmed)) ≤ 7 = digits-under 19 (t .confirmed) 6 (omega (arith, w .confirmed-few)) in
+    let n : length (decimal (t .due)) ≤ 7 = digits-under 19 (t .due) 6 (omega (arith, w .due-few)) in
+    let lf : length f ≤ 37 = of-long [] (chars " settings confirmed") (t .confirmed) (t .due) 7 m n in
+    let ab : length (a ++ b) ≤ 35 = joined a b 20 15 la lb in
+    let abc : length (a ++ b ++ c) ≤ 52 = joined (a ++ b) c 35 17 ab lc in
+    let abcd : length (a ++ b ++ c ++ d) ≤ 68 = joined (a ++ b ++ c) d 52 16 abc ld in
+    let abcde : length (a ++ b ++ c ++ d ++ e) ≤ 87 = joined (a ++ b ++ c ++ d) e 68 19 abcd le in
+    let all : length (a ++ b ++ c ++ d ++ e ++ f) ≤ 124 = joined (a ++ b ++ c ++ d ++ e) f 87 37 abcde lf in
+    omega arith
+
+pub yards-uncut : YardsFit
+unfolding summedText
+yards-uncut t = by (tallyAllowed t) refl
+  where
+    by : (b : Bool) → tallyAllowed t ≡ b → Fits (cond b (countsText t) (refusedText 12))
+    by true ok = counts-fit t ok
+    by false ok = refused-fits 12

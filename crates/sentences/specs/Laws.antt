@@ -1,0 +1,174 @@
+-- What is proved of the sentences. Each is proved under its name in proofs/Theorems.antt. (That a follower or a collector is allowed exactly
+-- when a start and events give it is AllowedIsReached of `follow` and of `collect`.) Assumes nothing.
+use Prim.Native.Nat.{ℕ, _≤_, _<_}
+use mathlib.Core.Path.{_≡_}
+use mathlib.Core.Logic.{_↔_}
+use mathlib.Core.Bool.{true, false}
+use mathlib.Core.List.{List, [], _++_}
+use lib.ListN.{length}
+use Rattle.settings.specs.Columns.{count}
+use Rattle.tables.specs.Rules as tables
+use Rattle.tables.specs.declared.Table.{Table}
+use Rattle.restore.specs.Order.{dueSets}
+use Rattle.restore.specs.Calls.{bothAllowed}
+use Rattle.reply.specs.Events.{Event, OnStream}
+use Rattle.follow.specs.Following.{standing, total, followerAllowed}
+use Rattle.follow.specs.Calls.{starting as following}
+use Rattle.follow.specs.Laws.{matched, calls}
+use Rattle.follow.specs.declared.Follower.{Follower}
+use Rattle.follow.specs.declared.Outcome as follows
+use Rattle.collect.specs.Collecting.{allowed}
+use Rattle.collect.specs.Calls.{outcomeOf, starting}
+use Rattle.collect.specs.Laws.{calls as collects, carried}
+use Rattle.collect.specs.declared.Phase.{Phase}
+use Rattle.collect.specs.declared.Collector.{Collector}
+use Rattle.collect.specs.declared.Collected.{Collected}
+use Rattle.backup.specs.Text.{textOf, good}
+use Rattle.backup.specs.Calls.{reading, readAs}
+use Rattle.backup.specs.declared.Verdict.{Verdict}
+use Rattle.tally.specs.Results.{tallyAllowed}
+use Rattle.tally.specs.declared.Tally.{Tally}
+use Rattle.lines.specs.Lines.{most, chars, lineOf, Says}
+use Rattle.lines.specs.Numbers.{decimal}
+use Rattle.sentences.specs.Texts.{ofText, endText, followedText, progressText, readText, collectedText, keptText, savedText, goodText, checkedText, summedText}
+use Rattle.sentences.specs.declared.Kept.{Kept}
+
+-- 1. The line of a restore says "done" exactly where a start and events give the follower, it is done, and it has confirmed as many Sets as
+-- its list has.
+pub record AllDone (f : Follower) : Type 0 where
+  pub is-allowed : followerAllowed f ≡ true
+  pub is-done : standing f ≡ follows.Outcome.Done
+  pub all-confirmed : f .confirmed ≡ total f
+
+abbrev pub DoneIsDone : Type 0
+DoneIsDone = (f : Follower) → Says (lineOf (followedText f)) 0 "done: " ↔ AllDone f
+
+-- It says "equal" exactly where such a follower found nothing to set: its list has no Set.
+pub record NothingDue (f : Follower) : Type 0 where
+  pub is-allowed : followerAllowed f ≡ true
+  pub is-equal : standing f ≡ follows.Outcome.Equal
+  pub none-due : total f ≡ 0
+
+abbrev pub EqualIsEqual : Type 0
+EqualIsEqual = (f : Follower) → Says (lineOf (followedText f)) 0 "equal: " ↔ NothingDue f
+
+-- 2. The same of the public calls, with no follower in it: between two allowed tables, after a row of events, the line says "done" exactly
+-- where the list has a Set and as many replies matched the Set due when they came as the list has Sets; it says "equal" exactly where the
+-- list is empty; and the numbers printed are that of the replies which matched and that of the list's Sets.
+abbrev pub followedBy : Table → Table → List Event → Follower
+followedBy from to events = calls (following from to) events .follower
+
+pub record LineSays (from to : Table) (events : List Event) : Type 0 where
+  pub done-when : Says (lineOf (followedText (followedBy from to events))) 0 "done: "
+      ↔ ((0 < length (dueSets from to)) × (matched (dueSets from to) events ≡ length (dueSets from to)))
+  pub equal-when : Says (lineOf (followedText (followedBy from to events))) 0 "equal: " ↔ (length (dueSets from to) ≡ 0)
+  pub numbers-are : followedText (followedBy from to events)
+      ≡ endText (standing (followedBy from to events)) (matched (dueSets from to) events) (length (dueSets from to))
+  pub progress-is : progressText (followedBy from to events) ≡ ofText [] (matched (dueSets from to) events) (length (dueSets from to)) (chars " confirmed")
+
+abbrev pub LineIsMatched : Type 0
+LineIsMatched = (from to : Table) (events : List Event) → bothAllowed from to ≡ true → OnStream events → LineSays from to events
+
+-- 3. The line of a reading says "all" exactly where a start and events give the collector and it is done. A file is said to be saved exactly
+-- where, besides, the caller says that it is on the disk; and to be as it was exactly where, besides, the caller says that.
+pub record Complete (c : Collector) : Type 0 where
+  pub is-allowed : allowed c ≡ true
+  pub is-done : c .phase ≡ Phase.Done
+
+abbrev pub ReadIsRead : Type 0
+ReadIsRead = (c : Collector) → Says (lineOf (collectedText c)) 0 "all " ↔ Complete c
+
+abbrev pub SavedIsSaved : Type 0
+SavedIsSaved = (c : Collector) (kept : Kept) → Says (lineOf (savedText c kept)) 0 "saved: " ↔ (Complete c × (kept ≡ Kept.Whole))
+
+abbrev pub NotSavedIsNot : Type 0
+NotSavedIsNot =
+    (c : Collector) (kept : Kept) → Says (lineOf (savedText c kept)) 0 "not saved: the file is as it was" ↔ (Complete c × (kept ≡ Kept.Not))
+
+-- The first of these said of the public calls, with no collector in it: after a row of events the line says "all" exactly where the replies
+-- carried a number for every setting, and the number printed is that of the numbers carried.
+abbrev pub collectedBy : List Event → Collected
+collectedBy events = collects starting events
+
+pub record ReadingSays (events : List Event) : Type 0 where
+  pub all-when : Says (lineOf (collectedText (collectedBy events .collector))) 0 "all " ↔ (length (carried [] events) ≡ count)
+  pub numbers-are : collectedText (collectedBy events .collector) ≡ readText (collectedBy events .outcome) (length (carried [] events)) count
+
+abbrev pub LineIsCarried : Type 0
+LineIsCarried = (events : List Event) → OnStream events → ReadingSays events
+
+-- 4. A backup is said to be good exactly where it is accepted: where it is byte for byte the text of an allowed table.
+abbrev pub GoodIsGood : Type 0
+GoodIsGood = (verdict : Verdict) → Says (lineOf (checkedText verdict)) 0 "good: " ↔ (verdict ≡ Verdict.Accepted)
+
+pub record IsBackup (text : List ℕ) : Type 0 where
+  pub table : Table
+  pub is-whole : length (table .numbers) ≡ count
+  pub is-allowed : tables.allowed table ≡ true
+  pub is-text : text ≡ textOf table
+
+abbrev pub GoodIsBackup : Type 0
+GoodIsBackup = (text : List ℕ) → Says (lineOf (checkedText (reading text .verdict))) 0 "good: " ↔ IsBackup text
+
+-- 5. The line of a yard says after its first two counts that none stopped, was silent or was not begun exactly where the tally is allowed
+-- and has none; and it begins with no board done and none equal exactly where the tally is allowed and has none of these.
+unfoldable pub frontText : Tally → List ℕ
+frontText t = chars "yard: " ++ decimal (t .done) ++ chars " done, " ++ decimal (t .equal)
+
+pub record NoneLeft (t : Tally) : Type 0 where
+  pub is-allowed : tallyAllowed t ≡ true
+  pub none-stopped : t .stopped ≡ 0
+  pub none-silent : t .silent ≡ 0
+  pub none-unread : t .unread ≡ 0
+
+abbrev pub WellIsWell : Type 0
+WellIsWell = (t : Tally) → Says (lineOf (summedText t)) (length (frontText t)) " equal, 0 stopped, 0 silent, 0 not begun; " ↔ NoneLeft t
+
+pub record NoneReady (t : Tally) : Type 0 where
+  pub is-allowed : tallyAllowed t ≡ true
+  pub none-done : t .done ≡ 0
+  pub none-equal : t .equal ≡ 0
+
+abbrev pub NoneIsNone : Type 0
+NoneIsNone = (t : Tally) → Says (lineOf (summedText t)) 0 "yard: 0 done, 0 equal, " ↔ NoneReady t
+
+-- 6. A state that no calls of its machine give is told as refused 12, and no other.
+abbrev pub StrayFollower : Type 0
+StrayFollower =
+    (f : Follower) → (Says (lineOf (followedText f)) 0 "refused 12" ↔ (followerAllowed f ≡ false))
+    × (Says (lineOf (progressText f)) 0 "refused 12" ↔ (followerAllowed f ≡ false))
+
+abbrev pub StrayCollector : Type 0
+StrayCollector =
+    (c : Collector) (kept : Kept) → (Says (lineOf (collectedText c)) 0 "refused 12" ↔ (allowed c ≡ false))
+    × (Says (lineOf (savedText c kept)) 0 "refused 12" ↔ (allowed c ≡ false))
+
+abbrev pub StrayTally : Type 0
+StrayTally = (t : Tally) → Says (lineOf (summedText t)) 0 "refused 12" ↔ (tallyAllowed t ≡ false)
+
+-- 7. The number of settings printed is the collector's own, which is all of them where all are read (the numbers of a collector are 26 in
+-- every value of the type, which `length` says);
+pub record CollectorSays (c : Collector) : Type 0 where
+  pub read-is : allowed c ≡ true → collectedText c ≡ readText (outcomeOf (c .phase) (c .len)) (c .len) (length (c .numbers))
+  pub saved-is : (kept : Kept) → Complete c → savedText c kept ≡ keptText kept (c .len)
+  pub all-read : Complete c → c .len ≡ length (c .numbers)
+
+abbrev pub CollectorsCount : Type 0
+CollectorsCount = (c : Collector) → length (c .numbers) ≡ count → CollectorSays c
+
+-- and that of a good file is the number of settings in the table that it holds.
+abbrev pub FilesCount : Type 0
+FilesCount = (text : List ℕ) (table : Table) → reading text ≡ readAs (good table) → checkedText (reading text .verdict) ≡ goodText (length (table .numbers))
+
+-- 8. No sentence is cut: each fits a line, with any counts.
+abbrev pub Fits : List ℕ → Type 0
+Fits text = length text ≤ most
+
+abbrev pub FollowersFit : Type 0
+FollowersFit = (f : Follower) → Fits (followedText f) × Fits (progressText f)
+
+abbrev pub FilesFit : Type 0
+FilesFit = (c : Collector) (kept : Kept) (verdict : Verdict) → Fits (collectedText c) × (Fits (savedText c kept) × Fits (checkedText verdict))
+
+abbrev pub YardsFit : Type 0
+YardsFit = (t : Tally) → Fits (summedText t)

@@ -1,0 +1,4 @@
+-- The sentences that claim something (ours). Read them in this order.
+pub mod Texts
+pub mod Laws
+pub mod Worked

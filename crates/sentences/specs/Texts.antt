@@ -1,0 +1,110 @@
+-- The sentences, each as it is printed. Document 00: the box "says done only for what the board confirmed". Assumes nothing.
+use Prim.Native.Nat.{ℕ, _-_}
+use mathlib.Core.Bool.{cond}
+use mathlib.Core.List.{List, [], _++_}
+use lib.Dec.{eqb}
+use Rattle.settings.specs.Columns.{count}
+use Rattle.reply.specs.Events.{refusedFrame}
+use Rattle.follow.specs.Following.{standing, total, followerAllowed}
+use Rattle.follow.specs.declared.Follower.{Follower}
+use Rattle.follow.specs.declared.Outcome as follows
+use Rattle.collect.specs.Calls.{collecting}
+use Rattle.collect.specs.declared.Collector.{Collector}
+use Rattle.collect.specs.declared.Collected.{Collected}
+use Rattle.collect.specs.declared.Outcome as collects
+use Rattle.backup.specs.declared.Verdict.{Verdict}
+use Rattle.tally.specs.Results.{tallyAllowed}
+use Rattle.tally.specs.declared.Tally.{Tally}
+use Rattle.lines.specs.Lines.{chars}
+use Rattle.lines.specs.Numbers.{decimal}
+use Rattle.sentences.specs.declared.Kept.{Kept}
+
+-- a number between words
+unfoldable pub betweenText : List ℕ → ℕ → List ℕ → List ℕ
+betweenText before n after = before ++ decimal n ++ after
+
+-- how many of how many, between words
+unfoldable pub ofText : List ℕ → ℕ → ℕ → List ℕ → List ℕ
+ofText before done due after = before ++ decimal done ++ chars " of " ++ decimal due ++ after
+
+unfoldable pub refusedText : ℕ → List ℕ
+refusedText number = betweenText (chars "refused ") number []
+
+-- A restore, by its outcome, the Sets that the board has confirmed, and those of its list.
+
+unfoldable pub stoppedText : ℕ → ℕ → List ℕ
+stoppedText confirmed due =
+    ofText (chars "stopped: ") confirmed due (chars " settings confirmed, ") ++ betweenText [] (due - confirmed) (chars " not confirmed")
+
+abbrev pub endText : follows.Outcome → ℕ → ℕ → List ℕ
+endText follows.Outcome.Done confirmed due = ofText (chars "done: ") confirmed due (chars " settings confirmed")
+endText follows.Outcome.Equal confirmed due = chars "equal: nothing to set"
+endText (follows.Outcome.Stopped wanted) confirmed due = stoppedText confirmed due
+endText (follows.Outcome.Waiting wanted) confirmed due = ofText (chars "not ended: ") confirmed due (chars " settings confirmed")
+endText (follows.Outcome.Refused number) confirmed due = refusedText number
+
+-- 12 where no start and events give the follower
+unfoldable pub followedText : Follower → List ℕ
+followedText f = cond (followerAllowed f) (endText (standing f) (f .confirmed) (total f)) (refusedText 12)
+
+unfoldable pub progressText : Follower → List ℕ
+progressText f = cond (followerAllowed f) (ofText [] (f .confirmed) (total f) (chars " confirmed")) (refusedText 12)
+
+-- A board read, by the outcome, the settings answered, and those that there are.
+
+abbrev pub readText : collects.Outcome → ℕ → ℕ → List ℕ
+readText collects.Outcome.Done answered due = betweenText (chars "all ") answered (chars " settings read")
+readText (collects.Outcome.Stopped setting) answered due = ofText (chars "stopped: ") answered due (chars " settings read")
+readText (collects.Outcome.Waiting setting) answered due = ofText (chars "not ended: ") answered due (chars " settings read")
+readText (collects.Outcome.Refused number) answered due = refusedText number
+
+-- a collector's own word, which it gives to a refused frame, as that changes nothing: its outcome (12 where no start and events give it) and
+-- its own count
+abbrev pub own : Collector → Collected
+own c = collecting c refusedFrame
+
+unfoldable pub collectedText : Collector → List ℕ
+collectedText c = readText (own c .outcome) (own c .answered) count
+
+-- The file of its settings: what became of it, by the caller's word, where every setting was read.
+
+abbrev pub keptText : Kept → ℕ → List ℕ
+keptText Kept.Not settings = chars "not saved: the file is as it was"
+keptText Kept.Unsure settings = chars "not sure: a power cut may bring the old file back"
+keptText Kept.Whole settings = betweenText (chars "saved: ") settings (chars " settings")
+
+abbrev pub unreadText : List ℕ
+unreadText = chars "not saved: not every setting was read"
+
+abbrev pub fileText : collects.Outcome → ℕ → Kept → List ℕ
+fileText collects.Outcome.Done answered kept = keptText kept answered
+fileText (collects.Outcome.Stopped setting) answered kept = unreadText
+fileText (collects.Outcome.Waiting setting) answered kept = unreadText
+fileText (collects.Outcome.Refused number) answered kept = refusedText number
+
+unfoldable pub savedText : Collector → Kept → List ℕ
+savedText c kept = fileText (own c .outcome) (own c .answered) kept
+
+-- A backup checked. The refusals' numbers are document 01's, "Backup text"; 17 and 18 have no line.
+
+unfoldable pub goodText : ℕ → List ℕ
+goodText settings = betweenText (chars "good: ") settings (chars " settings, every number in range, every pair agrees")
+
+unfoldable pub atText : ℕ → List ℕ
+atText line = cond (eqb line 0) [] (betweenText (chars ", line ") line [])
+
+abbrev pub checkedText : Verdict → List ℕ
+checkedText Verdict.Accepted = goodText count
+checkedText (Verdict.Refused number line) = refusedText number ++ atText line
+
+-- A yard's night.
+
+unfoldable pub countsText : Tally → List ℕ
+countsText t =
+    betweenText (chars "yard: ") (t .done) (chars " done, ") ++ betweenText [] (t .equal) (chars " equal, ")
+    ++ betweenText [] (t .stopped) (chars " stopped, ") ++ betweenText [] (t .silent) (chars " silent, ")
+    ++ betweenText [] (t .unread) (chars " not begun; ") ++ ofText [] (t .confirmed) (t .due) (chars " settings confirmed")
+
+-- 12 where a count is over a million
+unfoldable pub summedText : Tally → List ℕ
+summedText t = cond (tallyAllowed t) (countsText t) (refusedText 12)

@@ -1,0 +1,67 @@
+// The sentences that claim something: how a restore, the reading of a board, a file and a yard's night ended. Each is said from the states of
+// the machines that followed it and from nothing else; a state that no calls of its machine give is told as refused 12. Every call takes
+// anything, and its promise fixes its answer (specs/Texts.antt).
+ghost use mathlib.Core.Path.{_≡_};
+ghost use Rattle.lines.specs.Lines.{lineOf};
+ghost use Rattle.sentences.specs.Texts.{followedText, progressText, collectedText, savedText, checkedText, summedText};
+use backup::Verdict;
+use collect::Collector;
+use follow::Follower;
+use lines::Line;
+use tally::Tally;
+
+mod checks;
+mod ends;
+mod parts;
+mod reads;
+mod sums;
+
+// What became of the file that was to hold a board's settings, by the caller's word: it is as it was; it has the new text, but a power cut
+// may undo that; or it has the new text on the disk.
+pub enum Kept {
+    Not,
+    Unsure,
+    Whole,
+}
+
+// How a restore ended, and how many of its Sets the board has confirmed.
+pub fn followed(follower: Follower) -> Line
+    ensures { λ r. ⌜ r ≡ lineOf (followedText follower) ⌝ }
+{
+    ends::put_follower(Line::start(), follower)
+}
+
+// How many Sets of a restore are confirmed, by the follower's own count.
+pub fn progress(follower: Follower) -> Line
+    ensures { λ r. ⌜ r ≡ lineOf (progressText follower) ⌝ }
+{
+    ends::put_confirmed(Line::start(), follower)
+}
+
+// How the reading of a board ended, and how many settings were read.
+pub fn collected(collector: Collector) -> Line
+    ensures { λ r. ⌜ r ≡ lineOf (collectedText collector) ⌝ }
+{
+    reads::put_collector(Line::start(), collector)
+}
+
+// Whether the settings that were read are saved: only where every one was read.
+pub fn saved(collector: Collector, kept: Kept) -> Line
+    ensures { λ r. ⌜ r ≡ lineOf (savedText collector kept) ⌝ }
+{
+    reads::put_saved(Line::start(), collector, kept)
+}
+
+// What a backup is: good, or the number of its refusal and the line.
+pub fn checked(verdict: Verdict) -> Line
+    ensures { λ r. ⌜ r ≡ lineOf (checkedText verdict) ⌝ }
+{
+    checks::put_verdict(Line::start(), verdict)
+}
+
+// A whole yard: how many boards ended in which way, and how many settings were confirmed.
+pub fn summed(tally: Tally) -> Line
+    ensures { λ r. ⌜ r ≡ lineOf (summedText tally) ⌝ }
+{
+    sums::put_sums(Line::start(), tally)
+}
