@@ -1,15 +1,14 @@
-// Runs the calls of `settings` and prints what they answer, a line a call or a sweep; the lines due stand in the file stdout.
-mod calls;
-mod listing;
+// Loops over whole ranges, each against a reckoning of its own, with a line for what was gone through, how many agreed and how many
+// differed: all wished numbers of every setting beside numbers of its partner, all ids, and all bytes through a frame.
+mod by_hand;
+mod digits;
+mod ids;
 mod say;
-mod show;
 mod sweep;
 mod sweeps;
-mod tables;
 
 fn main() {
-    calls::worked();
-    listing::all();
     sweeps::all();
-    calls::refused();
+    ids::all();
+    digits::all();
 }

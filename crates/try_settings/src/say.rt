@@ -1,7 +1,11 @@
-// Text on standard output.
+// Text on standard output, and numbers for it.
 use libc::STDOUT_FILENO;
 
 const NUMBERS: usize = 4;
+
+const TWO_BYTES: usize = 65536;
+
+const MILLION: usize = 1000000;
 
 // A text, with the next number in place of each '#', and of each '@' as an id.
 pub fn text(text: &[u8], numbers: [usize; NUMBERS]) {
@@ -40,10 +44,25 @@ fn id(n: usize) {
 }
 
 // The last hex digit of a number.
-fn digit(n: usize) -> u8 {
+pub fn digit(n: usize) -> u8 {
     let last = n % 16;
     if last < 10 {
         return b'0' + last as u8;
     }
     b'A' + (last - 10) as u8
+}
+
+// The distance of two numbers.
+pub fn apart(a: usize, b: usize) -> usize {
+    if a < b { b - a } else { a - b }
+}
+
+// A number at the calls' width.
+pub fn short(n: usize) -> u16 {
+    if n < TWO_BYTES { n as u16 } else { 0 }
+}
+
+// One more; the remainder keeps the sum from wrapping and changes no count up to 65536.
+pub fn more(count: usize, is_due: bool) -> usize {
+    if is_due { count % MILLION + 1 } else { count }
 }

@@ -1,10 +1,10 @@
 // All wished numbers of one setting beside one number of its partner: `nearest` and `set` against a plain search that goes up through
 // the numbers. What is accepted is what `set` accepts; the line shows it as runs.
+use crate::by_hand;
 use crate::say;
-use crate::tables;
-use settings::Answer;
 use settings::Number;
-use settings::Table;
+use tables::Answer;
+use tables::Table;
 
 const WISHED: usize = 65536;
 
@@ -35,7 +35,7 @@ pub fn line(case: Case) {
     let agreed = up(case, first);
     say::text(
         b"; wished numbers that agree #, that differ #\n",
-        [agreed, apart(WISHED, agreed), 0, 0],
+        [agreed, say::apart(WISHED, agreed), 0, 0],
     );
 }
 
@@ -58,11 +58,15 @@ fn up(case: Case, first: usize) -> usize {
 fn turn(case: Case, seen: Seen, wished: usize) -> Seen {
     let above = ahead(case, seen, wished);
     let below = last(seen.below, above, wished);
-    let is_due = agrees(case, short(wished), short(closer(wished, below, above)));
+    let is_due = agrees(
+        case,
+        say::short(wished),
+        say::short(closer(wished, below, above)),
+    );
     Seen {
         below,
         above,
-        agreed: more(seen.agreed, is_due),
+        agreed: say::more(seen.agreed, is_due),
     }
 }
 
@@ -91,7 +95,7 @@ fn jump(below: usize, above: usize) {
 fn next(case: Case, from: usize) -> usize {
     let mut n = from;
     while n < WISHED {
-        if accepts(case, short(n)) {
+        if accepts(case, say::short(n)) {
             return n;
         }
         n += 1;
@@ -116,26 +120,11 @@ fn last(below: usize, above: usize, wished: usize) -> usize {
 
 // The nearer of two numbers, the smaller on a tie.
 fn closer(wished: usize, below: usize, above: usize) -> usize {
-    if apart(wished, above) < apart(wished, below) {
+    if say::apart(wished, above) < say::apart(wished, below) {
         above
     } else {
         below
     }
-}
-
-// The distance of two numbers.
-fn apart(a: usize, b: usize) -> usize {
-    if a < b { b - a } else { a - b }
-}
-
-// A number at the calls' width.
-fn short(n: usize) -> u16 {
-    if n < WISHED { n as u16 } else { 0 }
-}
-
-// One more; the remainder keeps the sum from wrapping and changes no count up to 65536.
-fn more(count: usize, is_due: bool) -> usize {
-    if is_due { count % NOWHERE + 1 } else { count }
 }
 
 // Both calls answer the due number, which is the wished one exactly where that is accepted.
@@ -145,7 +134,7 @@ fn agrees(case: Case, wished: u16, due: u16) -> bool {
     let answer = change.answer;
     is_number(settings::nearest(case.id, wished, case.partner), due)
         & is_answer(answer, wished, due)
-        & tables::is_right(table, change, case.place, wished)
+        & by_hand::is_right(table, change, case.place, wished)
 }
 
 // A number, and the one that is due.

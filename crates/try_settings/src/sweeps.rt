@@ -1,10 +1,10 @@
 // The sweeps, in the order of the ids: each setting of a pair beside four numbers of its partner, each other setting once.
+use crate::by_hand;
 use crate::say;
 use crate::sweep;
 use crate::sweep::Case;
-use crate::tables;
 use settings::COUNT;
-use settings::Table;
+use tables::Table;
 
 const VOLTS: [u16; 4] = [0, 1, 475, 950];
 
@@ -22,9 +22,9 @@ pub fn all() {
     pair(0x0328, 0x0329, CHARGE);
     pair(0x032A, 0x032B, HEAT);
     pair(0x032C, 0x032D, HEAT);
-    alone(tables::place(0x0400), tables::place(0x1008));
+    alone(by_hand::place(0x0400), by_hand::place(0x1008));
     pair(0x1008, 0x1009, CHARGE);
-    alone(tables::place(0xEEF5), COUNT);
+    alone(by_hand::place(0xEEF5), COUNT);
 }
 
 // The two of a pair, each beside some numbers of the other.
@@ -40,8 +40,8 @@ fn pair(first: u16, second: u16, numbers: [u16; 4]) {
 // One setting beside one number of its partner.
 fn beside(id: u16, other: u16, partner: u16) {
     say::text(b"beside @ at #: ", [other as usize, partner as usize, 0, 0]);
-    let place = tables::place(id);
-    let table = tables::with(id, partner, other, partner);
+    let place = by_hand::place(id);
+    let table = by_hand::with(id, partner, other, partner);
     sweep::line(Case {
         table,
         place,
@@ -54,7 +54,7 @@ fn beside(id: u16, other: u16, partner: u16) {
 fn alone(from: usize, to: usize) {
     let mut place = from;
     while place < to {
-        let id = tables::setting(place).id;
+        let id = by_hand::setting(place).id;
         let table = Table::factory();
         sweep::line(Case {
             table,

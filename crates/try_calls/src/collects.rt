@@ -1,0 +1,150 @@
+// The collector of a board's settings.
+ghost use Prim.Native.Nat.{_≤_};
+use crate::args;
+use crate::bytes_of::SPACE;
+use crate::filled;
+use crate::frames;
+use crate::parts::count;
+use crate::parts::least;
+use crate::say;
+use crate::words;
+use collect::Collected;
+use collect::Collector;
+use collect::Outcome;
+use collect::Phase;
+use settings::COUNT;
+use settings::Found;
+use settings::Setting;
+use tables::Table;
+use wire::Read;
+
+// The code of a Get reply, and its data with a value of one byte and of two.
+const GET: u8 = 7;
+
+const ONE_BYTE: usize = 4;
+
+const TWO_BYTES: usize = 5;
+
+// `collect ID ITEM ..`: a start, and every setting before this id answered with its factory number; then what the items tell.
+pub fn collect(row: &[u8]) {
+    let begun = Collector::start().collector;
+    items(answered(begun, filled::place_of(args::id(row, 1))), row);
+}
+
+// `gather LEN ITEM ..`: a collector made by hand, with LEN settings answered and every number 0.
+pub fn gather(row: &[u8]) {
+    let made = Collector {
+        len: args::number(row, 1),
+        numbers: [0u16; COUNT],
+        phase: Phase::Waiting,
+    };
+    items(made, row);
+}
+
+// The settings before a place, answered with their factory numbers.
+fn answered(collector: Collector, place: usize) -> Collector {
+    let mut asking = collector;
+    let mut i = 0;
+    while i < place {
+        asking = truly(asking, i);
+        i += 1;
+    }
+    asking
+}
+
+// The setting at a place, answered with its factory number.
+fn truly(collector: Collector, place: usize) -> Collector {
+    let found = settings::at(place);
+    let Found::At(setting) = found else {
+        return collector;
+    };
+    good(collector, setting, number_at(place))
+}
+
+// The factory number at a place.
+fn number_at(place: usize) -> u16 {
+    let factory = Table::factory();
+    let numbers = factory.numbers;
+    if place < COUNT {
+        return numbers[place];
+    }
+    0
+}
+
+// How many data a good Get reply of a width has.
+fn data_len(width: usize) -> usize
+    ensures { λ r. ⌜ r ≤ 5 ⌝ }
+{
+    if width == 1 { ONE_BYTE } else { TWO_BYTES }
+}
+
+// A good Get reply.
+fn good(collector: Collector, setting: Setting, number: u16) -> Collector {
+    let data = [
+        (setting.id % 256) as u8,
+        (setting.id / 256) as u8,
+        0,
+        (number % 256) as u8,
+        (number / 256) as u8,
+    ];
+    collector
+        .reply(GET, &data[0..data_len(setting.width)])
+        .collector
+}
+
+// What the items of a row tell.
+fn items(collector: Collector, row: &[u8]) {
+    let words = count(row);
+    let mut asking = collector;
+    let mut k = 2;
+    while k < words {
+        asking = item(asking, row, k);
+        k += 1;
+    }
+}
+
+// Silence, or a frame.
+fn item(collector: Collector, row: &[u8], k: usize) -> Collector {
+    if args::letter(row, k) == b's' {
+        return told(collector.no_answer());
+    }
+    let mut space = [0u8; SPACE];
+    let read = frames::read_at(row, k, &mut space);
+    told(heard(collector, read, space))
+}
+
+// A frame that was read, or one that is refused.
+fn heard(collector: Collector, read: Read, space: [u8; SPACE]) -> Collected {
+    match read {
+        Read::Frame { command, len } => collector.reply(command, &space[0..least(len, SPACE)]),
+        Read::Refused(_) => collector.refused_frame(),
+    }
+}
+
+// An answer: where the collecting is, how many settings were answered, and what is not the factory's in the table. The collector in it
+// goes on.
+fn told(answer: Collected) -> Collector {
+    let outcome = answer.outcome;
+    let collector = answer.collector;
+    standing(outcome);
+    say::number(answer.answered);
+    filled::differences(answer.table);
+    words::say(words::END);
+    collector
+}
+
+// Where the collecting is.
+fn standing(outcome: Outcome) {
+    match outcome {
+        Outcome::Waiting(setting) => with_id(words::WAITING, setting),
+        Outcome::Done => words::say(words::DONE),
+        Outcome::Stopped(setting) => with_id(words::STOPPED, setting),
+        Outcome::Refused(number) => say::refused(number),
+    }
+}
+
+// A word with a setting's id.
+fn with_id(word: usize, setting: Setting) {
+    words::say(word);
+    say::id(setting.id);
+}

@@ -1,0 +1,83 @@
+// The follower of a restore.
+use crate::args;
+use crate::bytes_of::SPACE;
+use crate::filled;
+use crate::frames;
+use crate::parts::count;
+use crate::parts::least;
+use crate::restores;
+use crate::say;
+use crate::words;
+use follow::Followed;
+use follow::Follower;
+use follow::Outcome;
+use restore::Wanted;
+use wire::Read;
+
+// `follow ITEM ..`: where the restore is after each item, and at the end what the box says of it.
+pub fn follow(row: &[u8]) {
+    let follower = at_the_end(row);
+    say::sentence(sentences::followed(follower));
+}
+
+// A start from the two tables of the row, and after it what its other items tell.
+fn at_the_end(row: &[u8]) -> Follower {
+    let words = count(row);
+    let from = filled::table_of(row, false);
+    let to = filled::table_of(row, true);
+    let mut follower = told(Follower::start(from, to));
+    let mut k = 1;
+    while k < words {
+        follower = item(follower, row, k);
+        k += 1;
+    }
+    follower
+}
+
+// An item, if it puts in no number: silence, or a frame.
+fn item(follower: Follower, row: &[u8], k: usize) -> Follower {
+    if filled::is_setting_at(row, k) {
+        return follower;
+    }
+    if args::letter(row, k) == b's' {
+        return told(follower.no_answer());
+    }
+    let mut space = [0u8; SPACE];
+    let read = frames::read_at(row, k, &mut space);
+    told(heard(follower, read, space))
+}
+
+// A frame that was read, or one that is refused.
+fn heard(follower: Follower, read: Read, space: [u8; SPACE]) -> Followed {
+    match read {
+        Read::Frame { command, len } => follower.reply(command, &space[0..least(len, SPACE)]),
+        Read::Refused(_) => follower.refused_frame(),
+    }
+}
+
+// An answer: where the restore is, and how many Sets are confirmed. The follower in it goes on.
+fn told(answer: Followed) -> Follower {
+    let outcome = answer.outcome;
+    let follower = answer.follower;
+    standing(outcome);
+    say::number(answer.confirmed);
+    words::say(words::END);
+    follower
+}
+
+// Where a restore is.
+fn standing(outcome: Outcome) {
+    match outcome {
+        Outcome::Waiting(wanted) => with_set(words::WAITING, wanted),
+        Outcome::Equal => words::say(words::EQUAL),
+        Outcome::Done => words::say(words::DONE),
+        Outcome::Stopped(wanted) => with_set(words::STOPPED, wanted),
+        Outcome::Refused(number) => say::refused(number),
+    }
+}
+
+// A word with a Set.
+fn with_set(word: usize, wanted: Wanted) {
+    words::say(word);
+    restores::wanted(wanted);
+}

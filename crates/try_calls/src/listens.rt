@@ -1,0 +1,87 @@
+// The listener: the stream, and how long the box waits.
+use crate::args;
+use crate::bytes_of::SPACE;
+use crate::frames;
+use crate::parts::count;
+use crate::parts::least;
+use crate::say;
+use crate::words;
+use listen::Listened;
+use listen::Listener;
+use listen::Told;
+
+// `listen QUIET NOISE ROOM EVENT ..`: QUIET reads that gave nothing and NOISE bytes since the last request; then reads, and requests.
+pub fn listen(row: &[u8]) {
+    let words = count(row);
+    let room = args::number(row, 3);
+    let mut listener = with_counts(args::number(row, 1), args::number(row, 2));
+    let mut k = 4;
+    while k < words {
+        listener = after(listener, row, k, room);
+        k += 1;
+    }
+}
+
+// A listener outside a frame, with these counts, allowed or not.
+fn with_counts(quiet: usize, noise: usize) -> Listener {
+    let start = Listener::start();
+    let held = start.held;
+    Listener { held, quiet, noise }
+}
+
+// A request, or a read.
+fn after(listener: Listener, row: &[u8], k: usize, room: usize) -> Listener {
+    if args::letter(row, k) == b'a' {
+        return listener.asked();
+    }
+    let mut space = [0u8; SPACE];
+    let len = args::bytes(row, k, &mut space);
+    reads(listener, space, len, room)
+}
+
+// The read at the front of a space, call after call, what one did not take being handed on, until it is taken or a call takes nothing.
+fn reads(listener: Listener, space: [u8; SPACE], len: usize, room: usize) -> Listener {
+    let mut listening = listener;
+    if SPACE < len {
+        return listening;
+    }
+    let mut from = 0;
+    loop {
+        let listened = once(listening, &space[from..len], room);
+        let taken = listened.taken;
+        listening = listened.listener;
+        if taken == 0 {
+            return listening;
+        }
+        if len - from <= taken {
+            return listening;
+        }
+        from += taken;
+    }
+}
+
+// One call: how many bytes it took, and what it tells.
+fn once(listener: Listener, piece: &[u8], room: usize) -> Listened {
+    let mut space = [0u8; SPACE];
+    let n = least(room, SPACE);
+    let listened = listener.read(piece, &mut space[0..n]);
+    let told = listened.told;
+    say::number(listened.taken);
+    tells(told, space);
+    words::say(words::END);
+    listened
+}
+
+// What a call tells.
+fn tells(told: Told, space: [u8; SPACE]) {
+    match told {
+        Told::Nothing => words::say(words::NOTHING),
+        Told::Frame { command, len } => {
+            words::say(words::FRAME);
+            frames::shown(command, len, space);
+        }
+        Told::Broken(number) => say::numbered(words::BROKEN, number as usize),
+        Told::NoAnswer => words::say(words::NO_ANSWER),
+        Told::Refused(number) => say::refused(number),
+    }
+}

@@ -1,0 +1,50 @@
+// Settings: the nearest number, a number of a table, and a Set of a table.
+use crate::args;
+use crate::filled;
+use crate::numbers;
+use crate::say;
+use crate::words;
+use settings::Number;
+use tables::Answer;
+
+// `nearest ID WISHED PARTNER`
+pub fn nearest(row: &[u8]) {
+    let wished = numbers::as_16(args::number(row, 2));
+    let partner = numbers::as_16(args::number(row, 3));
+    told(settings::nearest(args::id(row, 1), wished, partner));
+}
+
+// A number, or a refusal.
+fn told(it: Number) {
+    match it {
+        Number::Is(n) => say::number(n as usize),
+        Number::Refused(number) => say::refused(number),
+    }
+}
+
+// `number PLACE SETTING ..`: the number at a place of a table.
+pub fn number(row: &[u8]) {
+    let table = filled::table_of(row, false);
+    told(table.number(args::number(row, 1)));
+}
+
+// `change PLACE NUMBER SETTING ..`: a Set of a table, and what is not the factory's in the table after it.
+pub fn change(row: &[u8]) {
+    let table = filled::table_of(row, false);
+    let wished = numbers::as_16(args::number(row, 2));
+    let change = table.set(args::number(row, 1), wished);
+    let answer = change.answer;
+    changed(answer);
+    filled::differences(change.table);
+}
+
+// What a Set comes to.
+fn changed(answer: Answer) {
+    match answer {
+        Answer::Accepted => words::say(words::ACCEPTED),
+        Answer::Refused { number, nearest } => {
+            say::refused(number);
+            say::numbered(words::NEAREST, nearest as usize);
+        }
+    }
+}
