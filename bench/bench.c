@@ -341,7 +341,7 @@ static double turn(const struct work *w, int side, struct figure *f, uint64_t wa
     return took;
 }
 
-/* Both sides in turns, each for at least so many seconds; the lent buffer afterwards is held to what is wanted, as every answer is. */
+/* Both sides in turns, each for at least `least` seconds; the lent buffer afterwards is compared with what is wanted, as every answer is. */
 static double measure(const struct work *w, struct figure *f, double least, uint64_t wanted, const char *size)
 {
     double spent[SIDES] = {0, 0};

@@ -1,4 +1,4 @@
-# Read by run and fuzz: finds the toolchain, proves and makes the archives, compiles, links, runs. POSIX sh.
+# Read by run and fuzz: proves and makes the archives, compiles, links, runs. POSIX sh.
 # FIRMWARE_A and BENCH_A name archives that are there already. CC names another compiler, on x86-64 alone.
 set -u
 
@@ -16,23 +16,14 @@ machine=$(uname -m)
 for file in firmware/plain.h firmware/plain.c; do [ -f "$root/$file" ] || die "there is no $file"; done
 
 # The toolchain is needed unless a compiler and both archives are given.
-tools='' link='' emulator='' loader=''
-if [ -z "${CC:-}" ] || [ -z "${FIRMWARE_A:-}" ] || [ -z "${BENCH_A:-}" ]; then
-    command -v rt >/dev/null 2>&1 || die "rt, the Rattle toolchain's command, is not on the PATH"
-    home=$(rt doc) || die "rt does not say where its toolchain is"
-    home=$(dirname "$(dirname "$home")")
-    tools=$home/on/$machine/toolchain
-    link=$home/on/$machine/bin/rattle-link
-fi
-if [ -n "${CC:-}" ]; then
+. "$root/toolchain.sh"
+emulator=''
+if [ -z "${CC:-}" ] || [ -z "${FIRMWARE_A:-}" ] || [ -z "${BENCH_A:-}" ]; then find_toolchain || die "$missing"; fi
+if [ -z "${CC:-}" ]; then
+    find_compiler || die "$missing"
+else
     [ "$machine" = x86_64 ] || die "CC is for x86-64 alone, and this machine is $machine"
     command -v "${CC%% *}" >/dev/null 2>&1 || die "there is no compiler $CC"
-else
-    for file in "$tools/bin/clang" "$link" "$tools/lib/ld-linux-x86-64.so.2"; do [ -x "$file" ] || die "the toolchain has no ${file##*/}"; done
-    # what is linked is for x86-64; for another processor the toolchain has an emulator
-    loader=$tools/lib/ld-linux-x86-64.so.2
-    if [ -x "$tools/bin/qemu-x86_64" ]; then emulator=$tools/bin/qemu-x86_64
-    elif [ "$machine" != x86_64 ]; then die "the toolchain has no emulator for x86-64, and this machine is $machine"; fi
 fi
 
 # Runs words silently; where they fail, shows what they said and stops.
@@ -64,7 +55,7 @@ compile() { # SOURCE OBJECT WORDS...
         # shellcheck disable=SC2086
         quietly "$CC $source" $CC -D_POSIX_C_SOURCE=200809L "$@"
     else
-        quietly "clang $source" "$tools/bin/clang" --target=x86_64-linux-gnu -nostdinc -isystem "$here/include" "$@"
+        quietly "clang $source" "$clang" --target=x86_64-linux-gnu -nostdinc -isystem "$here/include" "$@"
     fi
 }
 
@@ -83,7 +74,7 @@ link_program() { # OBJECT... ; archives in $archives, one to a line
         # shellcheck disable=SC2086
         quietly "$CC, linking," $CC -o "$room/program" "$@"
     else
-        quietly "rattle-link" "$link" --target x86_64-unknown-linux-gnu --toolchain "$tools" -o "$room/program" "$@"
+        quietly "rattle-link" link_x86 "$room/program" "$@"
     fi
 }
 

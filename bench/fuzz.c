@@ -1,6 +1,6 @@
-/* The proved code and plain C on streams made at random, held against each other byte for byte.
+/* The proved code and plain C on streams made at random, compared byte for byte.
  *
- *   fuzz SECONDS SEED          streams 0, 1, 2, .. of a seed, for so many seconds
+ *   fuzz SECONDS SEED          streams 0, 1, 2, .. of a seed, for this many seconds
  *   fuzz SECONDS SEED STREAM   that one stream alone */
 #include <stdio.h>
 #include <stdlib.h>
@@ -208,7 +208,7 @@ static void put_other(void)
     put_frame(one_in(3) ? any(16) : known[any(sizeof known)], data, count);
 }
 
-/* so many digits and an end, around 73 and far beyond */
+/* a number of digits and an end, around 73 and far beyond */
 static void put_long(void)
 {
     size_t count = one_in(8) ? any(900) : 70 + any(9);

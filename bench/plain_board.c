@@ -76,7 +76,7 @@ size_t plain_hear(struct plain_line *line, const uint8_t *piece, size_t n, uint8
         line->len = chars + 1;
         return n;
     }
-    /* a frame that stands whole in the piece is read there */
+    /* a frame that is whole in the piece is read there */
     *said = *at == ':' ? broken(line, chars) : plain_read_frame(colon, chars + 2, into, PLAIN_MOST_DATA);
     return (size_t)(at + 1 - piece);
 }
@@ -137,7 +137,7 @@ static size_t send_error(uint8_t *out)
     return 9;
 }
 
-/* an id and a flag; the value goes behind them */
+/* an id and a flag; the value goes after them */
 static uint8_t *say(uint8_t *data, uint16_t id, uint8_t flag)
 {
     data = put(data, id, 2);

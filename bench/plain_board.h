@@ -10,7 +10,7 @@
 #define PLAIN_REPLY_ROOM 75
 #define PLAIN_MOST_SERIAL 32
 
-/* The unfinished frame of a line: no byte outside a frame, else its colon and the characters behind it. 74 characters say "over 73", so
+/* The unfinished frame of a line: no byte outside a frame, else its colon and the characters after it. 74 characters say "over 73", so
  * later ones are dropped. The last place is for the newline. */
 struct plain_line {
     size_t len;
@@ -59,7 +59,7 @@ struct plain_counts {
     uint64_t outcome[PLAIN_OUTCOMES]; /* of calls on a board */
     uint64_t command[16];             /* good frames of each command, on a board */
     uint64_t got[PLAIN_SETTINGS], stored[PLAIN_SETTINGS], nearest[PLAIN_SETTINGS], wide[PLAIN_SETTINGS]; /* by setting */
-    uint64_t zero;                    /* 10 with the nearest number 0 where 0 stands beside a range */
+    uint64_t zero;                    /* 10 with the nearest number 0 where 0 is allowed besides a range */
     uint64_t read_only[8];            /* Gets of each */
     uint64_t start, store;            /* refused 12 */
     uint64_t heard[5];                /* the stream: frames read well, refusals 1 to 4 */

@@ -52,7 +52,7 @@ static size_t receive(uint8_t byte, uint8_t *reply)
     return answer(read, reply);
 }
 
-/* From here on a program stands in for the board: it feeds lines to the loop and prints the replies. The two functions of the C library
+/* From here on a program takes the board's place: it feeds lines to the loop and prints the replies. The two functions of the C library
  * are declared by hand, so that it compiles where there are no headers for this processor. */
 int printf(const char *format, ...);
 int putchar(int byte);

@@ -54,7 +54,7 @@ static struct zone make_zone(void)
     return zone;
 }
 
-/* Where a buffer stands: its last byte is the zone's last, or its first is the zone's first. Guard bytes are on its other side. */
+/* Where a buffer lies: its last byte is the zone's last, or its first is the zone's first. Guard bytes are on its other side. */
 enum side { AT_END, AT_START };
 
 static uint8_t *place(struct zone zone, size_t size, enum side side)
@@ -137,7 +137,7 @@ static void touched(int number)
 
 /* ---- one call, with every byte around it looked at */
 
-/* Set while the bytes that are read stand in a page that cannot be written: too slow for every call. */
+/* Set while the bytes that are read are in a page that cannot be written: too slow for every call. */
 static int sealed;
 
 static void run(struct input input, enum side side, uint8_t fill, uint32_t due, const uint8_t *front, size_t front_size)
@@ -163,7 +163,7 @@ static void run(struct input input, enum side side, uint8_t fill, uint32_t due, 
     else if (memcmp(lent, front, front_size) != 0)
         check(0, "other bytes in the lent buffer", got, due);
     else if (!is_filled(lent + front_size, input.room - front_size, fill))
-        check(0, "a byte of the lent buffer changed behind the answer's", got, due);
+        check(0, "a byte of the lent buffer changed after the answer's", got, due);
     else if (!is_filled(lent_guard, GUARD, fill))
         check(0, "a byte beside the lent buffer changed", got, due);
     else if (memcmp(bytes, input.bytes, input.count) != 0 || !is_filled(bytes_guard, GUARD, fill))
@@ -262,7 +262,7 @@ static const struct {
 } spoilt[] = {
     /* in print: a check the wrong way round, a sum wrong on purpose, a digit short; lost colons and a blank */
     {":30300F4\n", 4}, {":452\n", 4}, {":80010000003D\n", 3}, {"7F0ED00F4017C\n", 2}, {"2AAAAFF\n", 2}, {":3 52\n", 2}, {"451\n", 2},
-    /* the ends: nothing, one byte, no colon, no newline, bytes behind */
+    /* the ends: nothing, one byte, no colon, no newline, bytes after it */
     {"", 2}, {":", 2}, {"\n", 2}, {"1", 2}, {"::", 2}, {"\n\n", 2}, {"\n:", 2}, {"154\n", 2}, {":154", 2}, {":154\n\n", 2}, {" :154\n", 2},
     {":154\n ", 2}, {":154\n:", 2}, {":154\n:154\n", 2}, {":154\r", 2},
     /* characters that are no digit: a second colon, a newline, a carriage return, lower case, the neighbours of the digits */

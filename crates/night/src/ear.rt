@@ -5,7 +5,7 @@ use listen::Told;
 // The data of one frame at most.
 pub(crate) const MOST_DATA: usize = 35;
 
-// The listener's patience ends after some thousand bytes and reads: there are never so many turns.
+// The listener's patience ends after some thousand bytes and reads: there are never this many turns.
 const MOST_TURNS: u32 = 1000000;
 
 // What was told, and the data of the frame, if it was one.

@@ -4,12 +4,13 @@ use crate::words;
 use backup::Backup;
 use backup::Verdict;
 use backup::Written;
-use settings::Table;
+use sentences::Kept;
+use tables::Table;
 
 // The room that a backup text takes.
 const TEXT_ROOM: usize = 512;
 
-// What a temporary file's name has behind the file's own.
+// What a temporary file's name has after the file's own.
 const MARK: usize = 7;
 
 // Owner and others read, the owner writes.
@@ -19,13 +20,6 @@ const MODE: u32 = 0o644;
 pub(crate) struct Text {
     pub(crate) is: bool,
     pub(crate) backup: Backup,
-}
-
-// What became of a file that was to be kept: it is as it was, or has the new text; unsure where a power cut may undo that.
-pub(crate) enum Kept {
-    Not,
-    Unsure,
-    Whole,
 }
 
 // Whether a file was read to its end, or as far as there was room: at the end a read gives nothing, and does not fail.
@@ -74,7 +68,7 @@ pub(crate) fn is_good(verdict: Verdict) -> bool {
     }
 }
 
-// Copies a path and the mark of a temporary name behind it; their length together, or 0 where there is no room.
+// Copies a path and the mark of a temporary name after it; their length together, or 0 where there is no room.
 fn temporary(path: &[u8], name: &mut [u8]) -> usize {
     if name.len() < MARK {
         return 0;
@@ -120,7 +114,7 @@ fn sync_folder(path: &[u8]) -> bool {
     synced
 }
 
-// The same for the folder that a file stands in.
+// The same for the folder that a file is in.
 fn sync_around(path: &[u8]) -> bool {
     let len = folder_of(path);
     if len == 0 {

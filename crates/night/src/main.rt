@@ -6,6 +6,7 @@
 //     night restore LINE FILE   puts FILE back, one Set at a time, and says done only for what the board confirmed
 //     night show LINE           who the board is, and its five readings
 //     night yard LIST           restores each trailer of LIST in turn
+//     night lines LIST          the name and the line of each trailer of LIST, for a script that sets the lines
 //
 // A row of LIST has a name, a line and a file, blanks or tabs between; an empty row and one that begins with # are passed over.
 //
@@ -14,11 +15,16 @@ mod checks;
 mod ear;
 mod file;
 mod line;
+mod names;
 mod putback;
 mod reading;
 mod restoring;
+mod rows;
+mod said;
 mod save;
 mod show;
+mod talk;
+mod viewing;
 mod words;
 mod yard;
 
@@ -32,6 +38,7 @@ fn main() {
         words::Command::Restore => putback::run(),
         words::Command::Show => show::run(),
         words::Command::Yard => yard::run(),
+        words::Command::Lines => rows::tell_lines(),
         words::Command::Unknown => words::usage(),
     }
 }

@@ -1,4 +1,5 @@
 // `night restore LINE FILE`.
+use crate::checks;
 use crate::file;
 use crate::line;
 use crate::line::Ends;
@@ -6,7 +7,7 @@ use crate::reading;
 use crate::restoring;
 use crate::words;
 use collect::Outcome;
-use settings::Table;
+use tables::Table;
 
 // Opens the line first: where the two words are swapped, the device is not read as a file.
 pub(crate) fn run() {
@@ -33,7 +34,7 @@ fn put_back(ends: Ends) {
     if file::is_good(verdict) {
         restore(ends, table);
     } else {
-        words::tell(ends.report, verdicts::checked(verdict));
+        checks::tell(ends.report, verdict);
     }
 }
 
@@ -43,22 +44,10 @@ fn restore(ends: Ends, to: Table) {
     let collected = reading::settings_of(ends, false);
     let outcome = collected.outcome;
     match outcome {
-        Outcome::Done => {
-            let from = collected.table;
-            send(ends, from, to);
-        }
-        Outcome::Waiting(_) => words::tell(
-            ends.report,
-            endings::collected(outcome, collected.answered),
-        ),
-        Outcome::Stopped(_) => words::tell(
-            ends.report,
-            endings::collected(outcome, collected.answered),
-        ),
-        Outcome::Refused(_) => words::tell(
-            ends.report,
-            endings::collected(outcome, collected.answered),
-        ),
+        Outcome::Done => send(ends, collected.table, to),
+        Outcome::Waiting(_) => reading::tell_end(ends.report, collected),
+        Outcome::Stopped(_) => reading::tell_end(ends.report, collected),
+        Outcome::Refused(_) => reading::tell_end(ends.report, collected),
     }
 }
 
@@ -66,5 +55,5 @@ fn restore(ends: Ends, to: Table) {
 fn send(ends: Ends, from: Table, to: Table) {
     restoring::show_list(ends.report, from, to);
     let restored = restoring::follow(ends, from, to, true);
-    restoring::tell_end(ends.report, b"", restored);
+    restoring::tell_end(ends.report, restored);
 }

@@ -1,11 +1,12 @@
 // `night save LINE FILE`.
 use crate::file;
-use crate::file::Kept;
 use crate::line;
 use crate::reading;
 use crate::words;
+use collect::Collected;
+use collect::Collector;
 use collect::Outcome;
-use settings::Table;
+use sentences::Kept;
 
 // Reads all settings, and writes the file once all were answered.
 pub(crate) fn run() {
@@ -16,42 +17,46 @@ pub(crate) fn run() {
     }
     let collected = reading::settings_of(ends, true);
     line::close(ends);
-    let outcome = collected.outcome;
-    words::tell(ends.report, endings::collected(outcome, collected.answered));
-    match outcome {
-        Outcome::Done => {
-            let table = collected.table;
-            keep(ends.report, table);
-        }
-        Outcome::Waiting(_) => unsaved(ends.report),
-        Outcome::Stopped(_) => unsaved(ends.report),
-        Outcome::Refused(_) => unsaved(ends.report),
-    }
+    reading::tell_end(ends.report, collected);
+    kept(ends.report, collected);
 }
 
-// The file stays as it was.
+// Without a line nothing was read.
 fn unsaved(report: i32) {
-    words::say(report, b"not saved: the file is as it was");
+    let collected = Collector::start();
+    tell(report, collected, Kept::Not, b"");
 }
 
-// Writes the file, and says that it is saved only once it is whole and on the disk under its name.
-fn keep(report: i32, table: Table) {
+// Writes the file where all settings were read.
+fn kept(report: i32, collected: Collected) {
     let mut path = io::buffer();
     let len = os::arg(words::SECOND, &mut path);
-    let kept = file::keep(&path[..len], table);
-    match kept {
-        Kept::Not => unsaved(report),
-        Kept::Unsure => said_of(
-            report,
-            b"not sure: a power cut may bring the old file back: ",
-            &path[..len],
-        ),
-        Kept::Whole => said_of(report, b"saved: ", &path[..len]),
+    let outcome = collected.outcome;
+    match outcome {
+        Outcome::Done => {
+            let kept = file::keep(&path[..len], collected.table);
+            tell(report, collected, kept, &path[..len]);
+        }
+        Outcome::Waiting(_) => tell(report, collected, Kept::Not, b""),
+        Outcome::Stopped(_) => tell(report, collected, Kept::Not, b""),
+        Outcome::Refused(_) => tell(report, collected, Kept::Not, b""),
     }
 }
 
-// A line that ends with the file's name.
-fn said_of(report: i32, text: &[u8], path: &[u8]) {
-    io::write_all(report, text);
-    words::say(report, path);
+// Whether the settings are saved, which the collector and what became of the file decide together; then the file's name, if it was written.
+fn tell(report: i32, collected: Collected, kept: Kept, path: &[u8]) {
+    let collector = collected.collector;
+    words::add(report, sentences::saved(collector, kept));
+    match kept {
+        Kept::Not => {}
+        Kept::Unsure => named(report, b": ", path),
+        Kept::Whole => named(report, b" to ", path),
+    }
+    words::end(report);
+}
+
+// The file's name, after a word.
+fn named(report: i32, word: &[u8], path: &[u8]) {
+    io::write_all(report, word);
+    io::write_all(report, path);
 }

@@ -18,10 +18,11 @@ pub(crate) enum Command {
     Restore,
     Show,
     Yard,
+    Lines,
     Unknown,
 }
 
-// The command of a word, where it has the words that it needs behind it.
+// The command of a word, where it has the words that it needs after it.
 pub(crate) fn asked_for(word: &[u8], count: usize) -> Command {
     if count == 4 && check::same(word, b"save") {
         return Command::Save;
@@ -38,6 +39,9 @@ pub(crate) fn asked_for(word: &[u8], count: usize) -> Command {
     if count == 3 && check::same(word, b"yard") {
         return Command::Yard;
     }
+    if count == 3 && check::same(word, b"lines") {
+        return Command::Lines;
+    }
     Command::Unknown
 }
 
@@ -45,20 +49,31 @@ pub(crate) fn asked_for(word: &[u8], count: usize) -> Command {
 pub(crate) fn usage() {
     say(
         libc::STDERR_FILENO,
-        b"usage: night save LINE FILE | check FILE | restore LINE FILE | show LINE | yard LIST",
+        b"usage: night save LINE FILE | check FILE | restore LINE FILE | show LINE | yard LIST | lines LIST",
     );
 }
 
 // A line of fixed text.
 pub(crate) fn say(report: i32, text: &[u8]) {
     io::write_all(report, text);
-    io::write_all(report, b"\n");
+    end(report);
 }
 
 // A line of the report.
 pub(crate) fn tell(report: i32, line: Line) {
+    add(report, line);
+    end(report);
+}
+
+// A part of a line.
+pub(crate) fn add(report: i32, line: Line) {
     let chars = line.chars;
     put(report, &chars, line.len);
+}
+
+// The end of a line.
+pub(crate) fn end(report: i32) {
+    io::write_all(report, b"\n");
 }
 
 // How much of a buffer is meant: `len` bytes at its front, or all of it where it has less.
@@ -78,4 +93,20 @@ pub(crate) fn put(fd: i32, text: &[u8], len: usize) -> bool {
 pub(crate) fn name(report: i32, name: &[u8]) {
     io::write_all(report, name);
     io::write_all(report, b": ");
+}
+
+// What separates words.
+pub(crate) fn is_blank(c: u8) -> bool {
+    c == b' ' || c == b'\t' || c == b'\r' || c == b'\n'
+}
+
+// How much of a text comes before the blanks at its end.
+pub(crate) fn filled(text: &[u8]) -> usize
+    ensures { λ r. ⌜ Counts r (now (text .entry)) ⌝ }
+{
+    let mut len = text.len();
+    while len > 0 && is_blank(text[len - 1]) {
+        len -= 1;
+    }
+    front(len, text)
 }

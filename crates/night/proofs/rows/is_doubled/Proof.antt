@@ -1,10 +1,10 @@
--- `night::yard::is_doubled` meets its contract. Assumes nothing.
+-- `night::rows::is_doubled` meets its contract. Assumes nothing.
 use Prim.Native.Nat.{_≤_, _-_}
 use lib.ListN.{length}
 use native.Mathlib.Omega.{arith}
 use borrow.Author.Needs.{needs}
-use Rattle.night.proofs.yard.is_doubled.Statement.{statement}
-use Rattle.night.proofs.yard.is_doubled.Tie as tie
+use Rattle.night.proofs.rows.is_doubled.Statement.{statement}
+use Rattle.night.proofs.rows.is_doubled.Tie as tie
 
 abbrev Inv-loop : tie.InvT-loop
 Inv-loop list at₀ at = at ≤ length list

@@ -1,10 +1,10 @@
--- `night::yard::stands_in` meets its contract. Assumes nothing.
+-- `night::rows::is_in` meets its contract. Assumes nothing.
 use Prim.Native.Nat.{_≤_, _-_}
 use lib.ListN.{length}
 use native.Mathlib.Omega.{arith}
 use borrow.Author.Needs.{needs}
-use Rattle.night.proofs.yard.stands_in.Statement.{statement}
-use Rattle.night.proofs.yard.stands_in.Tie as tie
+use Rattle.night.proofs.rows.is_in.Statement.{statement}
+use Rattle.night.proofs.rows.is_in.Tie as tie
 
 abbrev Inv-loop : tie.InvT-loop
 Inv-loop list line at₀ at = at ≤ length list
@@ -45,8 +45,8 @@ loop-again c = search needs
 returns-2 : tie.Need-returns-2 Inv-loop μ-loop
 returns-2 c = search needs
 
-pub stands-in-spec : {M : Type 1} → statement M
-stands-in-spec =
+pub is-in-spec : {M : Type 1} → statement M
+is-in-spec =
     tie.close
     (tie.spec
     Inv-loop

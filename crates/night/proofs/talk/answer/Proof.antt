@@ -1,14 +1,17 @@
--- `night::restoring::answer` meets its contract. Assumes nothing.
+-- `night::talk::answer` meets its contract. Assumes nothing.
 use native.Mathlib.Omega.{arith}
 use borrow.Author.Needs.{needs}
-use Rattle.night.proofs.restoring.answer.Statement.{statement}
-use Rattle.night.proofs.restoring.answer.Tie as tie
+use Rattle.night.proofs.talk.answer.Statement.{statement}
+use Rattle.night.proofs.talk.answer.Tie as tie
 
 abbrev Inv-loop : tie.InvT-loop
-Inv-loop input confirmed way₀ turns₀ way turns = Unit {0}
+Inv-loop input before talk₀ turns₀ talk turns = Unit {0}
 
 abbrev μ-loop : tie.MeasureT-loop
-μ-loop input confirmed way₀ turns₀ way turns = turns
+μ-loop input before talk₀ turns₀ talk turns = turns
+
+answered-requires : tie.Need-answered-requires Inv-loop μ-loop
+answered-requires c κs = search needs
 
 loop-holds : tie.Need-loop-holds Inv-loop μ-loop
 loop-holds c = tt
@@ -40,6 +43,7 @@ answer-spec =
     (tie.spec
     Inv-loop
     μ-loop
+    answered-requires
     loop-holds
     waits-requires
     event-requires

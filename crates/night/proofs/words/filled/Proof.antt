@@ -1,10 +1,10 @@
--- `night::yard::filled` meets its contract. Assumes nothing.
+-- `night::words::filled` meets its contract. Assumes nothing.
 use Prim.Native.Nat.{_≤_}
 use lib.ListN.{length}
 use native.Mathlib.Omega.{arith}
 use borrow.Author.Needs.{needs}
-use Rattle.night.proofs.yard.filled.Statement.{statement}
-use Rattle.night.proofs.yard.filled.Tie as tie
+use Rattle.night.proofs.words.filled.Statement.{statement}
+use Rattle.night.proofs.words.filled.Tie as tie
 
 abbrev Inv-loop : tie.InvT-loop
 Inv-loop row len₀ len = len ≤ length row

@@ -1,0 +1,160 @@
+// The list of a yard: a row for each trailer with its name, its line and its file, blanks or tabs between. A file's name may have blanks. An
+// empty row and one that begins with # are passed over.
+ghost use Prim.Native.Nat.{_≤_};
+ghost use lib.ListN.{length};
+use crate::file;
+use crate::words;
+
+const OUT: i32 = libc::STDOUT_FILENO;
+
+// What became of a list that was to be read: all of it is there, it cannot be read, or it has more bytes than there is room for.
+pub(crate) enum State {
+    Whole,
+    Unread,
+    Long,
+}
+
+// The state of a list, and how many bytes of it were read.
+pub(crate) struct List {
+    pub(crate) state: State,
+    pub(crate) len: usize,
+}
+
+// Reads the list of the first word into a buffer.
+pub(crate) fn read(into: &mut [u8]) -> List {
+    let mut path = io::buffer();
+    let len = os::arg(words::FIRST, &mut path);
+    let fd = os::open_read(&path[..len]);
+    if fd < 0 {
+        os::fail(&path[..len]);
+        return nothing(State::Unread);
+    }
+    let len = io::read_full(fd, into);
+    let whole = file::is_read(fd, len, into.len());
+    libc::close(fd);
+    if !whole {
+        return nothing(State::Unread);
+    }
+    if len == into.len() {
+        return nothing(State::Long);
+    }
+    List {
+        state: State::Whole,
+        len,
+    }
+}
+
+fn nothing(state: State) -> List {
+    List { state, len: 0 }
+}
+
+// Whether two rows have one line; the first such line is told.
+pub(crate) fn is_doubled(list: &[u8]) -> bool {
+    let mut at = 0;
+    while at < list.len() {
+        let end = bytes::scan::find(list, at + 1, list.len(), b'\n');
+        if is_again(&list[0..at], &list[at..end]) {
+            return true;
+        }
+        at = end;
+    }
+    false
+}
+
+// Whether an earlier row has this row's line, which is told.
+fn is_again(before: &[u8], row: &[u8]) -> bool {
+    let path = line_of(row);
+    let end = next(row, path, true);
+    if path == end {
+        return false;
+    }
+    if !is_in(before, &row[path..end]) {
+        return false;
+    }
+    words::name(OUT, b"nothing was begun: two rows have one line");
+    words::say(OUT, &row[path..end]);
+    true
+}
+
+// Whether a row has this line.
+fn is_in(list: &[u8], line: &[u8]) -> bool {
+    let mut at = 0;
+    while at < list.len() {
+        let end = bytes::scan::find(list, at + 1, list.len(), b'\n');
+        if has_line(&list[at..end], line) {
+            return true;
+        }
+        at = end;
+    }
+    false
+}
+
+// Whether this is the row's line.
+fn has_line(row: &[u8], line: &[u8]) -> bool {
+    let path = line_of(row);
+    let end = next(row, path, true);
+    check::same(&row[path..end], line)
+}
+
+// Where the line of a row begins: at its end for one that has none or no file, and for one that is passed over.
+fn line_of(row: &[u8]) -> usize
+    ensures { λ r. ⌜ r ≤ length (now (row .entry)) ⌝ }
+{
+    let name = next(row, 0, false);
+    let path = next(row, next(row, name, true), false);
+    let kept = next(row, next(row, path, true), false);
+    if row.len() <= kept {
+        return row.len();
+    }
+    if row[name] == b'#' {
+        return row.len();
+    }
+    path
+}
+
+// The first place from `from` on that is no blank, or that is one, as wished; or the end.
+pub(crate) fn next(row: &[u8], from: usize, blank: bool) -> usize
+    requires { ⌜ from ≤ length (now row) ⌝ }
+    ensures { λ r. ⌜ (from ≤ r) × (r ≤ length (now (row .entry))) ⌝ }
+{
+    let mut at = from;
+    while at < row.len() {
+        if words::is_blank(row[at]) == blank {
+            return at;
+        }
+        at += 1;
+    }
+    at
+}
+
+// `night lines LIST`: the name and the line of each trailer, so that a script that sets the lines need not read the list itself. Of a list
+// that cannot be read there are none; `night yard` tells why.
+pub(crate) fn tell_lines() {
+    let mut list = io::large_buffer();
+    let read = read(&mut list);
+    let n = words::front(read.len, &list);
+    tell_all(&list[..n]);
+}
+
+fn tell_all(list: &[u8]) {
+    let mut at = 0;
+    while at < list.len() {
+        let end = bytes::scan::find(list, at + 1, list.len(), b'\n');
+        tell_line(&list[at..end]);
+        at = end;
+    }
+}
+
+// The name and the line of a row that has both and a file.
+fn tell_line(row: &[u8]) {
+    let path = line_of(row);
+    if path == row.len() {
+        return;
+    }
+    let name = next(row, 0, false);
+    let name_end = next(row, name, true);
+    let end = next(row, path, true);
+    io::write_all(OUT, &row[name..name_end]);
+    io::write_all(OUT, b" ");
+    words::say(OUT, &row[path..end]);
+}

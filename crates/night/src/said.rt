@@ -1,0 +1,62 @@
+// What the board said to the Set at which a restore stopped, in words.
+use crate::names;
+use lines::Line;
+use restore::Wanted;
+
+// An id and a flag come before the value in the data of a Set reply.
+const FRONT: usize = 3;
+
+// With this flag and a value of the setting's own width comes the nearest allowed number.
+const PARAMETER: u8 = 4;
+
+// What the number is that comes with a flag.
+fn put_word(line: Line, flag: u8) -> Line {
+    if flag == PARAMETER {
+        return line.put(b", nearest ");
+    }
+    line.put(b", number ")
+}
+
+// The number of two bytes, the low one first.
+fn number_of(low: u8, high: u8) -> u16 {
+    low as u16 + 256 * (high as u16)
+}
+
+// The number in a value of one byte or two.
+fn put_number(line: Line, index: usize, value: &[u8]) -> Line {
+    if value.len() == 1 {
+        return names::put_amount(line, index, number_of(value[0], 0));
+    }
+    if value.len() == 2 {
+        return names::put_amount(line, index, number_of(value[0], value[1]));
+    }
+    line
+}
+
+// The value that comes with a flag: its number where it has the setting's own width, else how wide it is, and nothing where there is none.
+fn put_value(line: Line, index: usize, width: usize, flag: u8, value: &[u8]) -> Line {
+    if value.len() == 0 {
+        return line;
+    }
+    if value.len() == width {
+        return put_number(put_word(line, flag), index, value);
+    }
+    line.put(b", a value of width ").put_number(value.len())
+}
+
+// The flag of the reply, and its value; there is no reply under three bytes.
+fn put_said(line: Line, index: usize, width: usize, said: &[u8]) -> Line {
+    if said.len() < FRONT {
+        return line.put(b"no answer");
+    }
+    let flag = said[2];
+    let told = names::put_byte(line.put(b"board said flag "), flag);
+    put_value(told, index, width, flag, &said[FRONT..])
+}
+
+// `; at 1000 battery capacity: board said flag 04, nearest 1 Ah`
+pub(crate) fn put_stop(line: Line, wanted: Wanted, said: &[u8]) -> Line {
+    let setting = wanted.setting;
+    let title = names::put_title(line.put(b"; at "), setting.index);
+    put_said(title.put(b": "), setting.index, setting.width, said)
+}

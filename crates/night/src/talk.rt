@@ -1,0 +1,303 @@
+// A talk with a board over a line: requests go out one at a time, and what comes back is told to the machine that asks. Three machines ask:
+// the collector reads the settings, the follower follows a restore, the viewer looks at the read-only values. One talk serves all three.
+use crate::ear;
+use crate::ear::News;
+use crate::line::Ends;
+use crate::reading;
+use crate::restoring;
+use crate::viewing;
+use crate::words;
+use collect::Collected;
+use collect::Collector;
+use follow::Followed;
+use follow::Follower;
+use listen::Listener;
+use listen::Told;
+use restore::Wanted;
+use tables::Table;
+use view::Viewed;
+use view::Viewer;
+use wire::Written;
+
+// The room that a frame takes.
+const FRAME_ROOM: usize = 75;
+
+// This many frames that say nothing of what was asked are no answer.
+const MOST_EVENTS: u32 = 1000;
+
+// Which machine asks.
+pub(crate) enum Asker {
+    Collector,
+    Follower,
+    Viewer,
+}
+
+// A talk: the machine that asks and two at rest, whether the board was silent, and the data of the frame heard last, none if that was no
+// frame.
+pub(crate) struct Talk {
+    pub(crate) asker: Asker,
+    pub(crate) listener: Listener,
+    pub(crate) collected: Collected,
+    pub(crate) followed: Followed,
+    pub(crate) viewed: Viewed,
+    pub(crate) silent: bool,
+    pub(crate) said: [u8; ear::MOST_DATA],
+    pub(crate) len: usize,
+}
+
+// What is to be sent: a Get of an id, a Set, or nothing any more.
+pub(crate) enum Request {
+    Get(u16),
+    Set(Wanted),
+    Nothing,
+}
+
+fn begun(asker: Asker, followed: Followed) -> Talk {
+    Talk {
+        asker,
+        listener: Listener::start(),
+        collected: Collector::start(),
+        followed,
+        viewed: Viewer::start(),
+        silent: false,
+        said: [0u8; ear::MOST_DATA],
+        len: 0,
+    }
+}
+
+// A follower with nothing to do.
+fn at_rest() -> Followed {
+    Follower::start(Table::factory(), Table::factory())
+}
+
+// Reads all settings.
+pub(crate) fn reading() -> Talk {
+    begun(Asker::Collector, at_rest())
+}
+
+// Turns the board's table `from` into `to`.
+pub(crate) fn restoring(from: Table, to: Table) -> Talk {
+    begun(Asker::Follower, Follower::start(from, to))
+}
+
+// Looks at the read-only values.
+pub(crate) fn viewing() -> Talk {
+    begun(Asker::Viewer, at_rest())
+}
+
+// What the machine that asks wants to be sent.
+fn due(talk: Talk) -> Request {
+    let asker = talk.asker;
+    match asker {
+        Asker::Collector => reading::due(talk.collected),
+        Asker::Follower => restoring::due(talk.followed),
+        Asker::Viewer => viewing::due(talk.viewed, talk.silent),
+    }
+}
+
+// How many of its requests were answered as it needs.
+fn answered(talk: Talk) -> usize {
+    let asker = talk.asker;
+    match asker {
+        Asker::Collector => reading::answered(talk.collected),
+        Asker::Follower => restoring::answered(talk.followed),
+        Asker::Viewer => viewing::answered(talk.viewed),
+    }
+}
+
+// Whether something is still to be sent, or answered.
+fn is_due(request: Request) -> bool {
+    match request {
+        Request::Get(_) => true,
+        Request::Set(_) => true,
+        Request::Nothing => false,
+    }
+}
+
+// Whether the request after `before` answered ones is still open.
+fn waits(talk: Talk, before: usize) -> bool {
+    is_due(due(talk)) & (answered(talk) == before)
+}
+
+// The frame that was written goes out.
+fn put(output: i32, frame: &[u8], written: Written) {
+    match written {
+        Written::Frame(len) => {
+            words::put(output, frame, len);
+        }
+        Written::Refused(_) => {}
+    }
+}
+
+// Sends a Get.
+fn send_get(output: i32, id: u16) {
+    let mut frame = [0u8; FRAME_ROOM];
+    let written = requests::get(id, &mut frame);
+    put(output, &frame, written);
+}
+
+// Sends a Set.
+fn send_set(output: i32, wanted: Wanted) {
+    let setting = wanted.setting;
+    let mut frame = [0u8; FRAME_ROOM];
+    let written = requests::set(setting.index, wanted.number, &mut frame);
+    put(output, &frame, written);
+}
+
+// Sends what is due; false where nothing is.
+fn send(output: i32, request: Request) -> bool {
+    match request {
+        Request::Get(id) => {
+            send_get(output, id);
+            true
+        }
+        Request::Set(wanted) => {
+            send_set(output, wanted);
+            true
+        }
+        Request::Nothing => false,
+    }
+}
+
+// The talk after some news, with the three machines as they are then.
+fn moved(talk: Talk, news: News, collected: Collected, followed: Followed, viewed: Viewed) -> Talk {
+    let asker = talk.asker;
+    let listener = news.listener;
+    let told = news.told;
+    let said = news.data;
+    Talk {
+        asker,
+        listener,
+        collected,
+        followed,
+        viewed,
+        silent: is_silence(told),
+        said,
+        len: ear::len_of(told),
+    }
+}
+
+// Whether the listener has given up.
+fn is_silence(told: Told) -> bool {
+    match told {
+        Told::Nothing => false,
+        Told::Frame { command: _, len: _ } => false,
+        Told::Broken(_) => false,
+        Told::NoAnswer => true,
+        Told::Refused(_) => true,
+    }
+}
+
+// News is told to the machine that asks, and to no other.
+fn heard(talk: Talk, news: News) -> Talk {
+    let asker = talk.asker;
+    let told = news.told;
+    let data = news.data;
+    let collected = talk.collected;
+    let followed = talk.followed;
+    let viewed = talk.viewed;
+    match asker {
+        Asker::Collector => {
+            let next = reading::told_to(collected, told, &data);
+            moved(talk, news, next, followed, viewed)
+        }
+        Asker::Follower => {
+            let next = restoring::told_to(followed, told, &data);
+            moved(talk, news, collected, next, viewed)
+        }
+        Asker::Viewer => {
+            let next = viewing::told_to(viewed, told, &data);
+            moved(talk, news, collected, followed, next)
+        }
+    }
+}
+
+// The next event on the line.
+fn event(input: i32, talk: Talk) -> Talk {
+    let listener = talk.listener;
+    heard(talk, ear::next(input, listener))
+}
+
+// A request was sent: the listener counts anew.
+fn asked(talk: Talk) -> Talk {
+    let asker = talk.asker;
+    let listener = talk.listener;
+    let collected = talk.collected;
+    let followed = talk.followed;
+    let viewed = talk.viewed;
+    let said = talk.said;
+    Talk {
+        asker,
+        listener: listener.asked(),
+        collected,
+        followed,
+        viewed,
+        silent: false,
+        said,
+        len: talk.len,
+    }
+}
+
+// Listens until the request is answered or the talk has ended.
+fn answer(input: i32, talk: Talk) -> Talk {
+    let before = answered(talk);
+    let mut talk = talk;
+    let mut turns = MOST_EVENTS;
+    while turns > 0 && waits(talk, before) {
+        talk = event(input, talk);
+        turns -= 1;
+    }
+    talk
+}
+
+// A board that talks of other things without end has given no answer.
+fn patient(talk: Talk, before: usize) -> Talk {
+    if !waits(talk, before) {
+        return talk;
+    }
+    let listener = talk.listener;
+    heard(
+        talk,
+        News {
+            listener,
+            told: Told::NoAnswer,
+            data: [0u8; ear::MOST_DATA],
+        },
+    )
+}
+
+// Shows what an answered request has brought.
+fn show(report: i32, before: Talk, after: Talk) {
+    if answered(after) == answered(before) {
+        return;
+    }
+    let asker = after.asker;
+    match asker {
+        Asker::Collector => reading::show(report, before.collected, after.collected),
+        Asker::Follower => restoring::show(report, before.followed, after.followed),
+        Asker::Viewer => viewing::show(report, after.viewed),
+    }
+}
+
+// Sends what is due, hears what becomes of it, and shows that where it is wished; nothing where the talk has ended.
+fn further(ends: Ends, talk: Talk, shown: bool) -> Talk {
+    if !send(ends.output, due(talk)) {
+        return talk;
+    }
+    let next = patient(answer(ends.input, asked(talk)), answered(talk));
+    if shown {
+        show(ends.report, talk, next);
+    }
+    next
+}
+
+// The talk to its end: no machine asks more than once for each setting.
+pub(crate) fn whole(ends: Ends, talk: Talk, shown: bool) -> Talk {
+    let mut talk = talk;
+    let mut turns = settings::COUNT;
+    while turns > 0 {
+        talk = further(ends, talk, shown);
+        turns -= 1;
+    }
+    talk
+}

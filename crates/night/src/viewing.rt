@@ -1,0 +1,48 @@
+// The viewer in a talk: who the board is, and its readings.
+use crate::talk::Request;
+use crate::words;
+use listen::Told;
+use view::Outcome;
+use view::Viewed;
+use view::Viewer;
+
+// The value that the viewer asks for; nothing from a board that is silent.
+pub(crate) fn due(viewed: Viewed, silent: bool) -> Request {
+    if silent {
+        return Request::Nothing;
+    }
+    let outcome = viewed.outcome;
+    match outcome {
+        Outcome::Waiting(id) => Request::Get(id),
+        Outcome::Done => Request::Nothing,
+        Outcome::Refused(_) => Request::Nothing,
+    }
+}
+
+pub(crate) fn answered(viewed: Viewed) -> usize {
+    let viewer = viewed.viewer;
+    viewer.asked
+}
+
+// A frame, of which the data are the front of a buffer.
+fn framed(viewer: Viewer, command: u8, data: &[u8], len: usize) -> Viewed {
+    let n = words::front(len, data);
+    viewer.reply(command, &data[..n])
+}
+
+// What was told: only a frame says something to the viewer.
+pub(crate) fn told_to(viewed: Viewed, told: Told, data: &[u8]) -> Viewed {
+    let viewer = viewed.viewer;
+    match told {
+        Told::Nothing => viewed,
+        Told::Frame { command, len } => framed(viewer, command, data, len),
+        Told::Broken(_) => viewed,
+        Told::NoAnswer => viewed,
+        Told::Refused(_) => viewed,
+    }
+}
+
+// Shows the value that was just answered.
+pub(crate) fn show(report: i32, viewed: Viewed) {
+    words::tell(report, viewed.line);
+}
