@@ -14,7 +14,8 @@ use Rattle.settings.proofs.Theorems.{rows-hold, find-is-found, allowed-has-room
 use Rattle.tables.proofs.Theorems.{refused-names-nearest}
 use Rattle.tables.proofs.Tables.{set-accepted}
 use Rattle.wire.specs.Numbers.{little, fromLittle}
-use Rattle.answers.specs.Answers.{said, setCode, setsSetting, frameAnswer}
+use Rattle.paper.specs.Numbers.{setCode}
+use Rattle.answers.specs.Answers.{said, setsSetting, frameAnswer}
 use Rattle.answers.specs.Laws.{GetAnswersHeld, SetStoresIt, SetRefusedNamesNearest}
 use Rattle.who.specs.declared.Identity.{Identity}
 use Rattle.who.specs.declared.Readings.{Readings}

@@ -23,7 +23,8 @@ use Rattle.wire.proofs.Little.{byte, length-little, bytes-little}
 use Rattle.who.specs.Values.{readOnly}
 use Rattle.who.specs.Laws.{Small, small-some}
 use Rattle.who.proofs.Theorems.{values-fit}
-use Rattle.answers.specs.Answers.{sent, Decision, said, getCode, setCode, pingCode, versionCode, productCode, restartCode, asyncCode, tells, restarts, getsOther, getsFound, getAnswer, setsOther, stored, setsSetting, setsFound, setAnswer, frameAnswer}
+use Rattle.paper.specs.Numbers.{getCode, setCode, pingCode, versionCode, productCode, restartCode, asyncCode}
+use Rattle.answers.specs.Answers.{sent, Decision, said, tells, restarts, getsOther, getsFound, getAnswer, setsOther, stored, setsSetting, setsFound, setAnswer, frameAnswer}
 use Rattle.answers.specs.AsHeld.{Settled}
 use Rattle.answers.specs.Laws.{Fits, nothing, a-frame, an-error, RepliesFit}
 use Rattle.who.specs.declared.Identity.{Identity}

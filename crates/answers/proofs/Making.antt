@@ -21,7 +21,8 @@ use Rattle.tables.specs.declared.Change.{Change}
 use Rattle.tables.proofs.Theorems.{set-keeps-allowed, set-keeps-count, refused-keeps-it}
 use Rattle.wire.specs.Numbers.{fromLittle}
 use Rattle.who.specs.Values.{readOnly}
-use Rattle.answers.specs.Answers.{Sent, Decision, staying, pingCode, versionCode, productCode, restartCode, getCode, setCode, asyncCode, tells, restarts, getsOther, getsFound, getAnswer, setsOther, stored, setsSetting, setsFound, setAnswer, frameAnswer, makesFound, makes}
+use Rattle.paper.specs.Numbers.{pingCode, versionCode, productCode, restartCode, getCode, setCode, asyncCode}
+use Rattle.answers.specs.Answers.{Sent, Decision, staying, tells, restarts, getsOther, getsFound, getAnswer, setsOther, stored, setsSetting, setsFound, setAnswer, frameAnswer, makesFound, makes}
 use Rattle.answers.specs.Laws.{Stays, RefusedStays, AnswerMakes, MakesKeepsAllowed}
 use Rattle.who.specs.declared.Identity.{Identity}
 use Rattle.who.specs.declared.Readings.{Readings}

@@ -6,6 +6,8 @@ use mathlib.Core.List.{List, [], _∷_, _++_}
 use mathlib.Core.Option.{Option, none, some}
 use lib.ListN.{length, take, drop, getD}
 use lib.Dec.{eqb, ltb, leb}
+use Rattle.paper.specs.Numbers as paper
+use Rattle.paper.specs.Numbers.{pingCode, versionCode, productCode, restartCode, getCode, setCode, asyncCode}
 use Rattle.settings.specs.Calls.{finding}
 use Rattle.tables.specs.Calls.{setTo}
 use Rattle.tables.specs.Rules.{numberAt}
@@ -33,28 +35,6 @@ pub record Decision : Type 0 where
   pub table : Table
   pub readings : Readings
 
--- commands
-abbrev pub pingCode : ℕ
-pingCode = 1
-
-abbrev pub versionCode : ℕ
-versionCode = 3
-
-abbrev pub productCode : ℕ
-productCode = 4
-
-abbrev pub restartCode : ℕ
-restartCode = 6
-
-abbrev pub getCode : ℕ
-getCode = 7
-
-abbrev pub setCode : ℕ
-setCode = 8
-
-abbrev pub asyncCode : ℕ
-asyncCode = 0xA
-
 -- an id, a flag and a value
 abbrev pub said : ℕ → ℕ → List ℕ → List ℕ
 said id flag value = little 2 id ++ flag ∷ value
@@ -70,31 +50,31 @@ module _ (readings : Readings) (table : Table) where
 
   -- 5: "response 3, one data byte: the command"
   abbrev pub unknownCommand : ℕ → Decision
-  unknownCommand command = staying (Outcome.Refused 5) (sent 3 (command ∷ []))
+  unknownCommand command = staying (Outcome.Refused paper.unknownCommand) (sent paper.unknownCode (command ∷ []))
 
   -- 6: "error frame"
   abbrev pub malformed : Decision
-  malformed = staying (Outcome.Refused 6) error
+  malformed = staying (Outcome.Refused paper.malformed) error
 
   -- 7: "same command, id, flag 01, no value"
   abbrev pub unknownId : ℕ → ℕ → Decision
-  unknownId command id = staying (Outcome.Refused 7) (sent command (said id 1 []))
+  unknownId command id = staying (Outcome.Refused paper.unknownId) (sent command (said id paper.unknownFlag []))
 
   -- 8: "Set, id, flag 02, no value"
   abbrev pub notSupported : ℕ → Decision
-  notSupported id = staying (Outcome.Refused 8) (sent setCode (said id 2 []))
+  notSupported id = staying (Outcome.Refused paper.readOnlyId) (sent setCode (said id paper.supportFlag []))
 
   -- 9: "Set, id, flag 04, value now held"
   abbrev pub wrongWidth : Setting → Decision
-  wrongWidth s = staying (Outcome.Refused 9) (sent setCode (said (s .id) 4 (heldBytes table s)))
+  wrongWidth s = staying (Outcome.Refused paper.wrongWidth) (sent setCode (said (s .id) paper.parameterFlag (heldBytes table s)))
 
   -- 10: "Set, id, flag 04, nearest allowed number"
   abbrev pub refusedTo : Setting → ℕ → ℕ → Decision
-  refusedTo s number nearest = staying (Outcome.Refused number) (sent setCode (said (s .id) 4 (little (s .width) nearest)))
+  refusedTo s number nearest = staying (Outcome.Refused number) (sent setCode (said (s .id) paper.parameterFlag (little (s .width) nearest)))
 
   -- "A good Get or Set answers its own code, id, flag 00, value."
   abbrev pub good : ℕ → ℕ → List ℕ → Decision
-  good command id value = staying Outcome.Answered (sent command (said id 0 value))
+  good command id value = staying Outcome.Answered (sent command (said id paper.goodFlag value))
 
   -- "Ping (1) answers response 5, App version (3) response 1, each with the version; Product id (4) answers response 1 with the product."
   -- 6 with data
@@ -152,9 +132,9 @@ module _ (readings : Readings) (table : Table) where
   -- the answer to a whole frame. "Command A (Async) with a good sum is ignored: no reply, no number."
   unfoldable pub frameAnswer : Identity → ℕ → List ℕ → Decision
   frameAnswer identity command bytes =
-      cond (eqb command pingCode) (tells readings table 5 (identity .version) bytes)
-      (cond (eqb command versionCode) (tells readings table 1 (identity .version) bytes)
-      (cond (eqb command productCode) (tells readings table 1 (identity .product) bytes)
+      cond (eqb command pingCode) (tells readings table paper.pongCode (identity .version) bytes)
+      (cond (eqb command versionCode) (tells readings table paper.doneCode (identity .version) bytes)
+      (cond (eqb command productCode) (tells readings table paper.doneCode (identity .product) bytes)
       (cond (eqb command restartCode) (restarts readings table bytes)
       (cond (eqb command getCode) (getAnswer readings table identity bytes)
       (cond (eqb command setCode) (setAnswer identity bytes)

@@ -2,6 +2,7 @@
 use Prim.Native.Nat.{ℕ, _+_, _≤_, _<_}
 use mathlib.Core.List.{List, [], _∷_, _++_}
 use lib.ListN.{length, replicate}
+use Rattle.paper.specs.Numbers as paper
 use Rattle.laws.specs.Promise.{overlaid}
 use Rattle.settings.specs.Columns.{count}
 use Rattle.tables.specs.declared.Table.{Table}
@@ -16,7 +17,7 @@ use Rattle.answers.specs.declared.Sends.{Sends}
 use Rattle.answers.specs.declared.Decided.{Decided}
 
 unfoldable pub noData : List ℕ
-noData = replicate 35 0
+noData = replicate paper.mostData 0
 
 unfoldable pub replyOf : ℕ → List ℕ → Reply
 replyOf command bytes = record { command = command; len = length bytes; bytes = overlaid bytes noData }

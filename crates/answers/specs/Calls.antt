@@ -5,7 +5,7 @@ use mathlib.Core.List.{List}
 use Rattle.tables.specs.Rules.{allowed}
 use Rattle.tables.specs.declared.Table.{Table}
 use Rattle.who.specs.Parts.{identityAllowed}
-use Rattle.who.specs.Calls.{notAllowed}
+use Rattle.paper.specs.Numbers.{notAllowed}
 use Rattle.who.specs.declared.Identity.{Identity}
 use Rattle.who.specs.declared.Readings.{Readings}
 use Rattle.answers.specs.Answers.{silent, Decision, staying, frameAnswer}

@@ -5,6 +5,7 @@ use mathlib.Core.Path.{_≡_}
 use mathlib.Core.Bool.{true, false}
 use mathlib.Core.List.{List, []}
 use lib.ListN.{length}
+use Rattle.paper.specs.Numbers as paper
 use Rattle.wire.specs.Laws.{Writable}
 use Rattle.settings.specs.Columns.{count, idAt, widthAt}
 use Rattle.settings.specs.Rules.{allowedFor, Nearest}
@@ -12,7 +13,8 @@ use Rattle.tables.specs.Rules.{allowed, numberAt, partnerNumber, changed}
 use Rattle.tables.specs.declared.Table.{Table}
 use Rattle.who.specs.Parts.{identityAllowed}
 use Rattle.wire.specs.Numbers.{little}
-use Rattle.answers.specs.Answers.{Sent, silent, sent, error, Decision, staying, said, getCode, setCode, frameAnswer, makes}
+use Rattle.paper.specs.Numbers.{getCode, setCode}
+use Rattle.answers.specs.Answers.{Sent, silent, sent, error, Decision, staying, said, frameAnswer, makes}
 use Rattle.who.specs.declared.Identity.{Identity}
 use Rattle.who.specs.declared.Readings.{Readings}
 use Rattle.answers.specs.declared.Outcome.{Outcome}
@@ -54,18 +56,18 @@ MakesKeepsAllowed =
 abbrev pub GetAnswersHeld : Type 0
 GetAnswersHeld =
     (readings : Readings) (table : Table) (identity : Identity) (k : ℕ) → k < count
-    → frameAnswer readings table identity getCode (said (idAt k) 0 []) ≡ staying readings table Outcome.Answered (sent getCode (said (idAt k) 0 (little (widthAt k) (numberAt table k))))
+    → frameAnswer readings table identity getCode (said (idAt k) paper.goodFlag []) ≡ staying readings table Outcome.Answered (sent getCode (said (idAt k) paper.goodFlag (little (widthAt k) (numberAt table k))))
 
 -- 5. A good Set answers what it stored and stores what it answered, that setting alone; one that is not allowed stores nothing, and answers
 -- flag 04 and the nearest allowed number.
 abbrev pub SetStoresIt : Type 0
 SetStoresIt =
     (readings : Readings) (table : Table) (identity : Identity) (k n : ℕ) → allowed table ≡ true → k < count → allowedFor k n (partnerNumber table k) ≡ true
-    → frameAnswer readings table identity setCode (said (idAt k) 0 (little (widthAt k) n)) ≡ staying readings (changed table k n) Outcome.Answered (sent setCode (said (idAt k) 0 (little (widthAt k) n)))
+    → frameAnswer readings table identity setCode (said (idAt k) paper.goodFlag (little (widthAt k) n)) ≡ staying readings (changed table k n) Outcome.Answered (sent setCode (said (idAt k) paper.goodFlag (little (widthAt k) n)))
 
 abbrev pub SetRefusedNamesNearest : Type 0
 SetRefusedNamesNearest =
     (readings : Readings) (table : Table) (identity : Identity) (k n : ℕ) → allowed table ≡ true → k < count → n < 256 ^ widthAt k
     → allowedFor k n (partnerNumber table k) ≡ false
     → (m : ℕ) × Nearest k n (partnerNumber table k) m
-    × (frameAnswer readings table identity setCode (said (idAt k) 0 (little (widthAt k) n)) ≡ staying readings table (Outcome.Refused 10) (sent setCode (said (idAt k) 4 (little (widthAt k) m))))
+    × (frameAnswer readings table identity setCode (said (idAt k) paper.goodFlag (little (widthAt k) n)) ≡ staying readings table (Outcome.Refused paper.numberNotAllowed) (sent setCode (said (idAt k) paper.parameterFlag (little (widthAt k) m))))

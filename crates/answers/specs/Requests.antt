@@ -5,7 +5,8 @@ use mathlib.Core.List.{List, []}
 use Rattle.wire.specs.Frame.{frame}
 use Rattle.wire.specs.Numbers.{little}
 use Rattle.settings.specs.Columns.{idAt, widthAt}
-use Rattle.answers.specs.Answers.{said, getCode, setCode}
+use Rattle.paper.specs.Numbers.{getCode, setCode}
+use Rattle.answers.specs.Answers.{said}
 
 -- a Get of an id
 abbrev pub getRequest : ℕ → List ℕ

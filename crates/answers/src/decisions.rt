@@ -10,7 +10,6 @@ use crate::Outcome;
 use crate::Reply;
 use crate::Sends;
 use crate::gets;
-use crate::numbers;
 use crate::replies;
 use crate::sets;
 use tables::Table;
@@ -70,7 +69,7 @@ pub(crate) fn malformed(readings: Readings, table: Table) -> Decided
     ensures { λ r. ⌜ r ≡ decidedOf (answers.malformed readings table) ⌝ }
 {
     Decided {
-        outcome: Outcome::Refused(numbers::MALFORMED),
+        outcome: Outcome::Refused(paper::MALFORMED),
         sends: Sends::Error,
         reply: replies::none(),
         table,
@@ -85,8 +84,8 @@ fn unknown_command(readings: Readings, table: Table, command: u8) -> Decided
     sends(
         readings,
         table,
-        Outcome::Refused(numbers::UNKNOWN_COMMAND),
-        replies::one(numbers::UNKNOWN, command),
+        Outcome::Refused(paper::UNKNOWN_COMMAND),
+        replies::one(paper::UNKNOWN, command),
     )
 }
 
@@ -97,8 +96,8 @@ pub(crate) fn unknown_id(readings: Readings, table: Table, command: u8, id: u16)
     sends(
         readings,
         table,
-        Outcome::Refused(numbers::UNKNOWN_ID),
-        replies::bare(command, id, numbers::FLAG_UNKNOWN_ID),
+        Outcome::Refused(paper::UNKNOWN_ID),
+        replies::bare(command, id, paper::FLAG_UNKNOWN_ID),
     )
 }
 
@@ -139,13 +138,13 @@ pub(crate) fn frame_answer(
     ensures { λ r. ⌜ r ≡ decidedOf (answers.frameAnswer readings table identity command (now (bytes .entry))) ⌝ }
 {
     match command {
-        numbers::PING => tells(readings, table, numbers::PONG, identity.version, bytes),
-        numbers::APP_VERSION => tells(readings, table, numbers::DONE, identity.version, bytes),
-        numbers::PRODUCT_ID => tells(readings, table, numbers::DONE, identity.product, bytes),
-        numbers::RESTART => restarts(readings, table, bytes),
-        numbers::GET => gets::gets(identity, readings, table, bytes),
-        numbers::SET => sets::sets(identity, readings, table, bytes),
-        numbers::ASYNC => silent(readings, table, Outcome::Ignored),
+        paper::PING => tells(readings, table, paper::PONG, identity.version, bytes),
+        paper::APP_VERSION => tells(readings, table, paper::DONE, identity.version, bytes),
+        paper::PRODUCT_ID => tells(readings, table, paper::DONE, identity.product, bytes),
+        paper::RESTART => restarts(readings, table, bytes),
+        paper::GET => gets::gets(identity, readings, table, bytes),
+        paper::SET => sets::sets(identity, readings, table, bytes),
+        paper::ASYNC => silent(readings, table, Outcome::Ignored),
         _ => unknown_command(readings, table, command),
     }
 }

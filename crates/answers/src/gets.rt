@@ -4,12 +4,12 @@ ghost use mathlib.Core.Bool.{true};
 ghost use Rattle.who.specs.Parts.{identityAllowed};
 ghost use Rattle.who.specs.Values.{readOnly};
 ghost use Rattle.who.specs.Calls.{valueOf};
+ghost use Rattle.paper.specs.Numbers as paper;
 ghost use Rattle.answers.specs.Answers as answers;
 ghost use Rattle.answers.specs.AsHeld.{decidedOf, Settled};
 use crate::Decided;
 use crate::Outcome;
 use crate::decisions;
-use crate::numbers;
 use crate::values;
 use settings::Found;
 use settings::Setting;
@@ -32,15 +32,15 @@ pub(crate) fn held(table: Table, setting: Setting) -> Value
 // A Get of a setting.
 fn get_setting(readings: Readings, table: Table, setting: Setting) -> Decided
     requires { ⌜ Settled setting ⌝ }
-    ensures { λ r. ⌜ r ≡ decidedOf (answers.good readings table answers.getCode (setting .id) (answers.heldBytes table setting)) ⌝ }
+    ensures { λ r. ⌜ r ≡ decidedOf (answers.good readings table paper.getCode (setting .id) (answers.heldBytes table setting)) ⌝ }
 {
     decisions::says(
         readings,
         table,
         Outcome::Answered,
-        numbers::GET,
+        paper::GET,
         setting.id,
-        numbers::GOOD,
+        paper::GOOD,
         held(table, setting),
     )
 }
@@ -58,12 +58,12 @@ fn get_other(identity: Identity, readings: Readings, table: Table, id: u16) -> D
             readings,
             table,
             Outcome::Answered,
-            numbers::GET,
+            paper::GET,
             id,
-            numbers::GOOD,
+            paper::GOOD,
             value,
         ),
-        Verdict::Refused(_) => decisions::unknown_id(readings, table, numbers::GET, id),
+        Verdict::Refused(_) => decisions::unknown_id(readings, table, paper::GET, id),
     }
 }
 
@@ -72,7 +72,7 @@ pub(crate) fn gets(identity: Identity, readings: Readings, table: Table, bytes: 
     requires { ⌜ identityAllowed identity ≡ true ⌝ }
     ensures { λ r. ⌜ r ≡ decidedOf (answers.getAnswer readings table identity (now (bytes .entry))) ⌝ }
 {
-    if bytes.len() != numbers::FRONT {
+    if bytes.len() != paper::FRONT {
         return decisions::malformed(readings, table);
     }
     if bytes[2] != 0 {

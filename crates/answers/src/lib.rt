@@ -9,7 +9,6 @@ use who::Readings;
 
 mod decisions;
 mod gets;
-mod numbers;
 mod replies;
 mod sets;
 mod values;
@@ -34,7 +33,7 @@ pub enum Sends {
 pub struct Reply {
     pub command: u8,
     pub len: usize,
-    pub bytes: [u8; numbers::MOST_DATA],
+    pub bytes: [u8; paper::MOST_DATA],
 }
 
 // What a board decides: the outcome, what it sends, and its settings and readings afterwards.
@@ -57,7 +56,7 @@ pub fn answer(
     ensures { λ r. ⌜ r ≡ decidedOf (answering identity readings table command (now (bytes .entry))) ⌝ }
 {
     if !(identity.is_allowed() & table.is_allowed()) {
-        return decisions::silent(readings, table, Outcome::Refused(numbers::NOT_ALLOWED));
+        return decisions::silent(readings, table, Outcome::Refused(paper::NOT_ALLOWED));
     }
     decisions::frame_answer(identity, readings, table, command, bytes)
 }

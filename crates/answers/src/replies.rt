@@ -7,8 +7,6 @@ ghost use Rattle.wire.specs.Numbers.{little};
 ghost use Rattle.answers.specs.Answers.{said};
 ghost use Rattle.answers.specs.AsHeld.{replyOf, saidOf};
 use crate::Reply;
-use crate::numbers::MOST_DATA;
-use crate::numbers::MOST_SERIAL;
 use who::Value;
 
 // No reply.
@@ -18,7 +16,7 @@ pub(crate) fn none() -> Reply
     Reply {
         command: 0,
         len: 0,
-        bytes: [0u8; MOST_DATA],
+        bytes: [0u8; paper::MOST_DATA],
     }
 }
 
@@ -26,7 +24,7 @@ pub(crate) fn none() -> Reply
 pub(crate) fn one(command: u8, byte: u8) -> Reply
     ensures { λ r. ⌜ r ≡ replyOf command (byte ∷ []) ⌝ }
 {
-    let mut bytes = [0u8; MOST_DATA];
+    let mut bytes = [0u8; paper::MOST_DATA];
     bytes[0] = byte;
     Reply {
         command,
@@ -39,7 +37,7 @@ pub(crate) fn one(command: u8, byte: u8) -> Reply
 pub(crate) fn number(command: u8, n: u16) -> Reply
     ensures { λ r. ⌜ r ≡ replyOf command (little 2 n) ⌝ }
 {
-    let mut bytes = [0u8; MOST_DATA];
+    let mut bytes = [0u8; paper::MOST_DATA];
     bytes[0] = (n % 256) as u8;
     bytes[1] = (n / 256 % 256) as u8;
     Reply {
@@ -53,7 +51,7 @@ pub(crate) fn number(command: u8, n: u16) -> Reply
 pub(crate) fn bare(command: u8, id: u16, flag: u8) -> Reply
     ensures { λ r. ⌜ r ≡ replyOf command (said id flag []) ⌝ }
 {
-    let mut bytes = [0u8; MOST_DATA];
+    let mut bytes = [0u8; paper::MOST_DATA];
     bytes[0] = (id % 256) as u8;
     bytes[1] = (id / 256 % 256) as u8;
     bytes[2] = flag;
@@ -65,12 +63,12 @@ pub(crate) fn bare(command: u8, id: u16, flag: u8) -> Reply
 }
 
 // Three bytes at the front, and 32 after them.
-fn joined(front: [u8; MOST_DATA], rest: [u8; MOST_SERIAL]) -> [u8; MOST_DATA]
+fn joined(front: [u8; paper::MOST_DATA], rest: [u8; paper::MOST_SERIAL]) -> [u8; paper::MOST_DATA]
     ensures { λ r. ⌜ r ≡ take 3 front ++ rest ⌝ }
 {
     let mut bytes = front;
     let mut i = 0;
-    while i < MOST_SERIAL {
+    while i < paper::MOST_SERIAL {
         bytes[i + 3] = rest[i];
         i += 1;
     }
@@ -82,7 +80,7 @@ pub(crate) fn saying(command: u8, id: u16, flag: u8, value: Value) -> Reply
     requires { ⌜ value .len ≤ 32 ⌝ }
     ensures { λ r. ⌜ r ≡ saidOf command id flag value ⌝ }
 {
-    let mut front = [0u8; MOST_DATA];
+    let mut front = [0u8; paper::MOST_DATA];
     front[0] = (id % 256) as u8;
     front[1] = (id / 256 % 256) as u8;
     front[2] = flag;

@@ -9,7 +9,6 @@ use crate::Decided;
 use crate::Outcome;
 use crate::decisions;
 use crate::gets;
-use crate::numbers;
 use crate::replies;
 use crate::values;
 use settings::Found;
@@ -36,9 +35,9 @@ fn stored(
             readings,
             table,
             Outcome::Answered,
-            numbers::SET,
+            paper::SET,
             setting.id,
-            numbers::GOOD,
+            paper::GOOD,
             values::wide(setting.width, number),
         ),
         Answer::Refused {
@@ -48,9 +47,9 @@ fn stored(
             readings,
             table,
             Outcome::Refused(refusal),
-            numbers::SET,
+            paper::SET,
             setting.id,
-            numbers::FLAG_PARAMETER,
+            paper::FLAG_PARAMETER,
             values::wide(setting.width, nearest),
         ),
     }
@@ -65,10 +64,10 @@ fn set_setting(readings: Readings, table: Table, setting: Setting, value: &[u8])
         return decisions::says(
             readings,
             table,
-            Outcome::Refused(numbers::WRONG_WIDTH),
-            numbers::SET,
+            Outcome::Refused(paper::WRONG_WIDTH),
+            paper::SET,
             setting.id,
-            numbers::FLAG_PARAMETER,
+            paper::FLAG_PARAMETER,
             gets::held(table, setting),
         );
     }
@@ -90,10 +89,10 @@ fn set_other(identity: Identity, readings: Readings, table: Table, id: u16) -> D
         Verdict::Accepted => decisions::sends(
             readings,
             table,
-            Outcome::Refused(numbers::READ_ONLY),
-            replies::bare(numbers::SET, id, numbers::FLAG_NOT_SUPPORTED),
+            Outcome::Refused(paper::READ_ONLY),
+            replies::bare(paper::SET, id, paper::FLAG_NOT_SUPPORTED),
         ),
-        Verdict::Refused(_) => decisions::unknown_id(readings, table, numbers::SET, id),
+        Verdict::Refused(_) => decisions::unknown_id(readings, table, paper::SET, id),
     }
 }
 
@@ -102,7 +101,7 @@ pub(crate) fn sets(identity: Identity, readings: Readings, table: Table, bytes: 
     requires { ⌜ identityAllowed identity ≡ true ⌝ }
     ensures { λ r. ⌜ r ≡ decidedOf (answers.setAnswer readings table identity (now (bytes .entry))) ⌝ }
 {
-    if bytes.len() < numbers::FRONT {
+    if bytes.len() < paper::FRONT {
         return decisions::malformed(readings, table);
     }
     if bytes[2] != 0 {
@@ -111,7 +110,7 @@ pub(crate) fn sets(identity: Identity, readings: Readings, table: Table, bytes: 
     let id = values::number_of(&bytes[..2]);
     let found = settings::find(id);
     match found {
-        Found::At(setting) => set_setting(readings, table, setting, &bytes[numbers::FRONT..]),
+        Found::At(setting) => set_setting(readings, table, setting, &bytes[paper::FRONT..]),
         Found::Nothing => set_other(identity, readings, table, id),
     }
 }

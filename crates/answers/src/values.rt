@@ -4,7 +4,6 @@ ghost use Prim.Native.Nat.{_≤_};
 ghost use lib.ListN.{length};
 ghost use Rattle.wire.specs.Numbers.{little, fromLittle};
 ghost use Rattle.who.specs.Calls.{valueOf};
-use crate::numbers::MOST_SERIAL;
 use who::Value;
 
 // The number of one byte or two, the low one first.
@@ -23,7 +22,7 @@ pub(crate) fn wide(width: usize, n: u16) -> Value
     requires { ⌜ (1 ≤ width) × (width ≤ 2) ⌝ }
     ensures { λ r. ⌜ r ≡ valueOf (little width n) ⌝ }
 {
-    let mut bytes = [0u8; MOST_SERIAL];
+    let mut bytes = [0u8; paper::MOST_SERIAL];
     bytes[0] = (n % 256) as u8;
     if width == 1 {
         return Value { len: 1, bytes };

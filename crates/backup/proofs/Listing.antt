@@ -9,7 +9,7 @@ use lib.Seq.{sets, length-sets}
 use Rattle.laws.specs.Promise.{overlaid}
 use Rattle.laws.proofs.Lists.{sets-append}
 use Rattle.laws.proofs.Promise.{overlaid-sets}
-use Rattle.wire.specs.Frame.{newline}
+use Rattle.paper.specs.Numbers.{newline}
 use Rattle.settings.specs.Columns.{idAt}
 use Rattle.tables.specs.Rules.{numberAt}
 use Rattle.tables.specs.declared.Table.{Table}

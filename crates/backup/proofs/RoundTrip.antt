@@ -12,7 +12,7 @@ use Rattle.laws.specs.Lists.{every, before, same}
 use Rattle.laws.proofs.Bools.{and-left, and-right, nor-left, both}
 use Rattle.laws.proofs.Lists.{every-append, before-first, drop-turn, same-back, same-self}
 use Rattle.wire.specs.Digits.{digit, isDigit}
-use Rattle.wire.specs.Frame.{colon, newline}
+use Rattle.paper.specs.Numbers.{colon, newline}
 use Rattle.wire.proofs.Nibbles.{digit-isDigit, digit-stays}
 use Rattle.wire.proofs.RoundTrip.{digits-all}
 use Rattle.settings.specs.Columns.{count, idAt}

@@ -4,6 +4,8 @@ use mathlib.Core.Bool.{cond, not}
 use mathlib.Core.List.{List, []}
 use lib.ListN.{length}
 use lib.Dec.{ltb}
+use Rattle.paper.specs.Numbers as paper
+use Rattle.paper.specs.Numbers.{textRoom}
 use Rattle.laws.specs.Promise.{Given}
 use Rattle.tables.specs.Rules.{factory, allowed}
 use Rattle.tables.specs.declared.Table.{Table}
@@ -12,10 +14,6 @@ use Rattle.backup.specs.declared.Written.{Written}
 use Rattle.backup.specs.declared.Verdict.{Verdict}
 use Rattle.backup.specs.declared.Backup.{Backup}
 
--- "Writing needs 512 bytes of room." 11 under that, then 12 for a table that is not allowed
-abbrev pub textRoom : ℕ
-textRoom = 512
-
 abbrev pub unwritten : ℕ → Given Written
 unwritten number = record { answer = Written.Refused number; written = [] }
 
@@ -23,7 +21,7 @@ abbrev pub writtenAs : List ℕ → Given Written
 writtenAs bytes = record { answer = Written.Text (length bytes); written = bytes }
 
 unfoldable pub writing : Table → ℕ → Given Written
-writing table room = cond (ltb room textRoom) (unwritten 11) (cond (not (allowed table)) (unwritten 12) (writtenAs (textOf table)))
+writing table room = cond (ltb room textRoom) (unwritten paper.shortBuffer) (cond (not (allowed table)) (unwritten paper.notAllowed) (writtenAs (textOf table)))
 
 -- "A refusal returns its number, the line, the header being 1 (0 for 17 and 18) and the factory table."
 abbrev pub readAs : Says → Backup

@@ -12,7 +12,8 @@ use Rattle.tables.specs.Rules.{allowed, factory}
 use Rattle.tables.specs.declared.Table.{Table}
 use Rattle.backup.specs.Decimals.{decimal, isNumber, valueOf}
 use Rattle.backup.specs.Text.{textOf, good}
-use Rattle.backup.specs.Calls.{textRoom, writing, writtenAs, reading, readAs}
+use Rattle.paper.specs.Numbers.{textRoom}
+use Rattle.backup.specs.Calls.{writing, writtenAs, reading, readAs}
 
 -- 1. A number is read back from its decimal digits, which have no leading zero; and digits with none are those of their number.
 abbrev pub DecimalIsRead : Type 0

@@ -5,9 +5,11 @@ use mathlib.Core.Bool.{Bool, cond, not, _&&_}
 use mathlib.Core.List.{List, [], _∷_, _++_}
 use lib.ListN.{length, take, drop, getD}
 use lib.Dec.{ltb, eqb}
+use Rattle.paper.specs.Numbers as paper
 use Rattle.laws.specs.Lists.{every, before, same}
 use Rattle.wire.specs.Digits.{isDigit}
-use Rattle.wire.specs.Frame.{newline, digitsOf}
+use Rattle.paper.specs.Numbers.{newline}
+use Rattle.wire.specs.Frame.{digitsOf}
 use Rattle.settings.specs.Columns.{count, idAt}
 use Rattle.settings.specs.Rules.{inRange}
 use Rattle.tables.specs.Rules.{allowed, numberAt}
@@ -70,17 +72,17 @@ pub data Line : Type 0 where
 
 unfoldable pub judged : ℕ → List ℕ → Line
 judged k line =
-    cond (not (isLine line)) (wrong 14)
-    (cond (not (isDue k line)) (wrong 15)
-    (cond (not (inRange k (numberIn line))) (wrong 16)
+    cond (not (isLine line)) (wrong paper.badLine)
+    (cond (not (isDue k line)) (wrong paper.otherId)
+    (cond (not (inRange k (numberIn line))) (wrong paper.outOfRange)
     (number (numberIn line))))
 
 unfoldable pub lineSays : ℕ → List ℕ → Line
-lineSays k text = cond (isEnded text) (judged k (firstLine text)) (wrong 14)
+lineSays k text = cond (isEnded text) (judged k (firstLine text)) (wrong paper.badLine)
 
 -- "then 18 bytes follow the last line; then 17 a pair disagrees", the line being "0 for 17 and 18"
 unfoldable pub endSays : Table → ℕ → Says
-endSays t more = cond (eqb more 0) (cond (allowed t) (good t) (refused 17 0)) (refused 18 0)
+endSays t more = cond (eqb more 0) (cond (allowed t) (good t) (refused paper.pairDisagrees 0)) (refused paper.moreBytes 0)
 
 -- what follows a line: the next one, or the refusal
 abbrev pub following : (ℕ → Says) → ℕ → Line → Says
@@ -95,4 +97,4 @@ linesSay (suc left) k numbers text =
 
 -- 13: "first line differs"
 unfoldable pub textSays : List ℕ → Says
-textSays text = cond (same (take (length header) text) header) (linesSay count 0 [] (drop (length header) text)) (refused 13 1)
+textSays text = cond (same (take (length header) text) header) (linesSay count 0 [] (drop (length header) text)) (refused paper.otherHeader 1)

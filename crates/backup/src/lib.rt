@@ -36,11 +36,11 @@ pub struct Backup {
 pub fn write(table: Table, out: &mut [u8]) -> Written
     ensures { λ r. ⌜ Gives Written (writing table (length (now (out .entry)))) (now (out .entry)) r (now (out .exit)) ⌝ }
 {
-    if out.len() < numbers::TEXT_ROOM {
-        return Written::Refused(numbers::SHORT_BUFFER);
+    if out.len() < paper::TEXT_ROOM {
+        return Written::Refused(paper::SHORT_BUFFER);
     }
     if !table.is_allowed() {
-        return Written::Refused(numbers::NOT_ALLOWED);
+        return Written::Refused(paper::NOT_ALLOWED);
     }
     let held = table.numbers;
     Written::Text(writer::put_text(held, out))
@@ -51,10 +51,10 @@ pub fn read(text: &[u8]) -> Backup
     ensures { λ r. ⌜ r ≡ reading (now (text .entry)) ⌝ }
 {
     if text.len() < numbers::HEADER_LEN {
-        return reader::refused(numbers::OTHER_HEADER, 1);
+        return reader::refused(paper::OTHER_HEADER, 1);
     }
     if !reader::is_header(&text[..numbers::HEADER_LEN]) {
-        return reader::refused(numbers::OTHER_HEADER, 1);
+        return reader::refused(paper::OTHER_HEADER, 1);
     }
     reader::read_lines(&text[numbers::HEADER_LEN..])
 }

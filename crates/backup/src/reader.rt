@@ -45,7 +45,7 @@ fn line_len(text: &[u8]) -> usize
 {
     let mut i = 0;
     while i < text.len() {
-        if text[i] == numbers::NEWLINE {
+        if text[i] == paper::NEWLINE {
             return i;
         }
         i += 1;
@@ -93,15 +93,15 @@ fn judged(line: &[u8], index: usize) -> Said
     ensures { λ r. ⌜ r ≡ heldAs (spec.judged index (now (line .entry))) ⌝ }
 {
     if !is_line(line) {
-        return wrong(numbers::BAD_LINE);
+        return wrong(paper::BAD_LINE);
     }
     let due = line::due(index);
     if !check::same(&line[..numbers::ID_LEN], &due) {
-        return wrong(numbers::OTHER_ID);
+        return wrong(paper::OTHER_ID);
     }
     let number = decimals::value_of(&line[numbers::NUMBER_AT..]);
     if !is_fit(index, number) {
-        return wrong(numbers::OUT_OF_RANGE);
+        return wrong(paper::OUT_OF_RANGE);
     }
     Said {
         refusal: 0,
@@ -115,7 +115,7 @@ fn line_says(text: &[u8], index: usize, len: usize) -> Said
     ensures { λ r. ⌜ r ≡ heldAs (spec.lineSays index (now (text .entry))) ⌝ }
 {
     if text.len() <= len {
-        return wrong(numbers::BAD_LINE);
+        return wrong(paper::BAD_LINE);
     }
     judged(&text[..len], index)
 }
@@ -125,11 +125,11 @@ fn ended(more: usize, held: [u16; COUNT]) -> Backup
     ensures { λ r. ⌜ r ≡ readAs (spec.endSays (record { numbers = held }) more) ⌝ }
 {
     if more != 0 {
-        return refused(numbers::MORE_BYTES, 0);
+        return refused(paper::MORE_BYTES, 0);
     }
     let table = Table { numbers: held };
     if !table.is_allowed() {
-        return refused(numbers::PAIR_DISAGREES, 0);
+        return refused(paper::PAIR_DISAGREES, 0);
     }
     Backup {
         table,

@@ -5,7 +5,7 @@ ghost use mathlib.Core.List.{[], _∷_, _++_};
 ghost use lib.ListN.{length};
 ghost use lib.Seq.{sets};
 ghost use Rattle.laws.specs.Promise.{overlaid};
-ghost use Rattle.wire.specs.Frame.{newline};
+ghost use Rattle.paper.specs.Numbers.{newline};
 ghost use Rattle.settings.specs.Columns.{count, idAt};
 ghost use Rattle.backup.specs.Text.{tab, idDigits, lineOf, linesFrom, textOf};
 use crate::decimals;
@@ -33,7 +33,7 @@ fn put_line(out: &mut [u8], at: usize, index: usize, n: u16) -> usize
 {
     put_id(out, at, index);
     let end = decimals::put_number(out, at + numbers::NUMBER_AT, n);
-    out[end] = numbers::NEWLINE;
+    out[end] = paper::NEWLINE;
     end + 1
 }
 

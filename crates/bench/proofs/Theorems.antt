@@ -9,7 +9,7 @@ use lib.Dec.{leb}
 use Rattle.laws.specs.Lists.{every}
 use Rattle.laws.specs.Cutting.{Offer, calls, ready}
 use Rattle.laws.proofs.Bools.{and-left, and-right, both}
-use Rattle.wire.specs.Frame.{mostData}
+use Rattle.paper.specs.Numbers.{mostData}
 use Rattle.stream.specs.Stream.{outside}
 use Rattle.stream.specs.Calls.{heldOf}
 use Rattle.stream.proofs.Theorems as stream

@@ -8,7 +8,7 @@ use lib.ListN.{length, take}
 use lib.Dec.{leb}
 use Rattle.laws.specs.Lists.{every}
 use Rattle.laws.specs.Cutting.{calls}
-use Rattle.wire.specs.Frame.{mostData}
+use Rattle.paper.specs.Numbers.{mostData}
 use Rattle.wire.specs.Reading.{Ended}
 use Rattle.stream.specs.Stream.{outside, framesOf}
 use Rattle.stream.specs.Calls.{heldOf}

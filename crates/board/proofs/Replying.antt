@@ -21,7 +21,8 @@ use Rattle.settings.specs.Columns.{count, idAt, widthAt}
 use Rattle.settings.proofs.Theorems.{rows-hold}
 use Rattle.wire.specs.Numbers.{little}
 use Rattle.answers.specs.Requests.{getRequest, setRequest}
-use Rattle.answers.specs.Answers.{Sent, silent, sent, error, Decision, said, getCode, setCode, frameAnswer}
+use Rattle.paper.specs.Numbers.{getCode, setCode}
+use Rattle.answers.specs.Answers.{Sent, silent, sent, error, Decision, said, frameAnswer}
 use Rattle.answers.specs.Laws.{Fits, a-frame, an-error}
 use Rattle.answers.specs.Laws as fitting
 use Rattle.answers.proofs.Theorems.{replies-fit, get-answers-held, set-stores-it, set-refused-names-nearest}

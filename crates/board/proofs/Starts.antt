@@ -9,7 +9,8 @@ use Rattle.tables.proofs.Theorems.{factory-is-allowed}
 use Rattle.tables.specs.Rules.{factory, allowed}
 use Rattle.tables.specs.declared.Table.{Table}
 use Rattle.who.specs.Parts.{serialFits, identityOf, noIdentity, identityAllowed}
-use Rattle.who.specs.Calls.{notAllowed, naming}
+use Rattle.paper.specs.Numbers.{notAllowed}
+use Rattle.who.specs.Calls.{naming}
 use Rattle.who.specs.declared.Identity.{Identity}
 use Rattle.who.specs.declared.Verdict.{Verdict}
 use Rattle.who.specs.declared.Named.{Named}

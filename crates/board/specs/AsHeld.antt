@@ -9,7 +9,7 @@ use Rattle.wire.specs.Frame.{frame}
 use Rattle.answers.specs.declared.Sends.{Sends}
 use Rattle.answers.specs.declared.Reply.{Reply}
 use Rattle.stream.specs.Calls as stream
-use Rattle.who.specs.Calls.{notAllowed}
+use Rattle.paper.specs.Numbers.{notAllowed}
 use Rattle.board.specs.Calls.{errorFrame, heardBy, unanswered}
 use Rattle.board.specs.declared.Board.{Board}
 use Rattle.board.specs.declared.Answered.{Answered}

@@ -5,17 +5,16 @@ use mathlib.Core.List.{List, [], _∷_}
 use lib.ListN.{length, take}
 use lib.Dec.{ltb}
 use Rattle.laws.specs.Promise.{Given}
-use Rattle.wire.specs.Frame.{frame, frameRoom}
+use Rattle.paper.specs.Numbers.{frameRoom, shortBuffer, notAllowed}
+use Rattle.wire.specs.Frame.{frame}
 use Rattle.wire.specs.Reading.{Ended, good, refused}
 use Rattle.stream.specs.Stream.{framesFrom, leftFrom, taken}
-use Rattle.wire.specs.Calls.{shortBuffer}
 use Rattle.stream.specs.Calls.{heldOf, unfinished}
 use Rattle.stream.specs.declared.Held.{Held}
 use Rattle.tables.specs.Rules.{factory, allowed}
 use Rattle.tables.specs.declared.Table.{Table}
 use Rattle.who.specs.Parts.{serialFits, identityOf, noIdentity}
 use Rattle.answers.specs.Answers.{Sent, silent, sent, error, Decision, staying, frameAnswer}
-use Rattle.who.specs.Calls.{notAllowed}
 use Rattle.answers.specs.declared.Outcome.{Outcome}
 use Rattle.who.specs.declared.Verdict.{Verdict}
 use Rattle.board.specs.Parts.{freshBoard, sampleFits, readingsOf, boardAllowed}

@@ -7,8 +7,10 @@ use mathlib.Core.Bool.{true, false}
 use mathlib.Core.List.{List, [], _∷_}
 use lib.ListN.{length}
 use lib.IntN.{pos, negsuc}
+use Rattle.paper.specs.Numbers as paper
 use Rattle.laws.specs.Promise.{Given}
-use Rattle.wire.specs.Frame.{frame, frameRoom}
+use Rattle.paper.specs.Numbers.{frameRoom, mostSerial, getCode, setCode}
+use Rattle.wire.specs.Frame.{frame}
 use Rattle.wire.specs.Reading.{Ended, good}
 use Rattle.stream.specs.Stream.{outside, framesOf, leftBy}
 use Rattle.stream.specs.Calls.{mostHeld, heldOf}
@@ -17,9 +19,9 @@ use Rattle.settings.specs.Columns.{count, idAt, widthAt}
 use Rattle.settings.specs.Rules.{allowedFor, Nearest}
 use Rattle.tables.specs.Rules.{allowed, numberAt, partnerNumber, changed}
 use Rattle.tables.specs.declared.Table.{Table}
-use Rattle.who.specs.Parts.{mostSerial, serialFits, serialOf, noReadings}
+use Rattle.who.specs.Parts.{serialFits, serialOf, noReadings}
 use Rattle.wire.specs.Numbers.{little}
-use Rattle.answers.specs.Answers.{Sent, silent, sent, error, said, getCode, setCode, frameAnswer}
+use Rattle.answers.specs.Answers.{Sent, silent, sent, error, said, frameAnswer}
 use Rattle.answers.specs.Requests.{getRequest, setRequest}
 use Rattle.who.specs.declared.Verdict.{Verdict}
 use Rattle.answers.specs.declared.Outcome.{Outcome}
@@ -83,7 +85,7 @@ RefusalKeeps =
 abbrev pub meant : Sent → List Ended
 meant silent = []
 meant (sent command bytes) = good command bytes ∷ []
-meant error = good 4 (0xAA ∷ 0xAA ∷ []) ∷ []
+meant error = good paper.errorCode (0xAA ∷ 0xAA ∷ []) ∷ []
 
 pub record Readable (reply : Sent) (bytes : List ℕ) : Type 0 where
   pub short : length bytes ≤ frameRoom
@@ -124,7 +126,7 @@ abbrev pub GetAnswersHeld : Type 0
 GetAnswersHeld =
     (board : Board) (k room : ℕ) → boardAllowed board ≡ true → atRest board → k < count → frameRoom ≤ room
     → answering board (getRequest (idAt k)) room
-    ≡ comesTo board (board .table) Outcome.Answered (frame getCode (said (idAt k) 0 (little (widthAt k) (numberAt (board .table) k)))) (getRequest (idAt k))
+    ≡ comesTo board (board .table) Outcome.Answered (frame getCode (said (idAt k) paper.goodFlag (little (widthAt k) (numberAt (board .table) k)))) (getRequest (idAt k))
 
 -- 8. A good Set answers what it stored and stores what it answered, that number alone: its reply is the request itself.
 abbrev pub SetStoresIt : Type 0
@@ -140,7 +142,7 @@ SetRefusedNamesNearest =
     → allowedFor k n (partnerNumber (board .table) k) ≡ false
     → (m : ℕ) × Nearest k n (partnerNumber (board .table) k) m
     × (answering board (setRequest k n) room
-    ≡ comesTo board (board .table) (Outcome.Refused 10) (frame setCode (said (idAt k) 4 (little (widthAt k) m))) (setRequest k n))
+    ≡ comesTo board (board .table) (Outcome.Refused paper.numberNotAllowed) (frame setCode (said (idAt k) paper.parameterFlag (little (widthAt k) m))) (setRequest k n))
 
 -- 10. "A state handed in is allowed when its settings, identity and readings are and its held frame is one that bytes could have left": a
 -- board is allowed exactly when starts, readings and bytes give it. (Arrays have their lengths and numbers their widths in every value of

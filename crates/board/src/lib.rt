@@ -88,7 +88,7 @@ impl Board {
         if !(is_allowed(self) & measured::fit(given)) {
             return Judged {
                 board: self,
-                verdict: Verdict::Refused(numbers::NOT_ALLOWED),
+                verdict: Verdict::Refused(paper::NOT_ALLOWED),
             };
         }
         let identity = self.identity;
@@ -110,11 +110,11 @@ impl Board {
     pub fn answer(self, piece: &[u8], reply: &mut [u8]) -> Answered
         ensures { λ r. ⌜ Gives Answered (answering self (now (piece .entry)) (length (now (reply .entry)))) (now (reply .entry)) r (now (reply .exit)) ⌝ }
     {
-        if reply.len() < numbers::REPLY_ROOM {
-            return unanswered(self, numbers::SHORT_BUFFER);
+        if reply.len() < paper::FRAME_ROOM {
+            return unanswered(self, paper::SHORT_BUFFER);
         }
         if !is_fit(self) {
-            return unanswered(self, numbers::NOT_ALLOWED);
+            return unanswered(self, paper::NOT_ALLOWED);
         }
         line::heard(self, piece, reply)
     }
@@ -140,7 +140,7 @@ fn refused_start() -> Judged
     let identity = named.identity;
     Judged {
         board: fresh(identity, Table::factory()),
-        verdict: Verdict::Refused(numbers::NOT_ALLOWED),
+        verdict: Verdict::Refused(paper::NOT_ALLOWED),
     }
 }
 
@@ -176,7 +176,7 @@ fn is_allowed(board: Board) -> bool
 fn is_held(held: Held) -> bool
     ensures { λ r. ⌜ r ≡ stream.allowed held ⌝ }
 {
-    let mut room = [0u8; numbers::MOST_DATA];
+    let mut room = [0u8; paper::MOST_DATA];
     let heard = held.hear(&[], &mut room);
     let event = heard.event;
     match event {

@@ -13,7 +13,6 @@ ghost use Rattle.answers.specs.declared.Sends.{Sends};
 ghost use Rattle.board.specs.declared.Answered.{Answered};
 use crate::Answered;
 use crate::Board;
-use crate::numbers;
 use answers::Outcome;
 use answers::Reply;
 use answers::Sends;
@@ -33,7 +32,7 @@ fn put_fault(number: u8, out: &mut [u8]) -> usize
     requires { ⌜ 75 ≤ length (now out) ⌝ }
     ensures { λ r. ⌜ Gives ℕ (whole (faultBytes number)) (now (out .entry)) r (now (out .exit)) ⌝ }
 {
-    if number == numbers::NOT_ALLOWED {
+    if number == paper::NOT_ALLOWED {
         return 0;
     }
     put_error(out)
@@ -101,7 +100,7 @@ pub(crate) fn heard(board: Board, piece: &[u8], out: &mut [u8]) -> Answered
     let table = board.table;
     let readings = board.readings;
     let before = board.held;
-    let mut bytes = [0u8; numbers::MOST_DATA];
+    let mut bytes = [0u8; paper::MOST_DATA];
     let heard = before.hear(piece, &mut bytes);
     let event = heard.event;
     let taken = heard.taken;

@@ -14,7 +14,7 @@ use Rattle.wire.proofs.Theorems.{little-is-read}
 use Rattle.settings.specs.Columns.{count, idAt, widthAt}
 use Rattle.settings.proofs.Theorems.{rows-hold, allowed-has-room}
 use Rattle.wire.proofs.Little.{length-little}
-use Rattle.answers.specs.Answers.{getCode}
+use Rattle.paper.specs.Numbers.{getCode}
 use Rattle.reply.specs.declared.Status.{Status}
 use Rattle.reply.specs.declared.Reply.{Reply}
 use Rattle.reply.proofs.Theorems.{said-is-read}

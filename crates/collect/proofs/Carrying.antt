@@ -12,7 +12,8 @@ use Rattle.wire.specs.Numbers.{little, fromLittle}
 use Rattle.wire.specs.Laws.{Bytes}
 use Rattle.settings.specs.Columns.{count, idAt, widthAt}
 use Rattle.settings.proofs.Theorems.{rows-hold}
-use Rattle.answers.specs.Answers.{said, getCode}
+use Rattle.paper.specs.Numbers.{getCode}
+use Rattle.answers.specs.Answers.{said}
 use Rattle.reply.specs.Replies.{flagOf, rest}
 use Rattle.reply.specs.Calls.{reading}
 use Rattle.reply.specs.Laws.{From, a-get}

@@ -3,7 +3,8 @@ use Prim.Native.Nat.{ℕ}
 use mathlib.Core.Bool.{cond}
 use mathlib.Core.List.{List}
 use Rattle.tables.specs.Rules.{factory}
-use Rattle.settings.specs.Calls.{settingAt, notAllowed}
+use Rattle.paper.specs.Numbers.{notAllowed}
+use Rattle.settings.specs.Calls.{settingAt}
 use Rattle.tables.specs.declared.Table.{Table}
 use Rattle.reply.specs.Events.{Event}
 use Rattle.collect.specs.Collecting.{advanced, begun, allowed}

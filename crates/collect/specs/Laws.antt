@@ -13,7 +13,8 @@ use Rattle.settings.specs.Columns.{count, idAt, widthAt}
 use Rattle.tables.specs.Rules.{factory}
 use Rattle.tables.specs.Rules as tables
 use Rattle.tables.specs.declared.Table.{Table}
-use Rattle.answers.specs.Answers.{said, getCode}
+use Rattle.paper.specs.Numbers.{getCode}
+use Rattle.answers.specs.Answers.{said}
 use Rattle.reply.specs.Events.{Event, heard, refusedFrame, noAnswer, OnStream, isFlag}
 use Rattle.collect.specs.Collecting.{fits, advanced, begun, allowed}
 use Rattle.collect.specs.Calls.{starting, collecting}

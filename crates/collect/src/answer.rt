@@ -9,9 +9,6 @@ use crate::place;
 use settings::COUNT;
 use tables::Table;
 
-// 12: a collector that no start and events give.
-const NOT_ALLOWED: u8 = 12;
-
 // The outcome in a phase, with this many settings answered.
 fn outcome_of(phase: Phase, len: usize) -> Outcome
     ensures { λ r. ⌜ r ≡ spec.outcomeOf phase len ⌝ }
@@ -55,7 +52,7 @@ pub(crate) fn stray(collector: Collector) -> Collected
 {
     Collected {
         collector,
-        outcome: Outcome::Refused(NOT_ALLOWED),
+        outcome: Outcome::Refused(paper::NOT_ALLOWED),
         answered: 0,
         table: Table::factory(),
     }

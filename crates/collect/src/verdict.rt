@@ -11,9 +11,6 @@ use reply::Reply;
 use reply::Status;
 use settings::COUNT;
 
-// An id and the flags stand before the value.
-const FRONT: usize = 3;
-
 // The number is taken, the collector stops, or it keeps waiting.
 pub(crate) enum Verdict {
     Takes(u16),
@@ -38,10 +35,10 @@ fn of_value(numbers: [u16; COUNT], index: usize, bytes: &[u8]) -> Verdict
     ensures { λ r. ⌜ r ≡ spec.valued numbers index (drop 3 (now (bytes .entry))) ⌝ }
 {
     let setting = place::setting_at(index);
-    if bytes.len() != FRONT + setting.width {
+    if bytes.len() != paper::FRONT + setting.width {
         return Verdict::Stops;
     }
-    let number = number_of(&bytes[FRONT..]);
+    let number = number_of(&bytes[paper::FRONT..]);
     if !place::is_fit(numbers, index, number) {
         return Verdict::Stops;
     }

@@ -12,7 +12,7 @@ use Rattle.laws.specs.Cutting as Cutting
 use Rattle.laws.specs.Cutting.{Step, Offer, ready}
 use Rattle.laws.proofs.Cutting as cutting
 use Rattle.laws.proofs.Bools.{and-left, and-right}
-use Rattle.wire.specs.Frame.{frameRoom}
+use Rattle.paper.specs.Numbers.{frameRoom, mostData}
 use Rattle.wire.specs.Reading.{Ended}
 use Rattle.stream.specs.Stream.{Unfinished, outside, framesFrom, leftFrom, framesOf, taken}
 use Rattle.stream.specs.Calls.{heldOf, unfinished}
@@ -32,7 +32,6 @@ use Rattle.demands.specs.Sets.{made}
 use Rattle.demands.specs.Talk.{Deed, stores, calls, Said, Talk, talk, afterAll, saidToAll, withLine}
 use Rattle.demands.specs.Demand3.{isCalls, AnyCutting, isFeeding, acceptedSet, ListIsAccepted, repliesOf, eventFor, followed, Confirmed, ListIsConfirmed}
 use Rattle.laws.proofs.Bools.{both}
-use Rattle.wire.specs.Frame.{mostData}
 use Rattle.stream.specs.Laws.{hears, Writables, nothing, broken, whole}
 use Rattle.stream.proofs.Theorems.{all-is-taken, heard-is-writable}
 use Rattle.reply.specs.Events as events

@@ -22,7 +22,8 @@ use Rattle.tables.specs.declared.Table.{Table}
 use Rattle.settings.proofs.Theorems.{rows-hold}
 use Rattle.tables.proofs.Theorems.{set-keeps-allowed, set-keeps-count}
 use Rattle.tables.proofs.Tables.{set-accepted, set-refused}
-use Rattle.answers.specs.Answers.{setCode, said}
+use Rattle.paper.specs.Numbers.{setCode}
+use Rattle.answers.specs.Answers.{said}
 use Rattle.answers.specs.Requests.{setData}
 use Rattle.answers.proofs.Theorems.{set-stores-it}
 use Rattle.wire.proofs.Little.{length-little, bytes-little}

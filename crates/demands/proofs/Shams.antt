@@ -25,7 +25,8 @@ use Rattle.tables.specs.Calls.{setTo}
 use Rattle.tables.specs.declared.Table.{Table}
 use Rattle.tables.proofs.Theorems.{factory-is-allowed}
 use Rattle.who.specs.Parts.{serialFits, noSerial, identityOf, serialOf, identityAllowed}
-use Rattle.answers.specs.Answers.{said, getCode, setsSetting, setAnswer, frameAnswer}
+use Rattle.paper.specs.Numbers.{getCode}
+use Rattle.answers.specs.Answers.{said, setsSetting, setAnswer, frameAnswer}
 use Rattle.answers.specs.Requests.{setRequest}
 use Rattle.answers.specs.declared.Outcome.{Outcome}
 use Rattle.board.specs.Parts.{boardAllowed, freshBoard}

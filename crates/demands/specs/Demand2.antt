@@ -7,9 +7,11 @@ use mathlib.Core.Bool.{true}
 use mathlib.Core.List.{List, [], _∷_, _++_}
 use lib.ListN.{length, take}
 use lib.Dec.{leb}
+use Rattle.paper.specs.Numbers as paper
 use Rattle.laws.specs.Cutting as Cutting
 use Rattle.laws.specs.Cutting.{Offer, ready}
-use Rattle.wire.specs.Frame.{mostNibble, mostData, frame}
+use Rattle.paper.specs.Numbers.{mostNibble, mostData, getCode, setCode}
+use Rattle.wire.specs.Frame.{frame}
 use Rattle.wire.specs.Numbers.{little, fromLittle}
 use Rattle.wire.specs.Reading.{good}
 use Rattle.stream.specs.Stream.{outside, framesOf}
@@ -18,7 +20,7 @@ use Rattle.wire.specs.Laws as wire
 use Rattle.wire.specs.Laws.{Bytes}
 use Rattle.stream.specs.Laws.{hears}
 use Rattle.settings.specs.Columns.{count, widthAt}
-use Rattle.answers.specs.Answers.{Sent, silent, sent, error, said, getCode, setCode}
+use Rattle.answers.specs.Answers.{Sent, silent, sent, error, said}
 use Rattle.answers.specs.Requests.{getRequest, setData, setRequest}
 use Rattle.board.specs.Calls.{endedIn, deciding}
 use Rattle.board.specs.declared.Board.{Board}
@@ -50,14 +52,14 @@ ReadIsWritten = wire.ReadIsWritten
 -- two bytes in every value of the type.)
 pub data Understood : Sent → Type 0 where
   no-reply : Understood silent
-  as-error : reading 4 (0xAA ∷ 0xAA ∷ []) ≡ Reply.Error 0xAAAA → Understood error
-  as-done : (bytes : List ℕ) → reading 1 bytes ≡ Reply.Done → Understood (sent 1 bytes)
-  as-unknown : (command : ℕ) → reading 3 (command ∷ []) ≡ Reply.Unknown command → Understood (sent 3 (command ∷ []))
-  as-ping : (version : ℕ) → reading 5 (little 2 version) ≡ Reply.Ping version → Understood (sent 5 (little 2 version))
-  as-get : (status : Status) (id : ℕ) (value : List ℕ) → reading 7 (said id (flagOf status) value) ≡ Reply.Get status id
-      → rest (said id (flagOf status) value) ≡ value → Understood (sent 7 (said id (flagOf status) value))
-  as-set : (status : Status) (id : ℕ) (value : List ℕ) → reading 8 (said id (flagOf status) value) ≡ Reply.Set status id
-      → rest (said id (flagOf status) value) ≡ value → Understood (sent 8 (said id (flagOf status) value))
+  as-error : reading paper.errorCode (0xAA ∷ 0xAA ∷ []) ≡ Reply.Error 0xAAAA → Understood error
+  as-done : (bytes : List ℕ) → reading paper.doneCode bytes ≡ Reply.Done → Understood (sent paper.doneCode bytes)
+  as-unknown : (command : ℕ) → reading paper.unknownCode (command ∷ []) ≡ Reply.Unknown command → Understood (sent paper.unknownCode (command ∷ []))
+  as-ping : (version : ℕ) → reading paper.pongCode (little 2 version) ≡ Reply.Ping version → Understood (sent paper.pongCode (little 2 version))
+  as-get : (status : Status) (id : ℕ) (value : List ℕ) → reading paper.getCode (said id (flagOf status) value) ≡ Reply.Get status id
+      → rest (said id (flagOf status) value) ≡ value → Understood (sent paper.getCode (said id (flagOf status) value))
+  as-set : (status : Status) (id : ℕ) (value : List ℕ) → reading paper.setCode (said id (flagOf status) value) ≡ Reply.Set status id
+      → rest (said id (flagOf status) value) ≡ value → Understood (sent paper.setCode (said id (flagOf status) value))
 
 abbrev pub RepliesAreUnderstood : Type 0
 RepliesAreUnderstood =

@@ -10,7 +10,7 @@ use lib.Dec.{leb}
 use Rattle.laws.specs.Promise.{Given}
 use Rattle.laws.specs.Cutting as Cutting
 use Rattle.laws.specs.Cutting.{Offer, ready}
-use Rattle.wire.specs.Frame.{mostData, frameRoom}
+use Rattle.paper.specs.Numbers.{mostData, frameRoom}
 use Rattle.wire.specs.Reading.{Ended, good, refused}
 use Rattle.stream.specs.Stream.{Unfinished, outside, framesFrom, leftFrom, framesOf}
 use Rattle.stream.specs.Calls.{heldOf}

@@ -10,7 +10,7 @@ use lib.ListN.{length}
 use lib.Dec.{eqb}
 use Rattle.laws.specs.Lists.{same}
 use Rattle.laws.specs.Promise.{Given}
-use Rattle.wire.specs.Frame.{newline, frameRoom}
+use Rattle.paper.specs.Numbers.{newline, frameRoom}
 use Rattle.tables.specs.Rules.{factory, changed}
 use Rattle.settings.specs.Calls.{placeOf, nearing}
 use Rattle.tables.specs.declared.Table.{Table}

@@ -5,6 +5,7 @@ use mathlib.Core.Bool.{Bool, cond, _&&_}
 use mathlib.Core.List.{List, [], _∷_}
 use lib.ListN.{length, take, drop, getD}
 use lib.Dec.{eqb, leb, ltb}
+use Rattle.paper.specs.Numbers as paper
 use Rattle.wire.specs.Numbers.{fromLittle}
 use Rattle.wire.specs.Reading.{Ended, good, refused}
 use Rattle.settings.specs.Columns.{count, widthAt, roleAt}
@@ -23,7 +24,7 @@ valueIn bytes = drop 3 bytes
 -- complete: command 8, three bytes and more, flags 0, the id of a setting, and a value in its width
 unfoldable pub isComplete : ℕ → List ℕ → Bool
 isComplete command bytes =
-    eqb command 8 && (leb 3 (length bytes) && eqb (getD bytes 2 0) 0)
+    eqb command paper.setCode && (leb 3 (length bytes) && eqb (getD bytes 2 0) 0)
     && (ltb (placeIn bytes) count && eqb (length (valueIn bytes)) (widthAt (placeIn bytes)))
 
 -- valid: the number is in the setting's own range and agrees with the partner's in the table so far

@@ -8,9 +8,11 @@ use mathlib.Core.Path.{_≡_}
 use mathlib.Core.Bool.{true, cond}
 use mathlib.Core.List.{List, []}
 use lib.ListN.{length}
+use Rattle.paper.specs.Numbers as paper
 use Rattle.laws.specs.Lists.{same}
 use Rattle.laws.specs.Promise.{Given}
-use Rattle.wire.specs.Frame.{mostData, frameRoom, frame}
+use Rattle.paper.specs.Numbers.{mostData, frameRoom, getCode}
+use Rattle.wire.specs.Frame.{frame}
 use Rattle.wire.specs.Numbers.{little}
 use Rattle.stream.specs.Stream.{taken}
 use Rattle.stream.specs.Calls as stream
@@ -21,7 +23,7 @@ use Rattle.settings.specs.Columns.{count, idAt, widthAt, factories}
 use Rattle.settings.specs.Rules.{allowedFor}
 use Rattle.tables.specs.Rules.{numberAt, partnerNumber, changed}
 use Rattle.tables.specs.declared.Table.{Table}
-use Rattle.answers.specs.Answers.{said, getCode}
+use Rattle.answers.specs.Answers.{said}
 use Rattle.answers.specs.Requests.{getRequest, setRequest}
 use Rattle.answers.specs.declared.Outcome.{Outcome}
 use Rattle.board.specs.Parts.{boardAllowed}
@@ -84,7 +86,7 @@ leaving given table =
 
 -- refuses everything
 abbrev pub refusesAll : Board → List ℕ → ℕ → Given Answered
-refusesAll board piece room = unanswered board 12
+refusesAll board piece room = unanswered board paper.notAllowed
 
 -- always answers alike: whatever it is asked, the capacity is 200
 abbrev pub answersAlike : Board → List ℕ → ℕ → Given Answered

@@ -10,9 +10,10 @@ use lib.Dec.{ltb, eqb}
 use Rattle.laws.specs.Promise.{Given, Gives}
 use Rattle.laws.specs.Lists.{every}
 use Rattle.wire.specs.Digits.{isDigit}
-use Rattle.wire.specs.Frame.{frame, mostChars}
+use Rattle.paper.specs.Numbers.{mostChars, shortBuffer, notAllowed}
+use Rattle.wire.specs.Frame.{frame}
 use Rattle.wire.specs.Reading.{Ended, good, refused, bodySays, badCount, sumsUp, commandOf, dataOf}
-use Rattle.wire.specs.Calls.{shortBuffer, notAllowed, writing, writtenAs, unwritten, reading, readAs, wholeSays, wellEnclosed, between}
+use Rattle.wire.specs.Calls.{writing, writtenAs, unwritten, reading, readAs, wholeSays, wellEnclosed, between}
 use Rattle.wire.specs.declared.Written.{Written}
 use Rattle.wire.specs.declared.Read.{Read}
 use Rattle.wire.proofs.Frames.{length-frame}

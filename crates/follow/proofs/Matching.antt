@@ -14,7 +14,8 @@ use Rattle.laws.proofs.Lists.{every-drop, same-back, same-self}
 use Rattle.wire.specs.Numbers.{little, fromLittle}
 use Rattle.wire.specs.Laws.{Bytes}
 use Rattle.wire.proofs.Theorems.{little-is-read, read-is-little}
-use Rattle.answers.specs.Answers.{said, setCode}
+use Rattle.paper.specs.Numbers.{setCode}
+use Rattle.answers.specs.Answers.{said}
 use Rattle.wire.proofs.Little.{length-little}
 use Rattle.reply.specs.Replies.{flagOf, rest}
 use Rattle.reply.specs.Calls.{reading}

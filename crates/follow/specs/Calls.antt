@@ -1,6 +1,7 @@
 -- What each public call answers, for every input. Assumes nothing.
 use Prim.Native.Nat.{zero}
 use mathlib.Core.Bool.{cond}
+use Rattle.paper.specs.Numbers as paper
 use Rattle.tables.specs.declared.Table.{Table}
 use Rattle.reply.specs.Events.{Event}
 use Rattle.follow.specs.Following.{standing, advanced, begun, followerAllowed}
@@ -14,7 +15,7 @@ answered f = record { follower = f; outcome = standing f; confirmed = f .confirm
 
 -- 12: "a state handed in comes back as it was, with counts and lengths 0"
 abbrev pub unanswered : Follower → Followed
-unanswered f = record { follower = f; outcome = Outcome.Refused 12; confirmed = zero }
+unanswered f = record { follower = f; outcome = Outcome.Refused paper.notAllowed; confirmed = zero }
 
 unfoldable pub told : Follower → Followed
 told f = cond (followerAllowed f) (answered f) (unanswered f)

@@ -10,7 +10,8 @@ use lib.Dec.{eqb, leb}
 use Rattle.laws.specs.Lists.{same}
 use Rattle.wire.specs.Numbers.{little}
 use Rattle.tables.specs.declared.Table.{Table}
-use Rattle.answers.specs.Answers.{said, setCode}
+use Rattle.paper.specs.Numbers.{setCode}
+use Rattle.answers.specs.Answers.{said}
 use Rattle.restore.specs.Order.{dueSets}
 use Rattle.restore.specs.Calls.{bothAllowed}
 use Rattle.restore.specs.declared.Wanted.{Wanted}

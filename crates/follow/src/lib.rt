@@ -6,7 +6,6 @@ ghost use Rattle.follow.specs.Calls.{starting, following};
 use restore::Wanted;
 use tables::Table;
 
-mod numbers;
 mod state;
 mod verdict;
 

@@ -10,7 +10,6 @@ ghost use Rattle.follow.specs.declared.Outcome.{Outcome};
 use crate::Followed;
 use crate::Follower;
 use crate::Outcome;
-use crate::numbers;
 use crate::verdict;
 use crate::verdict::Verdict;
 use restore::Due;
@@ -151,7 +150,7 @@ pub(crate) fn refused(follower: Follower) -> Followed
 {
     Followed {
         follower,
-        outcome: Outcome::Refused(numbers::NOT_ALLOWED),
+        outcome: Outcome::Refused(paper::NOT_ALLOWED),
         confirmed: 0,
     }
 }

@@ -5,7 +5,6 @@ ghost use lib.ListN.{length};
 ghost use Rattle.wire.specs.Numbers.{fromLittle};
 ghost use Rattle.follow.specs.Following.{isGood, carries, onSet, onReply};
 ghost use Rattle.follow.specs.AsHeld.{Narrow};
-use crate::numbers;
 use reply::Reply;
 use reply::Status;
 use restore::Wanted;
@@ -80,7 +79,7 @@ pub(crate) fn on_reply(wanted: Wanted, command: u8, bytes: &[u8]) -> Verdict
         Reply::Error { code: _ } => Verdict::Waits,
         Reply::Ping { version: _ } => Verdict::Waits,
         Reply::Get { status: _, id: _ } => Verdict::Waits,
-        Reply::Set { status, id } => on_set(wanted, status, id, &bytes[numbers::FRONT..]),
+        Reply::Set { status, id } => on_set(wanted, status, id, &bytes[paper::FRONT..]),
         Reply::Async { status: _, id: _ } => Verdict::Waits,
         Reply::Refused(_) => Verdict::Waits,
     }

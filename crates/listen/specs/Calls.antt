@@ -6,9 +6,8 @@ use mathlib.Core.List.{List, []}
 use lib.ListN.{length}
 use lib.Dec.{ltb, leb, eqb}
 use Rattle.laws.specs.Promise.{Given}
-use Rattle.wire.specs.Frame.{mostData}
+use Rattle.paper.specs.Numbers.{mostData, shortBuffer, notAllowed}
 use Rattle.stream.specs.Stream.{outside}
-use Rattle.wire.specs.Calls.{shortBuffer, notAllowed}
 use Rattle.stream.specs.Calls.{allowed, heldOf, hearing}
 use Rattle.stream.specs.declared.Event.{Event}
 use Rattle.stream.specs.declared.Heard.{Heard}

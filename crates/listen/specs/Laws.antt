@@ -7,7 +7,7 @@ use mathlib.Core.List.{List, [], _∷_, _++_}
 use lib.ListN.{length, take}
 use lib.Dec.{leb, eqb}
 use Rattle.laws.specs.Cutting.{Step, Offer, calls, ready}
-use Rattle.wire.specs.Frame.{mostData}
+use Rattle.paper.specs.Numbers.{mostData}
 use Rattle.wire.specs.Reading.{Ended, good, refused}
 use Rattle.stream.specs.Stream.{framesFrom, leftBy}
 use Rattle.stream.specs.Calls.{allowed, heldOf, unfinished}

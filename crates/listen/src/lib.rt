@@ -63,11 +63,11 @@ impl Listener {
     pub fn read(self, piece: &[u8], into: &mut [u8]) -> Listened
         ensures { λ r. ⌜ Gives Listened (listening self (now (piece .entry)) (length (now (into .entry)))) (now (into .entry)) r (now (into .exit)) ⌝ }
     {
-        if into.len() < numbers::MOST_DATA {
-            return answer::refused(self, numbers::SHORT_BUFFER);
+        if into.len() < paper::MOST_DATA {
+            return answer::refused(self, paper::SHORT_BUFFER);
         }
         if !counts::are_within(self.quiet, self.noise) {
-            return answer::refused(self, numbers::NOT_ALLOWED);
+            return answer::refused(self, paper::NOT_ALLOWED);
         }
         let held = self.held;
         let heard = held.hear(piece, into);

@@ -2,9 +2,6 @@
 use listen::Listener;
 use listen::Told;
 
-// The data of one frame at most.
-pub(crate) const MOST_DATA: usize = 35;
-
 // The listener's patience ends after some thousand bytes and reads: there are never this many turns.
 const MOST_TURNS: u32 = 1000000;
 
@@ -12,7 +9,7 @@ const MOST_TURNS: u32 = 1000000;
 pub(crate) struct News {
     pub(crate) listener: Listener,
     pub(crate) told: Told,
-    pub(crate) data: [u8; MOST_DATA],
+    pub(crate) data: [u8; paper::MOST_DATA],
 }
 
 // One read of one byte, so that nothing is ever left over. A read that gives nothing is a second of silence, or the end.
@@ -20,7 +17,7 @@ fn once(input: i32, listener: Listener) -> News {
     let mut byte = [0u8; 1];
     let got = libc::read(input, &mut byte);
     let len = io::count(got, &byte);
-    let mut data = [0u8; MOST_DATA];
+    let mut data = [0u8; paper::MOST_DATA];
     let listened = listener.read(&byte[..len], &mut data);
     let next = listened.listener;
     let told = listened.told;

@@ -7,9 +7,6 @@ use backup::Written;
 use sentences::Kept;
 use tables::Table;
 
-// The room that a backup text takes.
-const TEXT_ROOM: usize = 512;
-
 // What a temporary file's name has after the file's own.
 const MARK: usize = 7;
 
@@ -159,7 +156,7 @@ fn replace_by(name: &mut [u8], path: &[u8], text: &[u8]) -> Kept {
 
 // Keeps a table as a backup text.
 pub(crate) fn keep(path: &[u8], table: Table) -> Kept {
-    let mut text = [0u8; TEXT_ROOM];
+    let mut text = [0u8; paper::TEXT_ROOM];
     let written = backup::write(table, &mut text);
     match written {
         Written::Text(len) => replace_front(path, &text, len),

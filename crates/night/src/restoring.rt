@@ -116,7 +116,7 @@ pub(crate) fn tell_end(report: i32, restored: Talk) {
 }
 
 // What the board said, which is the front of a buffer.
-fn tell_stop(report: i32, wanted: Wanted, data: [u8; ear::MOST_DATA], len: usize) {
+fn tell_stop(report: i32, wanted: Wanted, data: [u8; paper::MOST_DATA], len: usize) {
     let n = words::front(len, &data);
     words::add(report, said::put_stop(Line::start(), wanted, &data[..n]));
 }

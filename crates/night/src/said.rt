@@ -3,9 +3,6 @@ use crate::names;
 use lines::Line;
 use restore::Wanted;
 
-// An id and a flag come before the value in the data of a Set reply.
-const FRONT: usize = 3;
-
 // With this flag and a value of the setting's own width comes the nearest allowed number.
 const PARAMETER: u8 = 4;
 
@@ -46,12 +43,12 @@ fn put_value(line: Line, index: usize, width: usize, flag: u8, value: &[u8]) -> 
 
 // The flag of the reply, and its value; there is no reply under three bytes.
 fn put_said(line: Line, index: usize, width: usize, said: &[u8]) -> Line {
-    if said.len() < FRONT {
+    if said.len() < paper::FRONT {
         return line.put(b"no answer");
     }
     let flag = said[2];
     let told = names::put_byte(line.put(b"board said flag "), flag);
-    put_value(told, index, width, flag, &said[FRONT..])
+    put_value(told, index, width, flag, &said[paper::FRONT..])
 }
 
 // `; at 1000 battery capacity: board said flag 04, nearest 1 Ah`

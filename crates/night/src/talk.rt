@@ -19,9 +19,6 @@ use view::Viewed;
 use view::Viewer;
 use wire::Written;
 
-// The room that a frame takes.
-const FRAME_ROOM: usize = 75;
-
 // This many frames that say nothing of what was asked are no answer.
 const MOST_EVENTS: u32 = 1000;
 
@@ -41,7 +38,7 @@ pub(crate) struct Talk {
     pub(crate) followed: Followed,
     pub(crate) viewed: Viewed,
     pub(crate) silent: bool,
-    pub(crate) said: [u8; ear::MOST_DATA],
+    pub(crate) said: [u8; paper::MOST_DATA],
     pub(crate) len: usize,
 }
 
@@ -60,7 +57,7 @@ fn begun(asker: Asker, followed: Followed) -> Talk {
         followed,
         viewed: Viewer::start(),
         silent: false,
-        said: [0u8; ear::MOST_DATA],
+        said: [0u8; paper::MOST_DATA],
         len: 0,
     }
 }
@@ -131,7 +128,7 @@ fn put(output: i32, frame: &[u8], written: Written) {
 
 // Sends a Get.
 fn send_get(output: i32, id: u16) {
-    let mut frame = [0u8; FRAME_ROOM];
+    let mut frame = [0u8; paper::FRAME_ROOM];
     let written = requests::get(id, &mut frame);
     put(output, &frame, written);
 }
@@ -139,7 +136,7 @@ fn send_get(output: i32, id: u16) {
 // Sends a Set.
 fn send_set(output: i32, wanted: Wanted) {
     let setting = wanted.setting;
-    let mut frame = [0u8; FRAME_ROOM];
+    let mut frame = [0u8; paper::FRAME_ROOM];
     let written = requests::set(setting.index, wanted.number, &mut frame);
     put(output, &frame, written);
 }
@@ -261,7 +258,7 @@ fn patient(talk: Talk, before: usize) -> Talk {
         News {
             listener,
             told: Told::NoAnswer,
-            data: [0u8; ear::MOST_DATA],
+            data: [0u8; paper::MOST_DATA],
         },
     )
 }

@@ -28,7 +28,8 @@ use Rattle.tables.specs.Calls.{setTo}
 use Rattle.tables.specs.declared.Table.{Table}
 use Rattle.tables.proofs.Tables.{set-accepted}
 use Rattle.tables.proofs.Theorems.{set-keeps-allowed, set-keeps-count}
-use Rattle.answers.specs.Answers.{sent, staying, setCode}
+use Rattle.paper.specs.Numbers.{setCode}
+use Rattle.answers.specs.Answers.{sent, staying}
 use Rattle.answers.specs.Requests.{setData}
 use Rattle.answers.specs.declared.Outcome as said
 use Rattle.answers.proofs.Theorems.{set-stores-it}

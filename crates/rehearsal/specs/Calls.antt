@@ -4,9 +4,8 @@ use mathlib.Core.Bool.{Bool, cond, not, _&&_}
 use mathlib.Core.List.{List}
 use lib.ListN.{length, take, drop}
 use lib.Dec.{ltb}
-use Rattle.wire.specs.Frame.{mostData, frameRoom}
+use Rattle.paper.specs.Numbers.{mostData, frameRoom, notAllowed}
 use Rattle.stream.specs.Stream.{outside}
-use Rattle.wire.specs.Calls.{notAllowed}
 use Rattle.stream.specs.Calls.{heldOf, hearing}
 use Rattle.stream.specs.declared.Event.{Event}
 use Rattle.tables.specs.declared.Table.{Table}

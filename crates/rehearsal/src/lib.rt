@@ -43,7 +43,7 @@ pub fn rehearse(board: Board, to: Table, size: usize) -> Rehearsed
 fn is_allowed(board: Board) -> bool
     ensures { λ r. ⌜ r ≡ boardAllowed board ⌝ }
 {
-    let mut reply = [0u8; numbers::REPLY_ROOM];
+    let mut reply = [0u8; paper::FRAME_ROOM];
     let answered = board.answer(&[], &mut reply);
     let outcome = answered.outcome;
     match outcome {
@@ -89,7 +89,7 @@ fn refused(board: Board) -> Rehearsed
 {
     Rehearsed {
         board,
-        outcome: Outcome::Refused(numbers::NOT_ALLOWED),
+        outcome: Outcome::Refused(paper::NOT_ALLOWED),
         confirmed: 0,
     }
 }

@@ -5,7 +5,6 @@ ghost use mathlib.Core.Bool.{_&&_};
 ghost use lib.ListN.{length};
 ghost use lib.Dec.{ltb};
 ghost use Rattle.rehearsal.specs.Calls.{listening, turned, started, rehearsing};
-use crate::numbers;
 use board::Board;
 use follow::Followed;
 use stream::Event;
@@ -31,7 +30,7 @@ fn listen(followed: Followed, reply: &[u8]) -> Followed
 {
     let follower = followed.follower;
     let outside = Held::outside();
-    let mut bytes = [0u8; numbers::MOST_DATA];
+    let mut bytes = [0u8; paper::MOST_DATA];
     let heard = outside.hear(reply, &mut bytes);
     let event = heard.event;
     match event {
@@ -50,7 +49,7 @@ fn turn_of(turn: Turn, list: &[u8], size: usize) -> Turn
     let before = turn.board;
     let followed = turn.followed;
     let n = least(size, list.len() - at);
-    let mut reply = [0u8; numbers::REPLY_ROOM];
+    let mut reply = [0u8; paper::FRAME_ROOM];
     let answered = before.answer(&list[at..at + n], &mut reply);
     let len = answered.len;
     let taken = answered.taken;

@@ -3,6 +3,7 @@ use Prim.Native.Nat.{ℕ}
 use mathlib.Core.Bool.{cond}
 use mathlib.Core.List.{List}
 use lib.Dec.{eqb}
+use Rattle.paper.specs.Numbers as paper
 use Rattle.reply.specs.Replies.{naming, numbering, telling}
 use Rattle.reply.specs.Units.{inVolts, inAmperes, inFineAmperes, inAmpHours, inPercent}
 use Rattle.reply.specs.declared.Reply.{Reply}
@@ -12,21 +13,21 @@ use Rattle.reply.specs.declared.Shown.{Shown}
 -- 5 two bytes; 7, 8, A at least three"
 unfoldable pub reading : ℕ → List ℕ → Reply
 reading command bytes =
-    cond (eqb command 1) Reply.Done
-    (cond (eqb command 3) (naming bytes)
-    (cond (eqb command 4) (numbering Reply.Error bytes)
-    (cond (eqb command 5) (numbering Reply.Ping bytes)
-    (cond (eqb command 7) (telling Reply.Get bytes)
-    (cond (eqb command 8) (telling Reply.Set bytes)
-    (cond (eqb command 0xA) (telling Reply.Async bytes)
-    (Reply.Refused 5)))))))
+    cond (eqb command paper.doneCode) Reply.Done
+    (cond (eqb command paper.unknownCode) (naming bytes)
+    (cond (eqb command paper.errorCode) (numbering Reply.Error bytes)
+    (cond (eqb command paper.pongCode) (numbering Reply.Ping bytes)
+    (cond (eqb command paper.getCode) (telling Reply.Get bytes)
+    (cond (eqb command paper.setCode) (telling Reply.Set bytes)
+    (cond (eqb command paper.asyncCode) (telling Reply.Async bytes)
+    (Reply.Refused paper.unknownCommand)))))))
 
 -- "The box shows a reading as volts, amperes, amp hours or percent [..]. Another id is refused 7, then a wrong width 9."
 unfoldable pub showing : ℕ → List ℕ → Shown
 showing id value =
-    cond (eqb id 0xED8D) (inVolts value)
-    (cond (eqb id 0xED8F) (inAmperes value)
-    (cond (eqb id 0xED8C) (inFineAmperes value)
-    (cond (eqb id 0xEEFF) (inAmpHours value)
-    (cond (eqb id 0x0FFF) (inPercent value)
-    (Shown.Refused 7)))))
+    cond (eqb id paper.voltageId) (inVolts value)
+    (cond (eqb id paper.currentId) (inAmperes value)
+    (cond (eqb id paper.fineId) (inFineAmperes value)
+    (cond (eqb id paper.consumedId) (inAmpHours value)
+    (cond (eqb id paper.chargeId) (inPercent value)
+    (Shown.Refused paper.unknownId)))))

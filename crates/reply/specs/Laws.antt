@@ -9,6 +9,7 @@ use lib.ListN.{length}
 use lib.Dec.{eqb}
 use lib.IntN.{ℤ, pos}
 use lib.Signed.{mag}
+use Rattle.paper.specs.Numbers as paper
 use Rattle.wire.specs.Numbers.{little, complement}
 use Rattle.wire.specs.Laws.{Bytes}
 use Rattle.answers.specs.Answers.{said}
@@ -25,50 +26,50 @@ use Rattle.reply.specs.declared.Shown.{Shown}
 -- 1. What a board says is read back. `said` is the board's own: an id, a flag and a value; the kind, the status, the id and the
 -- value are those that were said.
 pub record Heard (status : Status) (id : ℕ) (value : List ℕ) : Type 0 where
-  pub get-heard : reading 7 (said id (flagOf status) value) ≡ Reply.Get status id
-  pub set-heard : reading 8 (said id (flagOf status) value) ≡ Reply.Set status id
-  pub async-heard : reading 0xA (said id (flagOf status) value) ≡ Reply.Async status id
+  pub get-heard : reading paper.getCode (said id (flagOf status) value) ≡ Reply.Get status id
+  pub set-heard : reading paper.setCode (said id (flagOf status) value) ≡ Reply.Set status id
+  pub async-heard : reading paper.asyncCode (said id (flagOf status) value) ≡ Reply.Async status id
   pub value-heard : rest (said id (flagOf status) value) ≡ value
 
 abbrev pub SaidIsRead : Type 0
 SaidIsRead = (status : Status) (id : ℕ) (value : List ℕ) → id < 256 ^ 2 → Heard status id value
 
 abbrev pub DoneIsRead : Type 0
-DoneIsRead = (bytes : List ℕ) → reading 1 bytes ≡ Reply.Done
+DoneIsRead = (bytes : List ℕ) → reading paper.doneCode bytes ≡ Reply.Done
 
 abbrev pub UnknownIsRead : Type 0
-UnknownIsRead = (command : ℕ) → reading 3 (command ∷ []) ≡ Reply.Unknown command
+UnknownIsRead = (command : ℕ) → reading paper.unknownCode (command ∷ []) ≡ Reply.Unknown command
 
 abbrev pub ErrorIsRead : Type 0
-ErrorIsRead = (code : ℕ) → code < 256 ^ 2 → reading 4 (little 2 code) ≡ Reply.Error code
+ErrorIsRead = (code : ℕ) → code < 256 ^ 2 → reading paper.errorCode (little 2 code) ≡ Reply.Error code
 
 abbrev pub PingIsRead : Type 0
-PingIsRead = (version : ℕ) → version < 256 ^ 2 → reading 5 (little 2 version) ≡ Reply.Ping version
+PingIsRead = (version : ℕ) → version < 256 ^ 2 → reading paper.pongCode (little 2 version) ≡ Reply.Ping version
 
 -- 2. Conversely, a reply fixes the frame that it was read from: its code, and its data, which for a Get, Set or Async reply are an id, a
 -- flag and then the value, so the value is the rest of the data. Refusal 5 is of the code alone, and 6 of the data.
 abbrev pub isCode : ℕ → Bool
-isCode command = eqb command 1 || eqb command 3 || eqb command 4 || eqb command 5 || eqb command 7 || eqb command 8 || eqb command 0xA
+isCode command = eqb command paper.doneCode || eqb command paper.unknownCode || eqb command paper.errorCode || eqb command paper.pongCode || eqb command paper.getCode || eqb command paper.setCode || eqb command paper.asyncCode
 
 pub data From (command : ℕ) (bytes : List ℕ) : Reply → Type 0 where
-  a-done : command ≡ 1 → From command bytes Reply.Done
-  an-unknown : {named : ℕ} → command ≡ 3 → bytes ≡ named ∷ [] → From command bytes (Reply.Unknown named)
-  an-error : {code : ℕ} → command ≡ 4 → bytes ≡ little 2 code → From command bytes (Reply.Error code)
-  a-ping : {version : ℕ} → command ≡ 5 → bytes ≡ little 2 version → From command bytes (Reply.Ping version)
-  a-get : {status : Status} {id : ℕ} → command ≡ 7 → bytes ≡ said id (flagOf status) (rest bytes) → From command bytes (Reply.Get status id)
-  a-set : {status : Status} {id : ℕ} → command ≡ 8 → bytes ≡ said id (flagOf status) (rest bytes) → From command bytes (Reply.Set status id)
-  an-async : {status : Status} {id : ℕ} → command ≡ 0xA → bytes ≡ said id (flagOf status) (rest bytes) → From command bytes (Reply.Async status id)
-  no-code : isCode command ≡ false → From command bytes (Reply.Refused 5)
-  no-data : isCode command ≡ true → From command bytes (Reply.Refused 6)
+  a-done : command ≡ paper.doneCode → From command bytes Reply.Done
+  an-unknown : {named : ℕ} → command ≡ paper.unknownCode → bytes ≡ named ∷ [] → From command bytes (Reply.Unknown named)
+  an-error : {code : ℕ} → command ≡ paper.errorCode → bytes ≡ little 2 code → From command bytes (Reply.Error code)
+  a-ping : {version : ℕ} → command ≡ paper.pongCode → bytes ≡ little 2 version → From command bytes (Reply.Ping version)
+  a-get : {status : Status} {id : ℕ} → command ≡ paper.getCode → bytes ≡ said id (flagOf status) (rest bytes) → From command bytes (Reply.Get status id)
+  a-set : {status : Status} {id : ℕ} → command ≡ paper.setCode → bytes ≡ said id (flagOf status) (rest bytes) → From command bytes (Reply.Set status id)
+  an-async : {status : Status} {id : ℕ} → command ≡ paper.asyncCode → bytes ≡ said id (flagOf status) (rest bytes) → From command bytes (Reply.Async status id)
+  no-code : isCode command ≡ false → From command bytes (Reply.Refused paper.unknownCommand)
+  no-data : isCode command ≡ true → From command bytes (Reply.Refused paper.malformed)
 
 abbrev pub ReadIsFrom : Type 0
 ReadIsFrom = (command : ℕ) (bytes : List ℕ) → Bytes bytes → From command bytes (reading command bytes)
 
 -- the same of one kind at a time
 pub record Told (status : Status) (id : ℕ) (bytes : List ℕ) : Type 0 where
-  pub get-told : reading 7 bytes ≡ Reply.Get status id → bytes ≡ said id (flagOf status) (rest bytes)
-  pub set-told : reading 8 bytes ≡ Reply.Set status id → bytes ≡ said id (flagOf status) (rest bytes)
-  pub async-told : reading 0xA bytes ≡ Reply.Async status id → bytes ≡ said id (flagOf status) (rest bytes)
+  pub get-told : reading paper.getCode bytes ≡ Reply.Get status id → bytes ≡ said id (flagOf status) (rest bytes)
+  pub set-told : reading paper.setCode bytes ≡ Reply.Set status id → bytes ≡ said id (flagOf status) (rest bytes)
+  pub async-told : reading paper.asyncCode bytes ≡ Reply.Async status id → bytes ≡ said id (flagOf status) (rest bytes)
 
 abbrev pub ReadIsSaid : Type 0
 ReadIsSaid = (status : Status) (id : ℕ) (bytes : List ℕ) → Bytes bytes → Told status id bytes
@@ -90,21 +91,21 @@ ToldIsLong = (command : ℕ) (bytes : List ℕ) → isTold (reading command byte
 -- 3. A reading that a board sends is shown as its whole number, divided once. (`mag` is the distance to 0, or of a negative number to -1: twice
 -- it below 256 ^ 2 is any number of 16 bits with a sign.)
 pub record Narrow (x : ℤ) : Type 0 where
-  pub volts-shown : showing 0xED8D (little 2 (complement 2 x)) ≡ Shown.Volts (over x 100)
-  pub amperes-shown : showing 0xED8F (little 2 (complement 2 x)) ≡ Shown.Amperes (over x 10)
+  pub volts-shown : showing paper.voltageId (little 2 (complement 2 x)) ≡ Shown.Volts (over x 100)
+  pub amperes-shown : showing paper.currentId (little 2 (complement 2 x)) ≡ Shown.Amperes (over x 10)
 
 abbrev pub NarrowIsShown : Type 0
 NarrowIsShown = (x : ℤ) → 2 * mag x < 256 ^ 2 → Narrow x
 
 pub record Wide (x : ℤ) : Type 0 where
-  pub fine-shown : showing 0xED8C (little 4 (complement 4 x)) ≡ Shown.Amperes (over x 1000)
-  pub amp-hours-shown : showing 0xEEFF (little 4 (complement 4 x)) ≡ Shown.AmpHours (over x 10)
+  pub fine-shown : showing paper.fineId (little 4 (complement 4 x)) ≡ Shown.Amperes (over x 1000)
+  pub amp-hours-shown : showing paper.consumedId (little 4 (complement 4 x)) ≡ Shown.AmpHours (over x 10)
 
 abbrev pub WideIsShown : Type 0
 WideIsShown = (x : ℤ) → 2 * mag x < 256 ^ 4 → Wide x
 
 abbrev pub PlainIsShown : Type 0
-PlainIsShown = (n : ℕ) → n < 256 ^ 2 → showing 0x0FFF (little 2 n) ≡ Shown.Percent (over (pos n) 100)
+PlainIsShown = (n : ℕ) → n < 256 ^ 2 → showing paper.chargeId (little 2 n) ≡ Shown.Percent (over (pos n) 100)
 
 -- So the box shows what the board measured: the value with which a board answers a Get of a reading, shown, is the number that it holds, in
 -- steps of the unit.
@@ -117,12 +118,12 @@ pub record Within (readings : Readings) : Type 0 where
 
 abbrev pub measured : Readings → ℕ → Shown
 measured readings id =
-    cond (eqb id 0xED8D) (Shown.Volts (over (readings .voltage) 100))
-    (cond (eqb id 0xED8F) (Shown.Amperes (over (readings .current) 10))
-    (cond (eqb id 0xED8C) (Shown.Amperes (over (readings .fine) 1000))
-    (cond (eqb id 0xEEFF) (Shown.AmpHours (over (readings .consumed) 10))
-    (cond (eqb id 0x0FFF) (Shown.Percent (over (pos (readings .charge)) 100))
-    (Shown.Refused 7)))))
+    cond (eqb id paper.voltageId) (Shown.Volts (over (readings .voltage) 100))
+    (cond (eqb id paper.currentId) (Shown.Amperes (over (readings .current) 10))
+    (cond (eqb id paper.fineId) (Shown.Amperes (over (readings .fine) 1000))
+    (cond (eqb id paper.consumedId) (Shown.AmpHours (over (readings .consumed) 10))
+    (cond (eqb id paper.chargeId) (Shown.Percent (over (pos (readings .charge)) 100))
+    (Shown.Refused paper.unknownId)))))
 
 abbrev pub BoardIsShown : Type 0
 BoardIsShown =

@@ -5,6 +5,7 @@ use mathlib.Core.Bool.{cond}
 use mathlib.Core.List.{List}
 use lib.ListN.{length, take, drop, getD}
 use lib.Dec.{eqb, ltb}
+use Rattle.paper.specs.Numbers as paper
 use Rattle.wire.specs.Numbers.{fromLittle}
 use Rattle.reply.specs.declared.Status.{Status}
 use Rattle.reply.specs.declared.Reply.{Reply}
@@ -19,7 +20,7 @@ flagOf Status.ParameterError = 4
 
 -- "otherwise 6"
 abbrev pub malformed : Reply
-malformed = Reply.Refused 6
+malformed = Reply.Refused paper.malformed
 
 -- an id and a byte of flags: the status with that flag, or none
 unfoldable pub fronted : ℕ → ℕ → Front

@@ -7,6 +7,7 @@ use lib.ListN.{length}
 use lib.Dec.{eqb}
 use lib.IntN.{ℤ, pos}
 use lib.Ieee.{Float, binary64, div, ofInt}
+use Rattle.paper.specs.Numbers as paper
 use Rattle.wire.specs.Numbers.{fromLittle, signed}
 use Rattle.reply.specs.declared.Shown.{Shown}
 
@@ -16,7 +17,7 @@ over number steps = div binary64 (ofInt binary64 number) (ofInt binary64 (pos st
 
 -- "then a wrong width 9"
 abbrev pub ofWidth : ℕ → List ℕ → Shown → Shown
-ofWidth width value shown = cond (eqb (length value) width) shown (Shown.Refused 9)
+ofWidth width value shown = cond (eqb (length value) width) shown (Shown.Refused paper.wrongWidth)
 
 -- "by 100, 10, 1000, 10 or 100 in the order above"
 unfoldable pub inVolts : List ℕ → Shown

@@ -17,19 +17,19 @@ fn with_flags(id: u16, flags: u8) -> Front
     ensures { λ r. ⌜ r ≡ fronted id flags ⌝ }
 {
     match flags {
-        numbers::GOOD => Front::Says {
+        paper::GOOD => Front::Says {
             status: Status::Good,
             id,
         },
-        numbers::FLAG_UNKNOWN_ID => Front::Says {
+        paper::FLAG_UNKNOWN_ID => Front::Says {
             status: Status::UnknownId,
             id,
         },
-        numbers::FLAG_NOT_SUPPORTED => Front::Says {
+        paper::FLAG_NOT_SUPPORTED => Front::Says {
             status: Status::NotSupported,
             id,
         },
-        numbers::FLAG_PARAMETER => Front::Says {
+        paper::FLAG_PARAMETER => Front::Says {
             status: Status::ParameterError,
             id,
         },
@@ -41,7 +41,7 @@ fn with_flags(id: u16, flags: u8) -> Front
 fn front_of(bytes: &[u8]) -> Front
     ensures { λ r. ⌜ r ≡ front (now (bytes .entry)) ⌝ }
 {
-    if bytes.len() < numbers::FRONT {
+    if bytes.len() < paper::FRONT {
         return Front::Wrong;
     }
     let flags = bytes[2];
@@ -52,7 +52,7 @@ fn front_of(bytes: &[u8]) -> Front
 fn malformed() -> Reply
     ensures { λ r. ⌜ r ≡ Reply.Refused 6 ⌝ }
 {
-    Reply::Refused(numbers::MALFORMED)
+    Reply::Refused(paper::MALFORMED)
 }
 
 // 3: the command that the board does not know.

@@ -43,14 +43,14 @@ pub fn read(command: u8, bytes: &[u8]) -> Reply
     ensures { λ r. ⌜ r ≡ reading command (now (bytes .entry)) ⌝ }
 {
     match command {
-        numbers::DONE => Reply::Done,
-        numbers::UNKNOWN => kinds::unknown(bytes),
-        numbers::ERROR => kinds::error(bytes),
-        numbers::PING => kinds::ping(bytes),
-        numbers::GET => kinds::get(bytes),
-        numbers::SET => kinds::set(bytes),
-        numbers::ASYNC => kinds::told(bytes),
-        _ => Reply::Refused(numbers::UNKNOWN_CODE),
+        paper::DONE => Reply::Done,
+        paper::UNKNOWN => kinds::unknown(bytes),
+        paper::ERROR => kinds::error(bytes),
+        paper::PONG => kinds::ping(bytes),
+        paper::GET => kinds::get(bytes),
+        paper::SET => kinds::set(bytes),
+        paper::ASYNC => kinds::told(bytes),
+        _ => Reply::Refused(paper::UNKNOWN_COMMAND),
     }
 }
 
@@ -59,11 +59,11 @@ pub fn show(id: u16, value: &[u8]) -> Shown
     ensures { λ r. ⌜ r ≡ showing id (now (value .entry)) ⌝ }
 {
     match id {
-        numbers::VOLTAGE => units::volts(value),
-        numbers::CURRENT => units::amperes(value),
-        numbers::FINE => units::fine_amperes(value),
-        numbers::CONSUMED => units::amp_hours(value),
-        numbers::CHARGE => units::percent(value),
-        _ => Shown::Refused(numbers::UNKNOWN_ID),
+        paper::VOLTAGE => units::volts(value),
+        paper::CURRENT => units::amperes(value),
+        paper::FINE => units::fine_amperes(value),
+        paper::CONSUMED => units::amp_hours(value),
+        paper::CHARGE => units::percent(value),
+        _ => Shown::Refused(paper::UNKNOWN_ID),
     }
 }

@@ -11,7 +11,7 @@ use crate::numbers;
 fn wrong_width() -> Shown
     ensures { λ r. ⌜ r ≡ Shown.Refused 9 ⌝ }
 {
-    Shown::Refused(numbers::WRONG_WIDTH)
+    Shown::Refused(paper::WRONG_WIDTH)
 }
 
 // The whole number of two bytes with a sign, divided once.

@@ -3,12 +3,13 @@ use Prim.Native.Nat.{ℕ, _^_}
 use mathlib.Core.Bool.{cond}
 use lib.Dec.{ltb}
 use Rattle.laws.specs.Promise.{Given}
-use Rattle.wire.specs.Frame.{frame, frameRoom}
+use Rattle.paper.specs.Numbers.{frameRoom, shortBuffer, notAllowed, setCode}
+use Rattle.wire.specs.Frame.{frame}
 use Rattle.wire.specs.Numbers.{little}
-use Rattle.wire.specs.Calls.{shortBuffer, notAllowed, unwritten, writtenAs}
+use Rattle.wire.specs.Calls.{unwritten, writtenAs}
 use Rattle.wire.specs.declared.Written.{Written}
 use Rattle.settings.specs.Columns.{count, idAt, widthAt}
-use Rattle.answers.specs.Answers.{said, setCode}
+use Rattle.answers.specs.Answers.{said}
 use Rattle.answers.specs.Requests.{getRequest}
 
 -- a Get of an id, whatever it is: 11 under the room of the longest frame, as for every frame

@@ -1,7 +1,7 @@
 -- What is proved of the definitions. Each is proved under its name in proofs/Theorems.antt. Assumes nothing.
 use Prim.Native.Nat.{ℕ, _^_, _≤_, _<_}
 use mathlib.Core.Path.{_≡_}
-use Rattle.wire.specs.Frame.{frameRoom}
+use Rattle.paper.specs.Numbers.{frameRoom}
 use Rattle.wire.specs.Calls.{writtenAs}
 use Rattle.settings.specs.Columns.{count, widthAt}
 use Rattle.answers.specs.Requests.{setRequest}

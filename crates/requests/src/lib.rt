@@ -4,38 +4,19 @@ ghost use mathlib.Core.Path.{_≡_};
 ghost use Prim.Native.Nat.{_≤_, _^_};
 ghost use lib.Dec.{ltb};
 ghost use lib.ListN.{length};
-ghost use Rattle.wire.specs.Frame.{frameRoom};
+ghost use Rattle.paper.specs.Numbers.{frameRoom};
 ghost use Rattle.laws.specs.Promise.{Gives};
 ghost use Rattle.wire.specs.declared.Written.{Written};
 ghost use Rattle.requests.specs.Calls.{getWritten, setOf, setWritten};
 use settings::Found;
 use wire::Written;
 
-// Commands.
-const GET: u8 = 7;
-
-const SET: u8 = 8;
-
-// An id and the flags stand before the value.
-const FRONT: usize = 3;
-
-// A request's flags.
-const NO_FLAGS: u8 = 0;
-
-// The room that the longest frame takes.
-const FRAME_ROOM: usize = 75;
-
-// 11: a lent buffer is too short; 12: there is no setting at a place, or its width does not hold a number.
-const SHORT_BUFFER: u8 = 11;
-
-const NOT_ALLOWED: u8 = 12;
-
 // Writes a Get of an id to the front of `out`. Refuses 11 under 75 bytes of room.
 pub fn get(id: u16, out: &mut [u8]) -> Written
     ensures { λ r. ⌜ Gives Written (getWritten id (length (now (out .entry)))) (now (out .entry)) r (now (out .exit)) ⌝ }
 {
-    let bytes = [(id % 256) as u8, (id / 256) as u8, NO_FLAGS];
-    wire::write_frame(GET, &bytes, out)
+    let bytes = [(id % 256) as u8, (id / 256) as u8, paper::NO_FLAGS];
+    wire::write_frame(paper::GET, &bytes, out)
 }
 
 // Writes a Set of the setting at a place to the front of `out`. Refuses 11 under 75 bytes of room, then 12 for a place past the table or
@@ -43,12 +24,12 @@ pub fn get(id: u16, out: &mut [u8]) -> Written
 pub fn set(index: usize, number: u16, out: &mut [u8]) -> Written
     ensures { λ r. ⌜ Gives Written (setWritten index number (length (now (out .entry)))) (now (out .entry)) r (now (out .exit)) ⌝ }
 {
-    if out.len() < FRAME_ROOM {
-        return Written::Refused(SHORT_BUFFER);
+    if out.len() < paper::FRAME_ROOM {
+        return Written::Refused(paper::SHORT_BUFFER);
     }
     match settings::at(index) {
         Found::At(setting) => set_of(setting.id, setting.width, number, out),
-        Found::Nothing => Written::Refused(NOT_ALLOWED),
+        Found::Nothing => Written::Refused(paper::NOT_ALLOWED),
     }
 }
 
@@ -66,14 +47,14 @@ fn set_of(id: u16, width: usize, number: u16, out: &mut [u8]) -> Written
     ensures { λ r. ⌜ Gives Written (setOf id width number) (now (out .entry)) r (now (out .exit)) ⌝ }
 {
     if !holds(width, number) {
-        return Written::Refused(NOT_ALLOWED);
+        return Written::Refused(paper::NOT_ALLOWED);
     }
     let bytes = [
         (id % 256) as u8,
         (id / 256) as u8,
-        NO_FLAGS,
+        paper::NO_FLAGS,
         (number % 256) as u8,
         (number / 256) as u8,
     ];
-    wire::write_frame(SET, &bytes[..FRONT + width], out)
+    wire::write_frame(paper::SET, &bytes[..paper::FRONT + width], out)
 }

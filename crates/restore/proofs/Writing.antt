@@ -23,7 +23,7 @@ use Rattle.tables.specs.Rules.{allowed, numberAt}
 use Rattle.tables.specs.declared.Table.{Table}
 use Rattle.settings.proofs.Theorems.{rows-hold, range-has-room}
 use Rattle.tables.proofs.Tables.{range-at}
-use Rattle.answers.specs.Answers.{setCode}
+use Rattle.paper.specs.Numbers.{setCode}
 use Rattle.answers.specs.Requests.{setData, setRequest}
 use Rattle.requests.specs.Calls.{setWritten}
 use Rattle.wire.proofs.Little.{length-little}

@@ -4,6 +4,7 @@ use mathlib.Core.Bool.{Bool, cond, _&&_}
 use mathlib.Core.List.{List, [], _∷_, _++_}
 use lib.ListN.{length}
 use lib.Dec.{ltb}
+use Rattle.paper.specs.Numbers as paper
 use Rattle.laws.specs.Promise.{Given}
 use Rattle.settings.specs.Columns.{count}
 use Rattle.tables.specs.Rules.{allowed}
@@ -35,7 +36,7 @@ listedAs due = record { answer = Listed.List (length (framesFor due)) (length du
 
 unfoldable pub listing : Table → Table → ℕ → Given Listed
 listing from to room =
-    cond (ltb room listRoom) (unlisted 11) (cond (bothAllowed from to) (listedAs (dueSets from to)) (unlisted 12))
+    cond (ltb room listRoom) (unlisted paper.shortBuffer) (cond (bothAllowed from to) (listedAs (dueSets from to)) (unlisted paper.notAllowed))
 
 -- the Set that is due when this many before it are done, or none
 abbrev pub dueAfter : List Wanted → ℕ → Due
@@ -44,4 +45,4 @@ dueAfter (w ∷ more) zero = Due.Set w
 dueAfter (w ∷ more) (suc n) = dueAfter more n
 
 unfoldable pub dueIn : Table → Table → ℕ → Due
-dueIn from to n = cond (bothAllowed from to) (dueAfter (dueSets from to) n) (Due.Refused 12)
+dueIn from to n = cond (bothAllowed from to) (dueAfter (dueSets from to) n) (Due.Refused paper.notAllowed)

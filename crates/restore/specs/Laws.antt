@@ -6,6 +6,7 @@ use mathlib.Core.Bool.{Bool, true, false, cond, not, _&&_}
 use mathlib.Core.List.{List, [], _∷_}
 use lib.ListN.{length, getD}
 use lib.Dec.{ltb, eqb}
+use Rattle.paper.specs.Numbers as paper
 use Rattle.laws.specs.Lists.{every}
 use Rattle.settings.specs.Columns.{count, partnerAt, roleAt}
 use Rattle.settings.specs.Rules.{agrees}
@@ -81,7 +82,7 @@ ListIsShort = (from to : Table) → length (framesFor (dueSets from to)) ≤ lis
 pub data Tells (from to : Table) (done : ℕ) : Due → Type 0 where
   a-set : (k : ℕ) → k ≡ getD (order from to) done 0 → k < count → bothAllowed from to ≡ true → done < length (dueSets from to) → Tells from to done (Due.Set (wanted to k))
   none-left : bothAllowed from to ≡ true → length (dueSets from to) ≤ done → Tells from to done Due.Nothing
-  not-allowed : bothAllowed from to ≡ false → Tells from to done (Due.Refused 12)
+  not-allowed : bothAllowed from to ≡ false → Tells from to done (Due.Refused paper.notAllowed)
 
 abbrev pub DueTells : Type 0
 DueTells = (from to : Table) (done : ℕ) → Tells from to done (dueIn from to done)

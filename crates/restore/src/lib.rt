@@ -37,10 +37,10 @@ pub fn list(from: Table, to: Table, out: &mut [u8]) -> Listed
     ensures { λ r. ⌜ Gives Listed (listing from to (length (now (out .entry)))) (now (out .entry)) r (now (out .exit)) ⌝ }
 {
     if out.len() < numbers::LIST_ROOM {
-        return Listed::Refused(numbers::SHORT_BUFFER);
+        return Listed::Refused(paper::SHORT_BUFFER);
     }
     if !order::both_allowed(from, to) {
-        return Listed::Refused(numbers::NOT_ALLOWED);
+        return Listed::Refused(paper::NOT_ALLOWED);
     }
     let row = order::row_of(from, to);
     let sets = row.len;
@@ -53,7 +53,7 @@ pub fn due_after(from: Table, to: Table, done: usize) -> Due
     ensures { λ r. ⌜ r ≡ dueIn from to done ⌝ }
 {
     if !order::both_allowed(from, to) {
-        return Due::Refused(numbers::NOT_ALLOWED);
+        return Due::Refused(paper::NOT_ALLOWED);
     }
     let row = order::row_of(from, to);
     if row.len <= done {

@@ -6,12 +6,3 @@ pub(crate) const SET_ROOM: usize = 15;
 
 // Room for a Set of every setting.
 pub(crate) const LIST_ROOM: usize = SET_ROOM * COUNT;
-
-// The room that the frame writer needs.
-pub(crate) const FRAME_ROOM: usize = 75;
-
-// 11: a lent buffer is too short.
-pub(crate) const SHORT_BUFFER: u8 = 11;
-
-// 12: a table handed in is not allowed.
-pub(crate) const NOT_ALLOWED: u8 = 12;

@@ -12,7 +12,6 @@ ghost use Rattle.tables.specs.Rules.{allowed};
 ghost use Rattle.answers.specs.Requests.{setRequest};
 ghost use Rattle.restore.specs.Calls.{framesFor, listRoom};
 ghost use Rattle.restore.specs.AsHeld.{setsOf};
-use crate::numbers;
 use crate::order::Row;
 use tables::Table;
 use wire::Written;
@@ -35,7 +34,7 @@ fn put_set(out: &mut [u8], at: usize, index: usize, number: u16) -> usize
     requires { ⌜ (at + 15 ≤ length (now out)) × (index < count) × (number < 256 ^ widthAt index) ⌝ }
     ensures { λ r. ⌜ (r ≡ at + length (setRequest index number)) × (now (out .exit) ≡ sets (now (out .entry)) at (setRequest index number)) ⌝ }
 {
-    let mut frame = [0u8; numbers::FRAME_ROOM];
+    let mut frame = [0u8; paper::FRAME_ROOM];
     let written = requests::set(index, number, &mut frame);
     match written {
         Written::Frame(len) => {

@@ -3,6 +3,7 @@ use Prim.Native.Nat.{ℕ, _-_}
 use mathlib.Core.Bool.{cond}
 use mathlib.Core.List.{List, [], _++_}
 use lib.Dec.{eqb}
+use Rattle.paper.specs.Numbers as paper
 use Rattle.settings.specs.Columns.{count}
 use Rattle.reply.specs.Events.{refusedFrame}
 use Rattle.follow.specs.Following.{standing, total, followerAllowed}
@@ -45,10 +46,10 @@ endText (follows.Outcome.Refused number) confirmed due = refusedText number
 
 -- 12 where no start and events give the follower
 unfoldable pub followedText : Follower → List ℕ
-followedText f = cond (followerAllowed f) (endText (standing f) (f .confirmed) (total f)) (refusedText 12)
+followedText f = cond (followerAllowed f) (endText (standing f) (f .confirmed) (total f)) (refusedText paper.notAllowed)
 
 unfoldable pub progressText : Follower → List ℕ
-progressText f = cond (followerAllowed f) (ofText [] (f .confirmed) (total f) (chars " confirmed")) (refusedText 12)
+progressText f = cond (followerAllowed f) (ofText [] (f .confirmed) (total f) (chars " confirmed")) (refusedText paper.notAllowed)
 
 -- A board read, by the outcome, the settings answered, and those that there are.
 
@@ -107,4 +108,4 @@ countsText t =
 
 -- 12 where a count is over a million
 unfoldable pub summedText : Tally → List ℕ
-summedText t = cond (tallyAllowed t) (countsText t) (refusedText 12)
+summedText t = cond (tallyAllowed t) (countsText t) (refusedText paper.notAllowed)

@@ -1,11 +1,9 @@
 // The parts that the sentences are made of.
 ghost use mathlib.Core.Path.{_≡_};
+ghost use Rattle.paper.specs.Numbers as paper;
 ghost use Rattle.lines.specs.Lines.{adding};
 ghost use Rattle.sentences.specs.Texts.{betweenText, ofText, refusedText};
 use lines::Line;
-
-// 12: "a handed-in number, state or table is not allowed".
-const NOT_ALLOWED: u8 = 12;
 
 // A number between words.
 pub(crate) fn put_between(line: Line, before: &[u8], n: usize, after: &[u8]) -> Line
@@ -38,7 +36,7 @@ pub(crate) fn put_refused(line: Line, number: u8) -> Line
 
 // A state that no calls of its machine give.
 pub(crate) fn put_stray(line: Line) -> Line
-    ensures { λ r. ⌜ r ≡ adding line (refusedText 12) ⌝ }
+    ensures { λ r. ⌜ r ≡ adding line (refusedText paper.notAllowed) ⌝ }
 {
-    put_refused(line, NOT_ALLOWED)
+    put_refused(line, paper::NOT_ALLOWED)
 }

@@ -2,19 +2,13 @@
 use Prim.Native.Nat.{ℕ}
 use mathlib.Core.Bool.{Bool, cond, _&&_, _||_}
 use lib.Dec.{ltb, eqb}
+use Rattle.paper.specs.Numbers.{unknownId, notAllowed}
 use Rattle.laws.specs.Lists.{before}
 use Rattle.settings.specs.Columns.{count, ids, idAt, widthAt, partnerAt}
 use Rattle.settings.specs.Rules.{inRange, allowedFor, nearestOf}
 use Rattle.settings.specs.declared.Setting.{Setting}
 use Rattle.settings.specs.declared.Found.{Found}
 use Rattle.settings.specs.declared.Number.{Number}
-
--- Document 01: "7 if the id is no setting"; 12 "a handed-in number, state or table is not allowed"
-abbrev pub noSetting : ℕ
-noSetting = 7
-
-abbrev pub notAllowed : ℕ
-notAllowed = 12
 
 -- the setting at a place of the table, and the setting of an id
 abbrev pub settingAt : ℕ → Setting
@@ -47,4 +41,4 @@ unfoldable pub nearing : ℕ → ℕ → ℕ → Number
 nearing id wished partner =
     cond (ltb (placeOf id) count)
     (cond (partnerFits (placeOf id) partner) (Number.Is (nearestOf (placeOf id) wished partner)) (Number.Refused notAllowed))
-    (Number.Refused noSetting)
+    (Number.Refused unknownId)

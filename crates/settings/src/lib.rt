@@ -12,11 +12,6 @@ mod window;
 // The number of settings.
 pub const COUNT: usize = 26;
 
-// 7: an id that is no setting; 12: a partner's number handed in is not allowed.
-const NO_SETTING: u8 = 7;
-
-const NOT_ALLOWED: u8 = 12;
-
 // A setting: its place in the table, its id, its width in bytes, and the place of the other one of its pair (its own where it is alone).
 pub struct Setting {
     pub index: usize,
@@ -86,10 +81,10 @@ pub fn nearest(id: u16, wished: u16, partner: u16) -> Number
 {
     let index = columns::place_of(id);
     if COUNT <= index {
-        return Number::Refused(NO_SETTING);
+        return Number::Refused(paper::UNKNOWN_ID);
     }
     if !rules::is_fit(index, partner) {
-        return Number::Refused(NOT_ALLOWED);
+        return Number::Refused(paper::NOT_ALLOWED);
     }
     Number::Is(window::nearest_of(index, wished, partner))
 }

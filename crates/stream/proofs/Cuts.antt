@@ -13,7 +13,7 @@ use Rattle.laws.specs.Lists.{every}
 use Rattle.laws.specs.Cutting.{Step, calls}
 use Rattle.laws.proofs.Cutting as cutting
 use Rattle.wire.specs.Digits.{isDigit}
-use Rattle.wire.specs.Frame.{colon, newline}
+use Rattle.paper.specs.Numbers.{colon, newline}
 use Rattle.wire.specs.Reading.{Ended, good, refused, dataOf, badCount, sumsUp, bodySays, brokenSays}
 use Rattle.wire.specs.Calls.{readAs}
 use Rattle.wire.proofs.Answers.{body-long, body-strange, body-count, body-sum, body-good, broken-long, broken-short}

@@ -12,7 +12,7 @@ use lib.Dec.{eqb}
 use Rattle.laws.specs.Lists.{every, before}
 use Rattle.laws.specs.Promise.{Given, Gives}
 use Rattle.laws.proofs.Lists.{before-first}
-use Rattle.wire.specs.Frame.{colon, newline}
+use Rattle.paper.specs.Numbers.{colon, newline}
 use Rattle.wire.specs.Reading.{Ended, bodySays, brokenSays}
 use Rattle.wire.specs.Calls.{readAs, readingChars}
 use Rattle.wire.specs.declared.Read.{Read}

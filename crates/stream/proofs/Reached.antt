@@ -10,7 +10,7 @@ use lib.Seq.{take-take}
 use lib.Dec.{eqb}
 use Rattle.laws.specs.Lists.{every}
 use Rattle.laws.proofs.Lists.{every-append, take-again}
-use Rattle.wire.specs.Frame.{colon, newline}
+use Rattle.paper.specs.Numbers.{colon, newline}
 use Rattle.wire.specs.Reading.{Ended}
 use Rattle.stream.specs.Stream.{Unfinished, outside, inside, next, endedBy, framesFrom, framesOf, leftFrom, leftBy}
 use Rattle.stream.specs.Calls.{allowed, stays, heldOf, unfinished}

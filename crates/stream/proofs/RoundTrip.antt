@@ -6,7 +6,8 @@ use Prim.Native.Nat.{ℕ, _≤_}
 use lib.ListN.{length}
 use lib.Dec.{ltb, eqb}
 use Rattle.laws.specs.Lists.{every}
-use Rattle.wire.specs.Frame.{colon, newline, mostChars, body, frame}
+use Rattle.paper.specs.Numbers.{colon, newline, mostChars}
+use Rattle.wire.specs.Frame.{body, frame}
 use Rattle.wire.specs.Reading.{Ended, good, refused, bodySays, brokenSays}
 use Rattle.wire.specs.Laws.{Bytes}
 use Rattle.wire.proofs.Nibbles.{digit-stays}

@@ -9,7 +9,8 @@ use lib.ListN.{length, take}
 use lib.Dec.{ltb, leb, eqb}
 use Rattle.laws.specs.Promise.{Given}
 use Rattle.laws.specs.Cutting.{Step, Offer, calls, ready}
-use Rattle.wire.specs.Frame.{mostNibble, mostData, frame}
+use Rattle.paper.specs.Numbers.{mostNibble, mostData}
+use Rattle.wire.specs.Frame.{frame}
 use Rattle.wire.specs.Reading.{Ended, good, refused}
 use Rattle.wire.specs.Laws.{Bytes, Writable}
 use Rattle.stream.specs.Stream.{Unfinished, outside, framesFrom, framesOf, leftBy, firstEnd, taken}

@@ -6,7 +6,7 @@ use mathlib.Core.Bool.{Bool, false, cond, _||_}
 use mathlib.Core.List.{List, [], _∷_, _++_}
 use lib.ListN.{length}
 use lib.Dec.{eqb}
-use Rattle.wire.specs.Frame.{colon, newline}
+use Rattle.paper.specs.Numbers.{colon, newline}
 use Rattle.wire.specs.Reading.{Ended, bodySays, brokenSays}
 
 -- where the reading is: outside a frame, or inside one with the characters since its colon

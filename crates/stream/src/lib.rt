@@ -50,11 +50,11 @@ impl Held {
     pub fn hear(self, piece: &[u8], into: &mut [u8]) -> Heard
         ensures { λ r. ⌜ Gives Heard (hearing self (now (piece .entry)) (length (now (into .entry)))) (now (into .entry)) r (now (into .exit)) ⌝ }
     {
-        if into.len() < numbers::MOST_DATA {
-            return pieces::refused(self, numbers::SHORT_BUFFER);
+        if into.len() < paper::MOST_DATA {
+            return pieces::refused(self, paper::SHORT_BUFFER);
         }
         if !unfinished::is_allowed(self) {
-            return pieces::refused(self, numbers::NOT_ALLOWED);
+            return pieces::refused(self, paper::NOT_ALLOWED);
         }
         pieces::heard(self, piece, into)
     }

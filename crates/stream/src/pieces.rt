@@ -15,7 +15,6 @@ ghost use Rattle.stream.specs.declared.Heard.{Heard};
 use crate::Event;
 use crate::Heard;
 use crate::Held;
-use crate::numbers;
 use crate::unfinished;
 use wire::Read;
 
@@ -62,10 +61,10 @@ fn event_of(read: Read) -> Event
 fn broken(len: usize) -> Event
     ensures { λ r. ⌜ r ≡ eventFrom (readAs (brokenSays len) .answer) ⌝ }
 {
-    if numbers::MOST_CHARS < len {
-        return Event::Refused(numbers::TOO_LONG);
+    if paper::MOST_CHARS < len {
+        return Event::Refused(paper::TOO_LONG);
     }
-    Event::Refused(numbers::NO_DIGIT)
+    Event::Refused(paper::NO_DIGIT)
 }
 
 // The call inside a frame.
@@ -73,7 +72,7 @@ fn in_frame(held: Held, piece: &[u8], into: &mut [u8]) -> Heard
     requires { ⌜ (allowed held ≡ true) × (held .inside ≡ true) × (35 ≤ length (now into)) ⌝ }
     ensures { λ r. ⌜ Gives Heard (heardOf (unfinished held) (now (piece .entry))) (now (into .entry)) r (now (into .exit)) ⌝ }
 {
-    let end = first_of(piece, numbers::NEWLINE, numbers::COLON);
+    let end = first_of(piece, paper::NEWLINE, paper::COLON);
     let whole = unfinished::with_more(held, &piece[..end]);
     if end == piece.len() {
         return Heard {
@@ -84,7 +83,7 @@ fn in_frame(held: Held, piece: &[u8], into: &mut [u8]) -> Heard
     }
     let taken = end + 1;
     let len = whole.len;
-    if piece[end] == numbers::COLON {
+    if piece[end] == paper::COLON {
         let next = unfinished::begun();
         return Heard {
             held: next,
@@ -106,7 +105,7 @@ fn fresh(piece: &[u8], into: &mut [u8]) -> Heard
     requires { ⌜ 35 ≤ length (now into) ⌝ }
     ensures { λ r. ⌜ Gives Heard (heardOf (inside []) (now (piece .entry))) (now (into .entry)) r (now (into .exit)) ⌝ }
 {
-    let last = first_of(piece, numbers::NEWLINE, numbers::COLON);
+    let last = first_of(piece, paper::NEWLINE, paper::COLON);
     if last == piece.len() {
         return Heard {
             held: unfinished::with_more(unfinished::begun(), piece),
@@ -115,7 +114,7 @@ fn fresh(piece: &[u8], into: &mut [u8]) -> Heard
         };
     }
     let taken = last + 1;
-    if piece[last] == numbers::COLON {
+    if piece[last] == paper::COLON {
         return Heard {
             held: unfinished::begun(),
             event: broken(last),
@@ -138,7 +137,7 @@ pub(crate) fn heard(held: Held, piece: &[u8], into: &mut [u8]) -> Heard
     if held.inside {
         return in_frame(held, piece, into);
     }
-    let skipped = first_of(piece, numbers::COLON, numbers::COLON);
+    let skipped = first_of(piece, paper::COLON, paper::COLON);
     if skipped == piece.len() {
         return Heard {
             held,

@@ -41,10 +41,10 @@ fn all_zero(bytes: &[u8]) -> bool
 fn stays_in(b: u8) -> bool
     ensures { λ r. ⌜ r ≡ stays b ⌝ }
 {
-    if b == numbers::NEWLINE {
+    if b == paper::NEWLINE {
         return false;
     }
-    b != numbers::COLON
+    b != paper::COLON
 }
 
 // Characters are held inside a frame alone.

@@ -12,7 +12,8 @@ use Rattle.laws.proofs.Bools.{or-second}
 use Rattle.laws.proofs.Lists.{upTo-at, upTo-all}
 use Rattle.settings.specs.Columns.{count, partnerAt, roleAt}
 use Rattle.settings.specs.Rules.{inRange, agrees, allowedFor, allAllowed, nearestOf}
-use Rattle.settings.specs.Calls.{placing, allowing, partnerFits, nearing, notAllowed}
+use Rattle.paper.specs.Numbers.{notAllowed, numberNotAllowed}
+use Rattle.settings.specs.Calls.{placing, allowing, partnerFits, nearing}
 use Rattle.settings.specs.declared.Setting.{Setting}
 use Rattle.settings.specs.declared.Found.{Found}
 use Rattle.settings.specs.declared.Number.{Number}
@@ -21,7 +22,7 @@ use Rattle.settings.proofs.Theorems.{nearest-is-answered}
 use Rattle.settings.proofs.Windows.{nearest-found, allowed-range, allowed-agrees, allowed-both, alone-any}
 use Rattle.settings.proofs.Pairs.{partner-agrees, agrees-exchange}
 use Rattle.tables.specs.Rules.{allowed, numberAt, partnerNumber, changed}
-use Rattle.tables.specs.Calls.{setTo, numberNotAllowed}
+use Rattle.tables.specs.Calls.{setTo}
 use Rattle.tables.specs.Laws.{SetKeepsAllowed, RefusedKeeps, SetKeepsCount, SetChangesOne, SetStores, RefusedNamesNearest, PairsHaveAnOrder}
 use Rattle.tables.specs.declared.Table.{Table}
 use Rattle.tables.specs.declared.Answer.{Answer}

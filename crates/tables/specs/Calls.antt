@@ -4,16 +4,12 @@ use mathlib.Core.Bool.{cond, _&&_}
 use lib.Dec.{ltb}
 use Rattle.settings.specs.Columns.{count}
 use Rattle.settings.specs.Rules.{allowedFor, nearestOf}
-use Rattle.settings.specs.Calls.{notAllowed}
+use Rattle.paper.specs.Numbers.{notAllowed, numberNotAllowed}
 use Rattle.settings.specs.declared.Number.{Number}
 use Rattle.tables.specs.Rules.{allowed, numberAt, partnerNumber, changed}
 use Rattle.tables.specs.declared.Table.{Table}
 use Rattle.tables.specs.declared.Answer.{Answer}
 use Rattle.tables.specs.declared.Change.{Change}
-
--- Document 01: 10 "number not allowed"
-abbrev pub numberNotAllowed : ℕ
-numberNotAllowed = 10
 
 -- a setting's number; 12 for a table that is not allowed or a place past it
 unfoldable pub holding : Table → ℕ → Number

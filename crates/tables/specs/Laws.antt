@@ -8,7 +8,8 @@ use lib.ListN.{length}
 use Rattle.settings.specs.Columns.{count, partnerAt, roleAt}
 use Rattle.settings.specs.Rules.{agrees, allowedFor, Nearest}
 use Rattle.tables.specs.Rules.{numberAt, partnerNumber, allowed, factory}
-use Rattle.tables.specs.Calls.{setTo, numberNotAllowed}
+use Rattle.paper.specs.Numbers.{numberNotAllowed}
+use Rattle.tables.specs.Calls.{setTo}
 use Rattle.tables.specs.declared.Table.{Table}
 use Rattle.tables.specs.declared.Answer.{Answer}
 

@@ -13,11 +13,6 @@ use settings::Found;
 use settings::Number;
 use settings::Setting;
 
-// 10: a number that is not allowed; 12: a table or a place handed in is not allowed.
-const NUMBER_NOT_ALLOWED: u8 = 10;
-
-const NOT_ALLOWED: u8 = 12;
-
 // The numbers of all settings, in the order of the ids.
 pub struct Table {
     pub numbers: [u16; COUNT],
@@ -58,10 +53,10 @@ impl Table {
         ensures { λ r. ⌜ r ≡ holding self index ⌝ }
     {
         if !self.is_allowed() {
-            return Number::Refused(NOT_ALLOWED);
+            return Number::Refused(paper::NOT_ALLOWED);
         }
         if COUNT <= index {
-            return Number::Refused(NOT_ALLOWED);
+            return Number::Refused(paper::NOT_ALLOWED);
         }
         let numbers = self.numbers;
         Number::Is(numbers[index])
@@ -73,12 +68,12 @@ impl Table {
         ensures { λ r. ⌜ r ≡ setTo self index number ⌝ }
     {
         if !self.is_allowed() {
-            return refused(self, NOT_ALLOWED, 0);
+            return refused(self, paper::NOT_ALLOWED, 0);
         }
         let found = settings::at(index);
         match found {
             Found::At(setting) => set_found(self, setting, number),
-            Found::Nothing => refused(self, NOT_ALLOWED, 0),
+            Found::Nothing => refused(self, paper::NOT_ALLOWED, 0),
         }
     }
 }
@@ -95,7 +90,7 @@ fn set_found(table: Table, setting: Setting, number: u16) -> Change
     if !settings::allows(index, number, partner) {
         return refused(
             table,
-            NUMBER_NOT_ALLOWED,
+            paper::NUMBER_NOT_ALLOWED,
             nearest_of(setting, number, partner),
         );
     }

@@ -1,8 +1,5 @@
 // The numbers of the yard's sums.
 
-// 12: a tally or a follower handed in is not allowed.
-pub(crate) const NOT_ALLOWED: u8 = 12;
-
 // No count of a tally that is handed in is over a million (ours).
 pub(crate) const MOST: usize = 1_000_000;
 

@@ -46,7 +46,7 @@ pub(crate) fn refused(tally: Tally) -> Counted
 {
     Counted {
         tally,
-        verdict: Verdict::Refused(numbers::NOT_ALLOWED),
+        verdict: Verdict::Refused(paper::NOT_ALLOWED),
     }
 }
 

@@ -3,9 +3,6 @@ use crate::words;
 use backup::Written;
 use board::Board;
 
-// The room that a backup text takes.
-const TEXT_ROOM: usize = 512;
-
 // Writes the board's settings as a backup text to the file that was named, if one was.
 pub(crate) fn store(board: Board) {
     let mut path = io::buffer();
@@ -14,7 +11,7 @@ pub(crate) fn store(board: Board) {
         return;
     }
     let table = board.table;
-    let mut text = [0u8; TEXT_ROOM];
+    let mut text = [0u8; paper::TEXT_ROOM];
     let written = backup::write(table, &mut text);
     match written {
         Written::Text(count) => keep(&path[..len], &text, count),

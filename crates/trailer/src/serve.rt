@@ -3,9 +3,6 @@ ghost use Prim.Native.Nat.{_≤_};
 use crate::words;
 use board::Board;
 
-// The room that the longest reply takes.
-const REPLY_ROOM: usize = 75;
-
 // A device that said nothing in this many reads, a second each, is done with: a day.
 const MOST_QUIET: usize = 86400;
 
@@ -23,7 +20,7 @@ struct Step {
 
 // Takes bytes as far as a frame's end, and sends the reply.
 fn answer_one(board: Board, rest: &[u8], output: i32) -> Step {
-    let mut reply = [0u8; REPLY_ROOM];
+    let mut reply = [0u8; paper::FRAME_ROOM];
     let answered = board.answer(rest, &mut reply);
     let board = answered.board;
     words::put(output, &reply, answered.len);

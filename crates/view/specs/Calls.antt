@@ -3,6 +3,7 @@ use Prim.Native.Nat.{ℕ}
 use mathlib.Core.Bool.{cond}
 use mathlib.Core.List.{List, [], _++_}
 use lib.Dec.{ltb}
+use Rattle.paper.specs.Numbers.{notAllowed}
 use Rattle.lines.specs.Lines.{chars, lineOf}
 use Rattle.lines.specs.Numbers.{decimal}
 use Rattle.lines.specs.declared.Line.{Line}
@@ -18,10 +19,6 @@ outcomeOf v = cond (ltb (v .asked) count) (Outcome.Waiting (idAt (v .asked))) Ou
 
 unfoldable pub told : Viewer → Line → Viewed
 told v line = record { viewer = v; outcome = outcomeOf v; line = line }
-
--- 12: "a handed-in number, state or table is not allowed"
-abbrev pub notAllowed : ℕ
-notAllowed = 12
 
 -- "a state handed in comes back as it was"
 unfoldable pub stray : Viewer → Viewed

@@ -9,6 +9,7 @@ use lib.ListN.{length}
 use lib.Dec.{ltb, eqb}
 use lib.IntN.{ℤ, pos, negsuc}
 use lib.Ieee.{Float}
+use Rattle.paper.specs.Numbers as paper
 use Rattle.who.specs.Parts.{serialFits}
 use Rattle.wire.specs.Numbers.{fromLittle, signed}
 use Rattle.wire.specs.Laws.{Bytes}
@@ -39,16 +40,16 @@ pub record Alike (id width decimals : ℕ) (number : ℤ) (word unit : String) (
   pub is-shown : length value ≡ width → showing id value ≡ shown (over number (steps decimals))
   pub is-understood : length value ≡ width → isUnderstood id value ≡ true
   pub is-told : length value ≡ width → wordsText id value ≡ chars word ++ wholeText number decimals ++ chars unit
-  pub not-shown : length value ≢ width → showing id value ≡ Shown.Refused 9
+  pub not-shown : length value ≢ width → showing id value ≡ Shown.Refused paper.wrongWidth
   pub not-understood : length value ≢ width → isUnderstood id value ≡ false
 
 -- the five readings, with bytes as every frame read from the stream has them
 pub record AllAlike (value : List ℕ) : Type 0 where
-  pub voltage-alike : Alike 0xED8D 2 2 (signed 2 (fromLittle value)) "voltage " " V" Shown.Volts value
-  pub current-alike : Alike 0xED8F 2 1 (signed 2 (fromLittle value)) "current " " A" Shown.Amperes value
-  pub fine-alike : Alike 0xED8C 4 3 (signed 4 (fromLittle value)) "current " " A" Shown.Amperes value
-  pub consumed-alike : Alike 0xEEFF 4 1 (signed 4 (fromLittle value)) "consumed " " Ah" Shown.AmpHours value
-  pub charge-alike : Alike 0x0FFF 2 2 (pos (fromLittle value)) "charge " " %" Shown.Percent value
+  pub voltage-alike : Alike paper.voltageId 2 2 (signed 2 (fromLittle value)) "voltage " " V" Shown.Volts value
+  pub current-alike : Alike paper.currentId 2 1 (signed 2 (fromLittle value)) "current " " A" Shown.Amperes value
+  pub fine-alike : Alike paper.fineId 4 3 (signed 4 (fromLittle value)) "current " " A" Shown.Amperes value
+  pub consumed-alike : Alike paper.consumedId 4 1 (signed 4 (fromLittle value)) "consumed " " Ah" Shown.AmpHours value
+  pub charge-alike : Alike paper.chargeId 2 2 (pos (fromLittle value)) "charge " " %" Shown.Percent value
 
 abbrev pub ReadAlike : Type 0
 ReadAlike = (value : List ℕ) → Bytes value → AllAlike value
@@ -58,10 +59,10 @@ ReadAlike = (value : List ℕ) → Bytes value → AllAlike value
 pub record IsSerial (value serial : List ℕ) : Type 0 where
   pub is-fit : serialFits serial ≡ true
   pub is-value : value ≡ serial ++ cond (ltb (length serial) 32) (0 ∷ []) []
-  pub is-told : wordsText 0x010A value ≡ chars "serial " ++ serial
+  pub is-told : wordsText paper.serialId value ≡ chars "serial " ++ serial
 
 abbrev pub SerialIsRead : Type 0
-SerialIsRead = (value : List ℕ) → (isUnderstood 0x010A value ≡ true) ↔ ((serial : List ℕ) × IsSerial value serial)
+SerialIsRead = (value : List ℕ) → (isUnderstood paper.serialId value ≡ true) ↔ ((serial : List ℕ) × IsSerial value serial)
 
 -- 2. A row of calls, each on the viewer that the last one handed back. A viewer is allowed exactly when a start and replies give it.
 pub record Frame : Type 0 where

@@ -4,8 +4,10 @@ use mathlib.Core.Bool.{Bool, cond, _&&_}
 use mathlib.Core.List.{List, [], _∷_, _++_}
 use lib.ListN.{length, getD, take}
 use lib.Dec.{ltb, eqb}
+use Rattle.paper.specs.Numbers as paper
 use Rattle.laws.specs.Lists.{before}
-use Rattle.who.specs.Parts.{mostSerial, serialFits}
+use Rattle.paper.specs.Numbers.{mostSerial}
+use Rattle.who.specs.Parts.{serialFits}
 use Rattle.wire.specs.Frame.{digitsOf}
 use Rattle.wire.specs.Numbers.{fromLittle}
 use Rattle.lines.specs.Lines.{chars}
@@ -13,7 +15,7 @@ use Rattle.lines.specs.Numbers.{pointed}
 
 -- the ids in the order in which they are asked for
 abbrev pub ids : List ℕ
-ids = 0x0100 ∷ 0x010A ∷ 0xEEF9 ∷ 0xED8D ∷ 0xED8F ∷ 0xED8C ∷ 0xEEFF ∷ 0x0FFF ∷ []
+ids = paper.productId ∷ paper.serialId ∷ paper.versionId ∷ paper.voltageId ∷ paper.currentId ∷ paper.fineId ∷ paper.consumedId ∷ paper.chargeId ∷ []
 
 abbrev pub count : ℕ
 count = length ids
@@ -37,7 +39,7 @@ productFits value = eqb (length value) 4 && (eqb (getD value 0 0) 0 && eqb (getD
 
 -- "version, 2 bytes"; "ED8D signed 16 [..]; ED8F signed 16 [..]; ED8C signed 32 [..]; EEFF signed 32 [..]; 0FFF unsigned 16"
 abbrev pub widthOf : ℕ → ℕ
-widthOf id = cond (eqb id 0xED8C) 4 (cond (eqb id 0xEEFF) 4 2)
+widthOf id = cond (eqb id paper.fineId) 4 (cond (eqb id paper.consumedId) 4 2)
 
 -- "0 to 32 bytes of 0x20..0x7E, one zero byte after it if under 32": the bytes up to the first zero byte, how wide the value of n bytes is, and
 -- both together (the law SerialIsRead says it without the first zero byte)
@@ -52,7 +54,7 @@ serialReads value = serialFits (serialIn value) && eqb (length value) (serialWid
 
 unfoldable pub isUnderstood : ℕ → List ℕ → Bool
 isUnderstood id value =
-    cond (eqb id 0x0100) (productFits value) (cond (eqb id 0x010A) (serialReads value) (eqb (length value) (widthOf id)))
+    cond (eqb id paper.productId) (productFits value) (cond (eqb id paper.serialId) (serialReads value) (eqb (length value) (widthOf id)))
 
 -- The words of those that are.
 
@@ -88,15 +90,15 @@ chargeText value = chars "charge " ++ pointed (fromLittle value) 2 ++ chars " %"
 -- "ED8D signed 16, 0.01 V; ED8F signed 16, 0.1 A; ED8C signed 32, 0.001 A; EEFF signed 32, 0.1 Ah"
 unfoldable pub readingText : ℕ → List ℕ → List ℕ
 readingText id value =
-    cond (eqb id 0xED8D) (amountText (chars "voltage ") half16 (fromLittle value) 2 (chars " V"))
-    (cond (eqb id 0xED8F) (amountText (chars "current ") half16 (fromLittle value) 1 (chars " A"))
-    (cond (eqb id 0xED8C) (amountText (chars "current ") half32 (fromLittle value) 3 (chars " A"))
-    (cond (eqb id 0xEEFF) (amountText (chars "consumed ") half32 (fromLittle value) 1 (chars " Ah"))
+    cond (eqb id paper.voltageId) (amountText (chars "voltage ") half16 (fromLittle value) 2 (chars " V"))
+    (cond (eqb id paper.currentId) (amountText (chars "current ") half16 (fromLittle value) 1 (chars " A"))
+    (cond (eqb id paper.fineId) (amountText (chars "current ") half32 (fromLittle value) 3 (chars " A"))
+    (cond (eqb id paper.consumedId) (amountText (chars "consumed ") half32 (fromLittle value) 1 (chars " Ah"))
     (chargeText value))))
 
 unfoldable pub wordsText : ℕ → List ℕ → List ℕ
 wordsText id value =
-    cond (eqb id 0x0100) (productText value)
-    (cond (eqb id 0x010A) (serialText value)
-    (cond (eqb id 0xEEF9) (versionText value)
+    cond (eqb id paper.productId) (productText value)
+    (cond (eqb id paper.serialId) (serialText value)
+    (cond (eqb id paper.versionId) (versionText value)
     (readingText id value)))

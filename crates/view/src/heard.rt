@@ -10,9 +10,6 @@ use lines::Line;
 use reply::Reply;
 use reply::Status;
 
-// An id and the flags come before the value.
-const FRONT: usize = 3;
-
 // How many ids are answered (0 or 1), how many of them with a value that is understood, and the line.
 pub(crate) struct Heard {
     pub(crate) answered: usize,
@@ -84,7 +81,7 @@ fn on_frame(id: u16, command: u8, bytes: &[u8]) -> Heard
 {
     let read = reply::read(command, bytes);
     match read {
-        Reply::Get { status, id: got } => on_get(id, status, got, &bytes[FRONT..]),
+        Reply::Get { status, id: got } => on_get(id, status, got, &bytes[paper::FRONT..]),
         Reply::Done => other(),
         Reply::Unknown { command: _ } => other(),
         Reply::Error { code: _ } => other(),

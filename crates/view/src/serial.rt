@@ -9,9 +9,6 @@ use lines::Line;
 use who::Identity;
 use who::Verdict;
 
-// The most bytes of a serial.
-const MOST_SERIAL: usize = 32;
-
 // How long it is: up to the first zero byte, or all.
 fn length_of(value: &[u8]) -> usize
     ensures { λ r. ⌜ r ≡ before (eqb 0) (now (value .entry)) ⌝ }
@@ -42,7 +39,7 @@ fn fits(serial: &[u8]) -> bool
 fn width_of(len: usize) -> usize
     ensures { λ r. ⌜ r ≡ serialWidth len ⌝ }
 {
-    if len < MOST_SERIAL {
+    if len < paper::MOST_SERIAL {
         return len + 1;
     }
     len

@@ -15,9 +15,6 @@ use crate::heard::Heard;
 use crate::number;
 use lines::Line;
 
-// 12: a viewer that no start and replies give.
-const NOT_ALLOWED: u8 = 12;
-
 // The ids in the order in which they are asked for.
 const IDS: [u16; COUNT] = [
     0x0100, // product
@@ -82,7 +79,7 @@ pub(crate) fn stray(viewer: Viewer) -> Viewed
 {
     Viewed {
         viewer,
-        outcome: Outcome::Refused(NOT_ALLOWED),
+        outcome: Outcome::Refused(paper::NOT_ALLOWED),
         line: Line::start(),
     }
 }
@@ -119,7 +116,8 @@ fn put_count(line: Line, understood: usize, due: usize) -> Line
 fn put_refused(line: Line) -> Line
     ensures { λ r. ⌜ r ≡ adding line calls.refusedText ⌝ }
 {
-    line.put(b"refused ").put_number(number::wide(NOT_ALLOWED))
+    line.put(b"refused ")
+        .put_number(number::wide(paper::NOT_ALLOWED))
 }
 
 // How many values were shown, by the viewer's own count.

@@ -9,21 +9,6 @@ use crate::number;
 use crate::serial;
 use lines::Line;
 
-// The ids that have words of their own.
-const PRODUCT: u16 = 0x0100;
-
-const SERIAL: u16 = 0x010A;
-
-const VERSION: u16 = 0xEEF9;
-
-const VOLTAGE: u16 = 0xED8D;
-
-const CURRENT: u16 = 0xED8F;
-
-const FINE: u16 = 0xED8C;
-
-const CONSUMED: u16 = 0xEEFF;
-
 // What comes before and after a product.
 const INSTANCE: u8 = 0;
 
@@ -72,10 +57,10 @@ fn is_product(value: &[u8]) -> bool
 fn width_of(id: u16) -> usize
     ensures { λ r. ⌜ r ≡ widthOf id ⌝ }
 {
-    if id == FINE {
+    if id == paper::FINE {
         return 4;
     }
-    if id == CONSUMED {
+    if id == paper::CONSUMED {
         return 4;
     }
     2
@@ -85,10 +70,10 @@ fn width_of(id: u16) -> usize
 pub(crate) fn is_understood(id: u16, value: &[u8]) -> bool
     ensures { λ r. ⌜ r ≡ isUnderstood id (now (value .entry)) ⌝ }
 {
-    if id == PRODUCT {
+    if id == paper::PRODUCT {
         return is_product(value);
     }
-    if id == SERIAL {
+    if id == paper::SERIAL {
         return serial::is_serial(value);
     }
     value.len() == width_of(id)
@@ -143,16 +128,16 @@ fn put_reading(line: Line, id: u16, value: &[u8]) -> Line
     requires { ⌜ length (now value) ≡ widthOf id ⌝ }
     ensures { λ r. ⌜ r ≡ adding line (readingText id (now (value .entry))) ⌝ }
 {
-    if id == VOLTAGE {
+    if id == paper::VOLTAGE {
         return put_amount(line, b"voltage ", HALF_16, number::two(value), 2, b" V");
     }
-    if id == CURRENT {
+    if id == paper::CURRENT {
         return put_amount(line, b"current ", HALF_16, number::two(value), 1, b" A");
     }
-    if id == FINE {
+    if id == paper::FINE {
         return put_amount(line, b"current ", HALF_32, number::four(value), 3, b" A");
     }
-    if id == CONSUMED {
+    if id == paper::CONSUMED {
         return put_amount(line, b"consumed ", HALF_32, number::four(value), 1, b" Ah");
     }
     put_charge(line, value)
@@ -163,13 +148,13 @@ pub(crate) fn put_words(line: Line, id: u16, value: &[u8]) -> Line
     requires { ⌜ isUnderstood id (now value) ≡ true ⌝ }
     ensures { λ r. ⌜ r ≡ adding line (wordsText id (now (value .entry))) ⌝ }
 {
-    if id == PRODUCT {
+    if id == paper::PRODUCT {
         return put_product(line, value);
     }
-    if id == SERIAL {
+    if id == paper::SERIAL {
         return serial::put_serial(line, value);
     }
-    if id == VERSION {
+    if id == paper::VERSION {
         return put_version(line, value);
     }
     put_reading(line, id, value)

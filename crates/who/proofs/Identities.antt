@@ -12,7 +12,8 @@ use Rattle.laws.specs.Promise.{overlaid}
 use Rattle.laws.proofs.Bools.{and-left, and-right, both}
 use Rattle.laws.proofs.Lists.{every-replicate}
 use Rattle.who.specs.Parts.{printed, serialFits, noSerial, identityOf, serialOf, noIdentity, identityAllowed}
-use Rattle.who.specs.Calls.{naming, notAllowed}
+use Rattle.paper.specs.Numbers.{notAllowed}
+use Rattle.who.specs.Calls.{naming}
 use Rattle.who.specs.Laws.{NamedIsAllowed}
 use Rattle.who.specs.declared.Verdict.{Verdict}
 

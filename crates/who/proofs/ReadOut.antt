@@ -15,7 +15,8 @@ use Rattle.wire.specs.Numbers.{little}
 use Rattle.wire.proofs.Little.{byte, length-little, bytes-little}
 use Rattle.who.specs.Parts.{printed, serialOf, identityAllowed}
 use Rattle.who.specs.Values.{productValue, serialValue, readOnly}
-use Rattle.who.specs.Calls.{notAllowed, valueOf, noValue, lookedOf, readingOut}
+use Rattle.paper.specs.Numbers.{notAllowed}
+use Rattle.who.specs.Calls.{valueOf, noValue, lookedOf, readingOut}
 use Rattle.who.specs.Laws.{Small, small-none, small-some, ValuesFit, NothingReadsZero}
 use Rattle.who.specs.declared.Identity.{Identity}
 use Rattle.who.specs.declared.Readings.{Readings}

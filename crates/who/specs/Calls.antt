@@ -4,6 +4,7 @@ use mathlib.Core.Bool.{cond}
 use mathlib.Core.List.{List, []}
 use mathlib.Core.Option.{Option, none, some}
 use lib.ListN.{length}
+use Rattle.paper.specs.Numbers.{unknownId, notAllowed}
 use Rattle.laws.specs.Promise.{overlaid}
 use Rattle.who.specs.Parts.{serialFits, noSerial, identityOf, noIdentity, identityAllowed}
 use Rattle.who.specs.Values.{readOnly}
@@ -13,13 +14,6 @@ use Rattle.who.specs.declared.Verdict.{Verdict}
 use Rattle.who.specs.declared.Named.{Named}
 use Rattle.who.specs.declared.Value.{Value}
 use Rattle.who.specs.declared.Looked.{Looked}
-
--- 7: another id than the eight (whether it is a setting, the board asks first); 12: "a handed-in number, state or table is not allowed"
-abbrev pub unknownId : ℕ
-unknownId = 7
-
-abbrev pub notAllowed : ℕ
-notAllowed = 12
 
 -- "A refused start (12) returns product and version 0, an empty serial"
 unfoldable pub naming : ℕ → ℕ → List ℕ → Named

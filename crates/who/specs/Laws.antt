@@ -7,8 +7,10 @@ use mathlib.Core.List.{List}
 use mathlib.Core.Option.{Option, none, some}
 use lib.Dec.{ltb}
 use lib.ListN.{length, replicate}
+use Rattle.paper.specs.Numbers as paper
 use Rattle.laws.specs.Lists.{every}
-use Rattle.who.specs.Parts.{mostSerial, identityOf, serialOf, identityAllowed, noReadings}
+use Rattle.paper.specs.Numbers.{mostSerial}
+use Rattle.who.specs.Parts.{identityOf, serialOf, identityAllowed, noReadings}
 use Rattle.who.specs.Values.{readOnly}
 use Rattle.who.specs.Calls.{naming}
 use Rattle.who.specs.declared.Identity.{Identity}
@@ -33,8 +35,8 @@ ValuesFit = (identity : Identity) (readings : Readings) (id : ℕ) → identityA
 abbrev pub NothingReadsZero : Type 0
 NothingReadsZero =
     (identity : Identity)
-    → (readOnly identity noReadings 0xED8D ≡ some (replicate 2 0))
-    × (readOnly identity noReadings 0xED8F ≡ some (replicate 2 0))
-    × (readOnly identity noReadings 0xED8C ≡ some (replicate 4 0))
-    × (readOnly identity noReadings 0xEEFF ≡ some (replicate 4 0))
-    × (readOnly identity noReadings 0x0FFF ≡ some (replicate 2 0))
+    → (readOnly identity noReadings paper.voltageId ≡ some (replicate 2 0))
+    × (readOnly identity noReadings paper.currentId ≡ some (replicate 2 0))
+    × (readOnly identity noReadings paper.fineId ≡ some (replicate 4 0))
+    × (readOnly identity noReadings paper.consumedId ≡ some (replicate 4 0))
+    × (readOnly identity noReadings paper.chargeId ≡ some (replicate 2 0))

@@ -5,6 +5,7 @@ use mathlib.Core.List.{List, []}
 use lib.ListN.{length, take, drop, replicate}
 use lib.IntN.{pos}
 use lib.Dec.{leb, eqb}
+use Rattle.paper.specs.Numbers.{mostSerial}
 use Rattle.laws.specs.Lists.{every}
 use Rattle.laws.specs.Promise.{overlaid}
 use Rattle.who.specs.declared.Identity.{Identity}
@@ -13,9 +14,6 @@ use Rattle.who.specs.declared.Readings.{Readings}
 -- "serial, 0 to 32 bytes of 0x20..0x7E"
 abbrev pub printed : ℕ → Bool
 printed b = leb 0x20 b && leb b 0x7E
-
-abbrev pub mostSerial : ℕ
-mostSerial = 32
 
 unfoldable pub serialFits : List ℕ → Bool
 serialFits serial = leb (length serial) mostSerial && every printed serial

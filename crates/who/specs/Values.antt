@@ -4,8 +4,10 @@ use mathlib.Core.Bool.{cond}
 use mathlib.Core.List.{List, [], _∷_, _++_}
 use mathlib.Core.Option.{Option, none, some}
 use lib.Dec.{eqb, ltb}
+use Rattle.paper.specs.Numbers as paper
 use Rattle.wire.specs.Numbers.{little, complement}
-use Rattle.who.specs.Parts.{mostSerial, serialOf}
+use Rattle.paper.specs.Numbers.{mostSerial}
+use Rattle.who.specs.Parts.{serialOf}
 use Rattle.who.specs.declared.Identity.{Identity}
 use Rattle.who.specs.declared.Readings.{Readings}
 
@@ -21,12 +23,12 @@ serialValue identity = serialOf identity ++ cond (ltb (identity .len) mostSerial
 -- the value of a read-only id, and none for any other
 unfoldable pub readOnly : Identity → Readings → ℕ → Option (List ℕ)
 readOnly identity readings id =
-    cond (eqb id 0x0100) (some (productValue identity))
-    (cond (eqb id 0x010A) (some (serialValue identity))
-    (cond (eqb id 0xEEF9) (some (little 2 (identity .version)))
-    (cond (eqb id 0xED8D) (some (little 2 (complement 2 (readings .voltage))))
-    (cond (eqb id 0xED8F) (some (little 2 (complement 2 (readings .current))))
-    (cond (eqb id 0xED8C) (some (little 4 (complement 4 (readings .fine))))
-    (cond (eqb id 0xEEFF) (some (little 4 (complement 4 (readings .consumed))))
-    (cond (eqb id 0x0FFF) (some (little 2 (readings .charge)))
+    cond (eqb id paper.productId) (some (productValue identity))
+    (cond (eqb id paper.serialId) (some (serialValue identity))
+    (cond (eqb id paper.versionId) (some (little 2 (identity .version)))
+    (cond (eqb id paper.voltageId) (some (little 2 (complement 2 (readings .voltage))))
+    (cond (eqb id paper.currentId) (some (little 2 (complement 2 (readings .current))))
+    (cond (eqb id paper.fineId) (some (little 4 (complement 4 (readings .fine))))
+    (cond (eqb id paper.consumedId) (some (little 4 (complement 4 (readings .consumed))))
+    (cond (eqb id paper.chargeId) (some (little 2 (readings .charge)))
     none)))))))

@@ -12,7 +12,7 @@ pub struct Identity {
     pub product: u16,
     pub version: u16,
     pub len: usize,
-    pub serial: [u8; numbers::MOST_SERIAL],
+    pub serial: [u8; paper::MOST_SERIAL],
 }
 
 // Whether something was accepted, or document 01's number of the refusal.
@@ -39,7 +39,7 @@ pub struct Readings {
 // A read-only value of up to 32 bytes: they fill the front of the array, and the rest is 0.
 pub struct Value {
     pub len: usize,
-    pub bytes: [u8; numbers::MOST_SERIAL],
+    pub bytes: [u8; paper::MOST_SERIAL],
 }
 
 // What an id reads out: its value, or the number of the refusal and no value.
@@ -57,7 +57,7 @@ impl Identity {
         if !names::serial_fits(serial) {
             return Named {
                 identity: names::nobody(),
-                verdict: Verdict::Refused(numbers::NOT_ALLOWED),
+                verdict: Verdict::Refused(paper::NOT_ALLOWED),
             };
         }
         Named {
@@ -94,7 +94,7 @@ pub fn read_only(identity: Identity, readings: Readings, id: u16) -> Looked
     ensures { λ r. ⌜ r ≡ readingOut identity readings id ⌝ }
 {
     if !names::is_identity(identity) {
-        return values::refused(numbers::NOT_ALLOWED);
+        return values::refused(paper::NOT_ALLOWED);
     }
     values::looked(identity, readings, id)
 }

@@ -33,7 +33,7 @@ fn all_within(bytes: &[u8], low: u8, high: u8) -> bool
 pub(crate) fn serial_fits(serial: &[u8]) -> bool
     ensures { λ r. ⌜ r ≡ serialFits (now (serial .entry)) ⌝ }
 {
-    (serial.len() <= numbers::MOST_SERIAL)
+    (serial.len() <= paper::MOST_SERIAL)
         & all_within(serial, numbers::FIRST_PRINTED, numbers::LAST_PRINTED)
 }
 
@@ -42,7 +42,7 @@ pub(crate) fn identity_of(product: u16, version: u16, serial: &[u8]) -> Identity
     requires { ⌜ length (now serial) ≤ 32 ⌝ }
     ensures { λ r. ⌜ r ≡ identityOf product version (now (serial .entry)) ⌝ }
 {
-    let mut bytes = [0u8; numbers::MOST_SERIAL];
+    let mut bytes = [0u8; paper::MOST_SERIAL];
     let mut i = 0;
     while i < serial.len() {
         bytes[i] = serial[i];
@@ -64,7 +64,7 @@ pub(crate) fn nobody() -> Identity
         product: 0,
         version: 0,
         len: 0,
-        serial: [0u8; numbers::MOST_SERIAL],
+        serial: [0u8; paper::MOST_SERIAL],
     }
 }
 
@@ -74,7 +74,7 @@ pub(crate) fn is_identity(identity: Identity) -> bool
 {
     let len = identity.len;
     let serial = identity.serial;
-    if numbers::MOST_SERIAL < len {
+    if paper::MOST_SERIAL < len {
         return false;
     }
     all_within(

@@ -11,8 +11,6 @@ use crate::Looked;
 use crate::Readings;
 use crate::Value;
 use crate::Verdict;
-use crate::numbers;
-use crate::numbers::MOST_SERIAL;
 
 // An id that is read-only.
 fn found(value: Value) -> Looked
@@ -32,7 +30,7 @@ pub(crate) fn refused(number: u8) -> Looked
         verdict: Verdict::Refused(number),
         value: Value {
             len: 0,
-            bytes: [0u8; MOST_SERIAL],
+            bytes: [0u8; paper::MOST_SERIAL],
         },
     }
 }
@@ -41,7 +39,7 @@ pub(crate) fn refused(number: u8) -> Looked
 fn two(n: u16) -> Value
     ensures { λ r. ⌜ r ≡ valueOf (little 2 n) ⌝ }
 {
-    let mut bytes = [0u8; MOST_SERIAL];
+    let mut bytes = [0u8; paper::MOST_SERIAL];
     bytes[0] = (n % 256) as u8;
     bytes[1] = (n / 256 % 256) as u8;
     Value { len: 2, bytes }
@@ -51,7 +49,7 @@ fn two(n: u16) -> Value
 fn four(n: u32) -> Value
     ensures { λ r. ⌜ r ≡ valueOf (little 4 n) ⌝ }
 {
-    let mut bytes = [0u8; MOST_SERIAL];
+    let mut bytes = [0u8; paper::MOST_SERIAL];
     bytes[0] = (n % 256) as u8;
     bytes[1] = (n / 256 % 256) as u8;
     bytes[2] = (n / 256 / 256 % 256) as u8;
@@ -83,7 +81,7 @@ fn complement_32(x: i32) -> u32
 fn product_value(identity: Identity) -> Value
     ensures { λ r. ⌜ r ≡ valueOf (productValue identity) ⌝ }
 {
-    let mut bytes = [0u8; MOST_SERIAL];
+    let mut bytes = [0u8; paper::MOST_SERIAL];
     bytes[1] = (identity.product % 256) as u8;
     bytes[2] = (identity.product / 256 % 256) as u8;
     bytes[3] = 0xFF;
@@ -97,7 +95,7 @@ fn serial_value(identity: Identity) -> Value
 {
     let len = identity.len;
     let bytes = identity.serial;
-    if len < MOST_SERIAL {
+    if len < paper::MOST_SERIAL {
         return Value {
             len: len + 1,
             bytes,
@@ -112,14 +110,14 @@ pub(crate) fn looked(identity: Identity, readings: Readings, id: u16) -> Looked
     ensures { λ r. ⌜ r ≡ lookedOf (readOnly identity readings id) ⌝ }
 {
     match id {
-        numbers::PRODUCT => found(product_value(identity)),
-        numbers::SERIAL => found(serial_value(identity)),
-        numbers::VERSION => found(two(identity.version)),
-        numbers::VOLTAGE => found(two(complement_16(readings.voltage))),
-        numbers::CURRENT => found(two(complement_16(readings.current))),
-        numbers::FINE => found(four(complement_32(readings.fine))),
-        numbers::CONSUMED => found(four(complement_32(readings.consumed))),
-        numbers::CHARGE => found(two(readings.charge)),
-        _ => refused(numbers::UNKNOWN_ID),
+        paper::PRODUCT => found(product_value(identity)),
+        paper::SERIAL => found(serial_value(identity)),
+        paper::VERSION => found(two(identity.version)),
+        paper::VOLTAGE => found(two(complement_16(readings.voltage))),
+        paper::CURRENT => found(two(complement_16(readings.current))),
+        paper::FINE => found(four(complement_32(readings.fine))),
+        paper::CONSUMED => found(four(complement_32(readings.consumed))),
+        paper::CHARGE => found(two(readings.charge)),
+        _ => refused(paper::UNKNOWN_ID),
     }
 }

@@ -9,7 +9,8 @@ use lib.Dec.{ltb, leb, eqb}
 use Rattle.laws.proofs.Bools.{and-left}
 use Rattle.laws.specs.Lists.{every}
 use Rattle.wire.specs.Digits.{isDigit}
-use Rattle.wire.specs.Frame.{frame, colon, newline}
+use Rattle.paper.specs.Numbers.{colon, newline}
+use Rattle.wire.specs.Frame.{frame}
 use Rattle.wire.specs.Reading.{refused, good, bodySays, brokenSays, badCount, sumsUp, commandOf, dataOf}
 use Rattle.wire.specs.Calls.{writing, unwritten, writtenAs, reading, readAs, wholeSays, readingChars, wellEnclosed, between}
 

@@ -10,7 +10,8 @@ use Rattle.laws.specs.Promise.{overlaid}
 use Rattle.laws.proofs.Lists.{sets-append}
 use Rattle.laws.proofs.Promise.{overlaid-sets}
 use Rattle.wire.specs.Digits.{digit}
-use Rattle.wire.specs.Frame.{colon, newline, total, check, digitsOf, body, frame}
+use Rattle.paper.specs.Numbers.{colon, newline, total}
+use Rattle.wire.specs.Frame.{check, digitsOf, body, frame}
 use Rattle.wire.proofs.Bytes.{length-digitsOf}
 
 -- "Command, data bytes and check sum to 0x55 modulo 256", and no other byte does

@@ -12,7 +12,7 @@ use Rattle.laws.specs.Lists.{every}
 use Rattle.laws.proofs.Lists.{every-at}
 use Rattle.laws.proofs.Bools.{and-left, and-right}
 use Rattle.wire.specs.Digits.{digit, nibble, isDigit}
-use Rattle.wire.specs.Frame.{colon, newline}
+use Rattle.paper.specs.Numbers.{colon, newline}
 
 -- the two rows of digits, each way
 digit-low : (n : ℕ) → n < 10 → digit n ≡ 48 + n

@@ -12,7 +12,8 @@ use Rattle.laws.specs.Lists.{every, sumOf}
 use Rattle.laws.proofs.Bools.{and-left, and-right}
 use Rattle.laws.proofs.Lists.{every-at, every-take, every-append, sum-append}
 use Rattle.wire.specs.Digits.{digit, nibble, isDigit}
-use Rattle.wire.specs.Frame.{colon, newline, total, check, digitsOf, body, frame}
+use Rattle.paper.specs.Numbers.{colon, newline, total}
+use Rattle.wire.specs.Frame.{check, digitsOf, body, frame}
 use Rattle.wire.specs.Reading.{Ended, good, refused, bytesOf, commandOf, payloadOf, dataOf, badCount, sumsUp, bodySays}
 use Rattle.wire.specs.Calls.{between, wellEnclosed, reading, readAs, writing, writtenAs}
 use Rattle.wire.specs.Laws.{Bytes}

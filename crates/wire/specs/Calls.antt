@@ -5,21 +5,15 @@ use mathlib.Core.Bool.{Bool, cond, _&&_, _||_}
 use mathlib.Core.List.{List, []}
 use lib.ListN.{length, take, drop, getD}
 use lib.Dec.{ltb, leb, eqb}
+use Rattle.paper.specs.Numbers as paper
 use Rattle.laws.specs.Promise.{Given}
 use Rattle.wire.specs.Digits.{digit}
-use Rattle.wire.specs.Frame.{colon, newline, frame, mostNibble, mostData, frameRoom}
+use Rattle.paper.specs.Numbers.{colon, newline, mostNibble, mostData, frameRoom, shortBuffer, notAllowed}
+use Rattle.wire.specs.Frame.{frame}
 use Rattle.wire.specs.Reading.{Ended, good, refused, bodySays}
 use Rattle.wire.specs.declared.Pair.{Pair}
 use Rattle.wire.specs.declared.Written.{Written}
 use Rattle.wire.specs.declared.Read.{Read}
-
--- 11: "lent buffer too short"
-abbrev pub shortBuffer : ℕ
-shortBuffer = 11
-
--- 12: "a handed-in number, state or table is not allowed"
-abbrev pub notAllowed : ℕ
-notAllowed = 12
 
 -- "data bytes as two digits each": both digits of a byte, the high nibble first
 abbrev pub pairOf : ℕ → Pair
@@ -54,7 +48,7 @@ abbrev pub between : List ℕ → List ℕ
 between slice = take (length slice - 2) (drop 1 slice)
 
 unfoldable pub wholeSays : List ℕ → Ended
-wholeSays slice = cond (wellEnclosed slice) (bodySays (between slice)) (refused 2)
+wholeSays slice = cond (wellEnclosed slice) (bodySays (between slice)) (refused paper.noDigit)
 
 unfoldable pub reading : List ℕ → ℕ → Given Read
 reading slice room = cond (ltb room mostData) (readAs (refused shortBuffer)) (readAs (wholeSays slice))

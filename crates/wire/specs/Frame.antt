@@ -2,33 +2,9 @@
 -- (byte 10)." Assumes nothing.
 use Prim.Native.Nat.{ℕ, _+_, _-_, _/_, _%_}
 use mathlib.Core.List.{List, [], _∷_, _++_}
+use Rattle.paper.specs.Numbers.{colon, newline, total}
 use Rattle.laws.specs.Lists.{sumOf}
 use Rattle.wire.specs.Digits.{digit}
-
-abbrev pub colon : ℕ
-colon = 58
-
-abbrev pub newline : ℕ
-newline = 10
-
--- "Command, data bytes and check sum to 0x55 modulo 256."
-abbrev pub total : ℕ
-total = 0x55
-
--- the command is one nibble
-abbrev pub mostNibble : ℕ
-mostNibble = 15
-
--- "Data are 0 to 35 bytes, so at most 73 characters stand between colon and newline (*ours*)."
-abbrev pub mostData : ℕ
-mostData = 35
-
-abbrev pub mostChars : ℕ
-mostChars = 73
-
--- a frame of 35 data bytes is this long
-abbrev pub frameRoom : ℕ
-frameRoom = 75
 
 -- the check byte that brings command and data to the total
 unfoldable pub check : ℕ → List ℕ → ℕ

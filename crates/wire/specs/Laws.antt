@@ -10,7 +10,8 @@ use lib.IntN.{ℤ}
 use lib.Signed.{mag}
 use Rattle.laws.specs.Lists.{every}
 use Rattle.wire.specs.Numbers.{little, fromLittle, complement, signed}
-use Rattle.wire.specs.Frame.{mostNibble, mostData, frameRoom, frame}
+use Rattle.paper.specs.Numbers.{mostNibble, mostData, frameRoom}
+use Rattle.wire.specs.Frame.{frame}
 use Rattle.wire.specs.Reading.{good}
 use Rattle.wire.specs.Calls.{writing, writtenAs, reading, readAs}
 

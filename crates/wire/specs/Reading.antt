@@ -4,9 +4,10 @@ use mathlib.Core.Bool.{Bool, cond, not, _||_}
 use mathlib.Core.List.{List, [], _∷_}
 use lib.ListN.{length, drop, take, getD}
 use lib.Dec.{ltb, eqb}
+use Rattle.paper.specs.Numbers as paper
 use Rattle.laws.specs.Lists.{every, sumOf}
 use Rattle.wire.specs.Digits.{nibble, isDigit}
-use Rattle.wire.specs.Frame.{mostChars, total}
+use Rattle.paper.specs.Numbers.{mostChars, total}
 
 -- what an ended frame says: a command with its data, or the number of its refusal
 pub data Ended : Type 0 where
@@ -40,12 +41,12 @@ sumsUp chars = eqb ((commandOf chars + sumOf (payloadOf chars)) % 256) total
 -- characters, or an even count", 4 "sum is not 0x55"
 unfoldable pub bodySays : List ℕ → Ended
 bodySays chars =
-    cond (ltb mostChars (length chars)) (refused 1)
-    (cond (not (every isDigit chars)) (refused 2)
-    (cond (badCount (length chars)) (refused 3)
-    (cond (not (sumsUp chars)) (refused 4)
+    cond (ltb mostChars (length chars)) (refused paper.tooLong)
+    (cond (not (every isDigit chars)) (refused paper.noDigit)
+    (cond (badCount (length chars)) (refused paper.badCount)
+    (cond (not (sumsUp chars)) (refused paper.badSum)
     (good (commandOf chars) (dataOf chars)))))
 
 -- ended by a colon after this many characters: 2 "a colon broke it", after 1
 unfoldable pub brokenSays : ℕ → Ended
-brokenSays count = cond (ltb mostChars count) (refused 1) (refused 2)
+brokenSays count = cond (ltb mostChars count) (refused paper.tooLong) (refused paper.noDigit)

@@ -10,7 +10,6 @@ ghost use mathlib.Core.Path.{_≡_};
 ghost use lib.ListN.{length};
 
 mod digits;
-mod numbers;
 mod reader;
 mod writer;
 
@@ -51,14 +50,14 @@ pub fn all_digits(chars: &[u8]) -> bool
 pub fn write_frame(command: u8, bytes: &[u8], out: &mut [u8]) -> Written
     ensures { λ r. ⌜ Gives Written (writing command (now (bytes .entry)) (length (now (out .entry)))) (now (out .entry)) r (now (out .exit)) ⌝ }
 {
-    if out.len() < numbers::FRAME_ROOM {
-        return Written::Refused(numbers::SHORT_BUFFER);
+    if out.len() < paper::FRAME_ROOM {
+        return Written::Refused(paper::SHORT_BUFFER);
     }
-    if numbers::MOST_NIBBLE < command {
-        return Written::Refused(numbers::NOT_ALLOWED);
+    if paper::MOST_NIBBLE < command {
+        return Written::Refused(paper::NOT_ALLOWED);
     }
-    if numbers::MOST_DATA < bytes.len() {
-        return Written::Refused(numbers::NOT_ALLOWED);
+    if paper::MOST_DATA < bytes.len() {
+        return Written::Refused(paper::NOT_ALLOWED);
     }
     Written::Frame(writer::put_frame(command, bytes, out))
 }
@@ -68,11 +67,11 @@ pub fn write_frame(command: u8, bytes: &[u8], out: &mut [u8]) -> Written
 pub fn read_frame(frame: &[u8], into: &mut [u8]) -> Read
     ensures { λ r. ⌜ Gives Read (reading (now (frame .entry)) (length (now (into .entry)))) (now (into .entry)) r (now (into .exit)) ⌝ }
 {
-    if into.len() < numbers::MOST_DATA {
-        return Read::Refused(numbers::SHORT_BUFFER);
+    if into.len() < paper::MOST_DATA {
+        return Read::Refused(paper::SHORT_BUFFER);
     }
     if !reader::well_enclosed(frame) {
-        return Read::Refused(numbers::NO_DIGIT);
+        return Read::Refused(paper::NO_DIGIT);
     }
     read_chars(&frame[1..frame.len() - 1], into)
 }
@@ -82,17 +81,17 @@ pub fn read_frame(frame: &[u8], into: &mut [u8]) -> Read
 pub fn read_chars(chars: &[u8], into: &mut [u8]) -> Read
     ensures { λ r. ⌜ Gives Read (readingChars (now (chars .entry)) (length (now (into .entry)))) (now (into .entry)) r (now (into .exit)) ⌝ }
 {
-    if into.len() < numbers::MOST_DATA {
-        return Read::Refused(numbers::SHORT_BUFFER);
+    if into.len() < paper::MOST_DATA {
+        return Read::Refused(paper::SHORT_BUFFER);
     }
-    if numbers::MOST_CHARS < chars.len() {
-        return Read::Refused(numbers::TOO_LONG);
+    if paper::MOST_CHARS < chars.len() {
+        return Read::Refused(paper::TOO_LONG);
     }
     if !reader::all_digits(chars) {
-        return Read::Refused(numbers::NO_DIGIT);
+        return Read::Refused(paper::NO_DIGIT);
     }
     if reader::bad_count(chars.len()) {
-        return Read::Refused(numbers::BAD_COUNT);
+        return Read::Refused(paper::BAD_COUNT);
     }
     reader::read_digits(chars, into)
 }

@@ -11,7 +11,6 @@ ghost use Rattle.wire.specs.Calls.{wellEnclosed, readAs};
 ghost use Rattle.wire.specs.declared.Read.{Read};
 use crate::Read;
 use crate::digits;
-use crate::numbers;
 use crate::writer;
 
 const MOST_PAYLOAD: usize = 36;
@@ -23,7 +22,7 @@ pub(crate) fn well_enclosed(frame: &[u8]) -> bool
     if frame.len() < 2 {
         return false;
     }
-    frame[0] == numbers::COLON && frame[frame.len() - 1] == numbers::NEWLINE
+    frame[0] == paper::COLON && frame[frame.len() - 1] == paper::NEWLINE
 }
 
 // Every character is a digit. There is no early way out, so that the compiler may look at many at a time.
@@ -80,8 +79,8 @@ pub(crate) fn read_digits(chars: &[u8], into: &mut [u8]) -> Read
     let n = chars.len() / 2;
     let payload = payload_of(chars);
     let command = digits::nibble_of(chars[0]);
-    if (command as usize + writer::sum_of(&payload[..n])) % 256 != numbers::TOTAL {
-        return Read::Refused(numbers::BAD_SUM);
+    if (command as usize + writer::sum_of(&payload[..n])) % 256 != paper::TOTAL {
+        return Read::Refused(paper::BAD_SUM);
     }
     copy(&payload[..n - 1], into);
     Read::Frame {

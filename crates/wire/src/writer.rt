@@ -8,7 +8,6 @@ ghost use Rattle.laws.specs.Lists.{sumOf};
 ghost use Rattle.laws.specs.Promise.{overlaid};
 ghost use Rattle.wire.specs.Frame.{frame, check, digitsOf};
 use crate::digits;
-use crate::numbers;
 
 // The sum of some bytes, modulo 256.
 pub(crate) fn sum_of(bytes: &[u8]) -> usize
@@ -28,7 +27,7 @@ fn check_of(command: u8, bytes: &[u8]) -> u8
     ensures { λ r. ⌜ r ≡ check command (now (bytes .entry)) ⌝ }
 {
     let sum = command as usize + sum_of(bytes);
-    ((numbers::TOTAL + (256 - sum % 256)) % 256) as u8
+    ((paper::TOTAL + (256 - sum % 256)) % 256) as u8
 }
 
 // A byte's two digits at a place.
@@ -59,10 +58,10 @@ pub(crate) fn put_frame(command: u8, bytes: &[u8], out: &mut [u8]) -> usize
     ensures { λ r. ⌜ (r ≡ length (frame command (now (bytes .entry)))) × (now (out .exit) ≡ overlaid (frame command (now (bytes .entry))) (now (out .entry))) ⌝ }
 {
     let end = 2 + 2 * bytes.len();
-    out[0] = numbers::COLON;
+    out[0] = paper::COLON;
     out[1] = digits::digit_of(command);
     put_bytes(out, 2, bytes);
     put_byte(out, end, check_of(command, bytes));
-    out[end + 2] = numbers::NEWLINE;
+    out[end + 2] = paper::NEWLINE;
     end + 3
 }

@@ -8,7 +8,7 @@ use lib.Dec.{eqb}
 use lib.ListN.{length, drop}
 use Rattle.laws.proofs.Lists.{before-turn, before-here, before-end}
 use Rattle.laws.specs.Lists.{before}
-use Rattle.wire.specs.Frame.{newline}
+use Rattle.paper.specs.Numbers.{newline}
 use Rattle.backup.proofs.reader.line_len.Statement.{statement}
 use Rattle.backup.proofs.reader.line_len.Tie as tie
 

@@ -1,0 +1,2 @@
+-- The numbers of document 01, in its words.
+pub mod Numbers
