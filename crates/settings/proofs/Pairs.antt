@@ -7,7 +7,7 @@ use borrow.Author.Tests.{leb-true, leb-false, le-leb, eq-eqb, eqb-true}
 use lib.Dec.{leb, eqb}
 use Rattle.laws.proofs.Bools.{and-left, and-right}
 use Rattle.laws.proofs.Lists.{upTo-at}
-use Rattle.settings.specs.Columns.{count, lowAt, highAt, zeroAt, partnerAt, roleAt}
+use Rattle.settings.specs.Columns.{count, lowAt, highAt, zeroAt, partnerAt, placeOf, roleAt}
 use Rattle.settings.specs.Rules.{inRange, lowAgrees, highAgrees, agrees}
 use Rattle.settings.specs.Laws.{opposite}
 use Rattle.settings.specs.declared.columns.Role.{Role}
@@ -92,18 +92,20 @@ same-bool false false e = refl
 
 module _ (k : ℕ) (h : k < count) where
   pub parts-opposite : roleAt (partnerAt k) ≡ opposite (roleAt k)
+  unfolding partnerAt placeOf
   parts-opposite = same-role _ _ (upTo-at count (λ i. eqb (roleNumber (roleAt (partnerAt i))) (roleNumber (opposite (roleAt i)))) refl k h)
 
   pub partner-agrees : (n x : ℕ) → agrees (roleAt k) n x ≡ true → agrees (roleAt (partnerAt k)) x n ≡ true
   partner-agrees n x e = ap (λ (r : Role). agrees r x n) parts-opposite ∙ agrees-opposite (roleAt k) n x ∙ e
 
   pub alone-none : partnerAt k ≡ k → roleAt k ≡ Role.Alone
+  unfolding partnerAt placeOf
   alone-none e =
       same-role (roleAt k) Role.Alone
       (rw (eq-eqb (partnerAt k) k e) at (upTo-at count (λ i. cond (eqb (partnerAt i) i) (eqb (roleNumber (roleAt i)) 0) true) refl k h))
 
   pub same-range : (n : ℕ) → inRange (partnerAt k) n ≡ inRange k n
-  unfolding inRange
+  unfolding inRange partnerAt placeOf
   same-range n =
       let all = upTo-at count (λ i. Bool·beq (zeroAt (partnerAt i)) (zeroAt i) && (eqb (lowAt (partnerAt i)) (lowAt i) && eqb (highAt (partnerAt i)) (highAt i))) refl k h in
       let zeros : zeroAt (partnerAt k) ≡ zeroAt k = same-bool _ _ (and-left (Bool·beq (zeroAt (partnerAt k)) (zeroAt k)) _ all) in

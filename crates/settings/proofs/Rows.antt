@@ -1,14 +1,17 @@
 -- The rules of the table's columns: each is one computed test, carried to every entry. Assumes nothing.
 use mathlib.Core.Path.{_≡_, refl, sym, ap}
 use mathlib.Core.Bool.{Bool, true, false, cond, false≢true}
-use Prim.Native.Nat.{ℕ, suc, _-_, _^_, _≤_, _<_}
+use mathlib.Core.List.{List, [], _∷_}
+use Prim.Native.Nat.{ℕ, zero, suc, _-_, _^_, _≤_, _<_}
+use native.Mathlib.Omega.{arith}
 use native.Mathlib.Nat.{le-of-suc-le-suc}
 use borrow.Author.Tests.{lt-ltb, ltb-true, ltb-false, leb-true, eqb-true}
+use lib.ListN.{length, getD}
 use lib.Dec.{ltb, leb, eqb}
 use Rattle.laws.proofs.Lists.{upTo-at, before-first}
-use Rattle.settings.specs.Columns.{count, ids, idAt, widthAt, lowAt, highAt, factoryAt, partnerAt, roleAt}
+use Rattle.settings.specs.Columns.{count, ids, idAt, widthAt, lowAt, highAt, factoryAt, partnerAt, placeOf, roleAt}
 use Rattle.settings.specs.Rules.{inRange, agrees, lowAgrees, highAgrees}
-use Rattle.settings.specs.Calls.{settingAt, placing, placeOf, finding}
+use Rattle.settings.specs.Calls.{settingAt, placing, finding}
 use Rattle.settings.specs.Laws.{Row, PlaceIsFound, FindIsFound, FoundHasId}
 use Rattle.settings.specs.declared.Setting.{Setting}
 use Rattle.settings.specs.declared.Found.{Found}
@@ -16,9 +19,11 @@ use Rattle.settings.proofs.Pairs.{parts-opposite, alone-none}
 
 module _ (k : ℕ) (h : k < count) where
   pub partner-below : partnerAt k < count
+  unfolding partnerAt placeOf
   partner-below = ltb-true _ _ (upTo-at count (λ i. ltb (partnerAt i) count) refl k h)
 
   pub partner-back : partnerAt (partnerAt k) ≡ k
+  unfolding partnerAt placeOf
   partner-back = eqb-true _ _ (upTo-at count (λ i. eqb (partnerAt (partnerAt i)) i) refl k h)
 
   pub low-high : lowAt k ≤ highAt k
@@ -28,7 +33,7 @@ module _ (k : ℕ) (h : k < count) where
   high-small = ltb-true _ _ (upTo-at count (λ i. ltb (highAt i) 65536) refl k h)
 
   pub row-holds : Row k
-  unfolding inRange agrees lowAgrees highAgrees
+  unfolding inRange agrees lowAgrees highAgrees partnerAt placeOf
   row-holds =
       record {
         id-holds = ltb-true _ _ (upTo-at count (λ i. ltb (idAt i) (256 ^ 2)) refl k h);
@@ -44,6 +49,12 @@ module _ (k : ℕ) (h : k < count) where
         factory-in = upTo-at count (λ i. inRange i (factoryAt i)) refl k h;
         factory-agrees = upTo-at count (λ i. agrees (roleAt i) (factoryAt i) (factoryAt (partnerAt i))) refl k h;
       }
+
+-- past the table a column has nothing
+pub getD-past : (l : List ℕ) (k d : ℕ) → length l ≤ k → getD l k d ≡ d
+getD-past [] k d h = refl
+getD-past (x ∷ l) zero d h = absurd (omega arith)
+getD-past (x ∷ l) (suc k) d h = getD-past l k d (le-of-suc-le-suc h)
 
 -- a look-up finds each setting, and only by its id
 pub placed : (k : ℕ) → k < count → placeOf (idAt k) ≡ k

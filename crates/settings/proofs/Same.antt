@@ -4,10 +4,12 @@ use mathlib.Core.Bool.{Bool}
 use mathlib.Core.List.{List}
 use Prim.Native.Nat.{ℕ}
 use Rattle.laws.proofs.Promise.{equal-same}
+use Rattle.settings.specs.declared.Setting.{Setting}
 use Rattle.settings.specs.declared.Found.{Found}
 use Rattle.settings.specs.declared.Number.{Number}
 use Rattle.settings.proofs.find.Reads as find
 use Rattle.settings.proofs.at.Reads as at
+use Rattle.settings.proofs.setting_at.Reads as setting-at
 use Rattle.settings.proofs.in_range.Reads as in-range
 use Rattle.settings.proofs.allows.Reads as allows
 use Rattle.settings.proofs.nearest.Reads as nearest
@@ -19,6 +21,9 @@ find-same id r r′ met met′ = equal-same met met′
 
 pub at-same : (index : ℕ) (r r′ : Found) → at.Post tt (index, tt) r (index, tt) → at.Post tt (index, tt) r′ (index, tt) → r ≡ r′
 at-same index r r′ met met′ = equal-same met met′
+
+pub setting-at-same : (index : ℕ) (r r′ : Setting) → setting-at.Post tt (index, tt) r (index, tt) → setting-at.Post tt (index, tt) r′ (index, tt) → r ≡ r′
+setting-at-same index r r′ met met′ = equal-same met met′
 
 pub nearest-same : (id wished partner : ℕ) (r r′ : Number) → nearest.Post tt (id, (wished, (partner, tt))) r (id, (wished, (partner, tt)))
     → nearest.Post tt (id, (wished, (partner, tt))) r′ (id, (wished, (partner, tt))) → r ≡ r′

@@ -3,8 +3,7 @@ use Prim.Native.Nat.{ℕ}
 use mathlib.Core.Bool.{Bool, cond, _&&_, _||_}
 use lib.Dec.{ltb, eqb}
 use Rattle.paper.specs.Numbers.{unknownId, notAllowed}
-use Rattle.laws.specs.Lists.{before}
-use Rattle.settings.specs.Columns.{count, ids, idAt, widthAt, partnerAt}
+use Rattle.settings.specs.Columns.{count, idAt, widthAt, partnerAt, placeOf}
 use Rattle.settings.specs.Rules.{inRange, allowedFor, nearestOf}
 use Rattle.settings.specs.declared.Setting.{Setting}
 use Rattle.settings.specs.declared.Found.{Found}
@@ -16,10 +15,6 @@ settingAt k = record { index = k; id = idAt k; width = widthAt k; partner = part
 
 unfoldable pub placing : ℕ → Found
 placing k = cond (ltb k count) (Found.At (settingAt k)) Found.Nothing
-
--- the place of an id: where it comes first, or past the table
-unfoldable pub placeOf : ℕ → ℕ
-placeOf id = before (λ x. eqb x id) ids
 
 unfoldable pub finding : ℕ → Found
 finding id = placing (placeOf id)

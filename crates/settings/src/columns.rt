@@ -2,8 +2,7 @@
 // every look-up of an id, a width, an end, a factory number or a partner comes here.
 ghost use Prim.Native.Nat.{_<_};
 ghost use mathlib.Core.Path.{_≡_};
-ghost use Rattle.settings.specs.Columns.{count, idAt, widthAt, lowAt, highAt, zeroAt, partnerAt, roleAt, lows, highs, zeros, partners, roles, firsts};
-ghost use Rattle.settings.specs.Calls.{placeOf};
+ghost use Rattle.settings.specs.Columns.{count, idAt, widthAt, lowAt, highAt, zeroAt, partnerAt, roleAt, lows, highs, zeros, roles, placeOf};
 use crate::COUNT;
 
 // A setting's part in its pair.
@@ -190,34 +189,34 @@ pub(crate) const FACTORIES: [u16; COUNT] = [
     5, // EEFE
 ];
 
-// A setting alone is its own partner.
-const PARTNERS: [usize; COUNT] = [
-    1, // 0320
-    0, // 0321
-    3, // 0322
-    2, // 0323
-    5, // 0328
-    4, // 0329
-    7, // 032A
-    6, // 032B
-    9, // 032C
-    8, // 032D
-    10, // 0400
-    11, // 1000
-    12, // 1001
-    13, // 1002
-    14, // 1003
-    15, // 1004
-    16, // 1005
-    17, // 1006
-    18, // 1007
-    20, // 1008
-    19, // 1009
-    21, // EEF5
-    22, // EEF7
-    23, // EEFB
-    24, // EEFC
-    25, // EEFE
+// The other one of its pair, by its id: a new row renumbers nothing. A setting alone has its own.
+const PARTNERS: [u16; COUNT] = [
+    0x0321, // 0320
+    0x0320, // 0321
+    0x0323, // 0322
+    0x0322, // 0323
+    0x0329, // 0328
+    0x0328, // 0329
+    0x032B, // 032A
+    0x032A, // 032B
+    0x032D, // 032C
+    0x032C, // 032D
+    0x0400, // 0400
+    0x1000, // 1000
+    0x1001, // 1001
+    0x1002, // 1002
+    0x1003, // 1003
+    0x1004, // 1004
+    0x1005, // 1005
+    0x1006, // 1006
+    0x1007, // 1007
+    0x1009, // 1008
+    0x1008, // 1009
+    0xEEF5, // EEF5
+    0xEEF7, // EEF7
+    0xEEFB, // EEFB
+    0xEEFC, // EEFC
+    0xEEFE, // EEFE
 ];
 
 const ROLES: [Role; COUNT] = [
@@ -247,18 +246,6 @@ const ROLES: [Role; COUNT] = [
     Role::Alone, // EEFB
     Role::Alone, // EEFC
     Role::Alone, // EEFE
-];
-
-// The pairs, by the place of the first of each.
-pub(crate) const PAIRS: usize = 6;
-
-const FIRSTS: [usize; PAIRS] = [
-    0, // 0320
-    2, // 0322
-    4, // 0328
-    6, // 032A
-    8, // 032C
-    19, // 1008
 ];
 
 pub(crate) fn id_of(index: usize) -> u16
@@ -300,7 +287,7 @@ pub(crate) fn partner_of(index: usize) -> usize
     requires { ⌜ index < count ⌝ }
     ensures { λ r. ⌜ r ≡ partnerAt index ⌝ }
 {
-    PARTNERS[index]
+    place_of(PARTNERS[index])
 }
 
 pub(crate) fn role_of(index: usize) -> Role
@@ -343,20 +330,8 @@ pub(crate) fn zeros() -> [bool; COUNT]
     ZEROS
 }
 
-pub(crate) fn partners() -> [usize; COUNT]
-    ensures { λ r. ⌜ r ≡ partners ⌝ }
-{
-    PARTNERS
-}
-
 pub(crate) fn roles() -> [Role; COUNT]
     ensures { λ r. ⌜ r ≡ roles ⌝ }
 {
     ROLES
-}
-
-pub(crate) fn firsts() -> [usize; PAIRS]
-    ensures { λ r. ⌜ r ≡ firsts ⌝ }
-{
-    FIRSTS
 }

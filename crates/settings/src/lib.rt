@@ -3,7 +3,7 @@
 ghost use mathlib.Core.Path.{_≡_};
 ghost use Rattle.settings.specs.Columns.{factories};
 ghost use Rattle.settings.specs.Rules.{allAllowed};
-ghost use Rattle.settings.specs.Calls.{finding, placing, ranging, allowing, nearing};
+ghost use Rattle.settings.specs.Calls.{finding, placing, settingAt, ranging, allowing, nearing};
 
 mod columns;
 mod rules;
@@ -39,19 +39,35 @@ pub fn find(id: u16) -> Found
     at(columns::place_of(id))
 }
 
-// The setting at a place of the table.
+// The setting at a place of the table, or none past it.
 pub fn at(index: usize) -> Found
     ensures { λ r. ⌜ r ≡ placing index ⌝ }
 {
     if COUNT <= index {
         return Found::Nothing;
     }
-    Found::At(Setting {
+    Found::At(setting_at(index))
+}
+
+// The setting at a place of the table, for a caller who knows that there is one. Past the table it is one with neither id nor width, whose
+// partner is past the table too.
+pub fn setting_at(index: usize) -> Setting
+    ensures { λ r. ⌜ r ≡ settingAt index ⌝ }
+{
+    if COUNT <= index {
+        return Setting {
+            index,
+            id: 0,
+            width: 0,
+            partner: COUNT,
+        };
+    }
+    Setting {
         index,
         id: columns::id_of(index),
         width: columns::width_of(index),
         partner: columns::partner_of(index),
-    })
+    }
 }
 
 // Whether a number is in the own range of the setting at a place; of none past the table.

@@ -3,7 +3,7 @@ ghost use Prim.Native.Nat.{_<_};
 ghost use mathlib.Core.Path.{_≡_};
 ghost use lib.ListN.{getD};
 ghost use Rattle.laws.specs.Lists.{upTo};
-ghost use Rattle.settings.specs.Columns.{count, partnerAt, roleAt};
+ghost use Rattle.settings.specs.Columns.{count, partnerAt, roleAt, isSecond};
 ghost use Rattle.settings.specs.Rules.{inWindow, inRange, lowAgrees, highAgrees, agrees, allowedFor};
 ghost use Rattle.settings.specs.Calls.{partnerFits};
 use crate::COUNT;
@@ -90,19 +90,30 @@ pub(crate) fn all_in_range(numbers: [u16; COUNT]) -> bool
     all
 }
 
-// Every number agrees with its partner's. The first of each pair is asked: the second agrees when it does.
+// The second of a pair.
+fn is_second(role: Role) -> bool
+    ensures { λ r. ⌜ r ≡ isSecond role ⌝ }
+{
+    match role {
+        Role::Alone => false,
+        Role::LowFirst => false,
+        Role::LowSecond => true,
+        Role::HighFirst => false,
+        Role::HighSecond => true,
+    }
+}
+
+// Every number agrees with its partner's. The two of a pair are neighbours: the first is asked about the number after it, and the second
+// agrees when it does.
 pub(crate) fn all_agree(numbers: [u16; COUNT]) -> bool
     ensures { λ r. ⌜ r ≡ upTo count (λ k. agrees (roleAt k) (getD numbers k 0) (getD numbers (partnerAt k) 0)) ⌝ }
 {
-    let firsts = columns::firsts();
-    let partners = columns::partners();
     let roles = columns::roles();
     let mut all = true;
     let mut i = 0;
-    while i < columns::PAIRS {
-        let first = firsts[i];
-        let second = partners[first];
-        all = all & agrees_by(roles[first], numbers[first], numbers[second]);
+    while i + 1 < COUNT {
+        let role = roles[i];
+        all = all & (is_second(role) | agrees_by(role, numbers[i], numbers[i + 1]));
         i += 1;
     }
     all

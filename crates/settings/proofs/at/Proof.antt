@@ -1,5 +1,5 @@
 -- `settings::at` meets its contract. Assumes nothing.
-use native.Mathlib.Omega.{arith}
+use borrow.Author.Needs.{needs}
 use borrow.Author.Tests.{lt-ltb, le-ltb}
 use Rattle.settings.specs.Columns.{count}
 use Rattle.settings.specs.Calls.{placing}
@@ -10,22 +10,12 @@ returns : tie.Need-returns
 unfolding placing
 returns c = simp (le-ltb _ count (c .if1 .taken))
 
-id-of-requires : tie.Need-id-of-requires
-id-of-requires c κs = omega arith
-
-width-of-requires : tie.Need-width-of-requires
-width-of-requires c κs = omega arith
-
-partner-of-requires : tie.Need-partner-of-requires
-partner-of-requires c κs = omega arith
+setting-at-requires : tie.Need-setting-at-requires
+setting-at-requires c κs = search needs
 
 returns-2 : tie.Need-returns-2
 unfolding placing
-returns-2 c =
-    rw (c .before .before .id-of .ensures, c .before .width-of .ensures, c .partner-of .ensures, lt-ltb _ count (c .before .before .before .if1 .left))
+returns-2 c = rw (c .setting-at .ensures, lt-ltb _ count (c .before .if1 .left))
 
 pub at-spec : {M : Type 1} → statement M
-at-spec =
-    tie.close
-    (tie.spec
-    returns id-of-requires width-of-requires partner-of-requires returns-2)
+at-spec = tie.close (tie.spec returns setting-at-requires returns-2)

@@ -8,7 +8,7 @@ use lib.Dec.{eqb}
 use Rattle.laws.specs.Lists.{before}
 use Rattle.laws.proofs.Lists.{before-turn, before-here, before-end}
 use Rattle.settings.specs.Columns.{count, ids}
-use Rattle.settings.specs.Calls.{placeOf}
+use Rattle.settings.specs.Columns.{placeOf}
 use Rattle.settings.proofs.columns.place_of.Statement.{statement}
 use Rattle.settings.proofs.columns.place_of.Tie as tie
 
