@@ -20,7 +20,8 @@ use Rattle.wire.proofs.Frames.{length-frame}
 use Rattle.wire.proofs.Theorems.{read-is-written}
 use Rattle.settings.specs.Columns.{count, widthAt}
 use Rattle.settings.specs.Rules.{nearestOf}
-use Rattle.settings.specs.Calls.{placeOf, partnerFits, nearing}
+use Rattle.settings.specs.Columns.{placeOf}
+use Rattle.settings.specs.Calls.{partnerFits, nearing}
 use Rattle.settings.specs.declared.Number.{Number}
 use Rattle.settings.proofs.Theorems.{nearest-is-found, allowed-has-room, rows-hold}
 use Rattle.firmware.specs.Calls.{half, refusalPacked, writtenPacked, readPacked, numberPacked, packed}

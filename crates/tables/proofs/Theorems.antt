@@ -1,6 +1,9 @@
 -- The statements of specs/Laws.antt, proved. Assumes nothing.
-use mathlib.Core.Path.{refl}
-use Rattle.settings.specs.Rules.{inRange, lowAgrees, highAgrees, agrees, allowedFor, allAllowed}
+use Rattle.laws.proofs.Lists.{upTo-all}
+use Rattle.settings.specs.Columns.{count}
+use Rattle.settings.specs.Rules.{allAllowed}
+use Rattle.settings.proofs.Windows.{allowed-both}
+use Rattle.settings.proofs.Theorems.{rows-hold}
 use Rattle.tables.specs.Rules.{allowed}
 use Rattle.tables.specs.Laws.{SetStores, RefusedNamesNearest, SetKeepsAllowed, RefusedKeeps, SetKeepsCount, SetChangesOne, FactoryIsAllowed, PairsHaveAnOrder}
 use Rattle.tables.proofs.Tables.{set-stores, refused-names, set-allowed, refused-keeps, set-count, set-one, pairs-order}
@@ -24,8 +27,8 @@ pub set-changes-one : SetChangesOne
 set-changes-one = set-one
 
 pub factory-is-allowed : FactoryIsAllowed
-unfolding allowed allAllowed allowedFor inRange agrees lowAgrees highAgrees
-factory-is-allowed = refl
+unfolding allowed allAllowed
+factory-is-allowed = upTo-all count _ (λ k h. allowed-both k _ _ (rows-hold k h .factory-in) (rows-hold k h .factory-agrees))
 
 pub pairs-have-an-order : PairsHaveAnOrder
 pairs-have-an-order = pairs-order
