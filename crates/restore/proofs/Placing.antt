@@ -11,7 +11,7 @@ use lib.ListN.{length, getD}
 use lib.Dec.{ltb, leb, eqb}
 use Rattle.laws.specs.Lists.{every}
 use Rattle.laws.proofs.Bools.{and-left, and-right, both}
-use Rattle.laws.proofs.Lists.{every-at, upTo-at}
+use Rattle.laws.proofs.Lists.{every-at}
 use Rattle.settings.specs.Columns.{count, partnerAt, roleAt}
 use Rattle.settings.specs.Rules.{agrees}
 use Rattle.tables.specs.Rules.{numberAt}
@@ -20,22 +20,12 @@ use Rattle.settings.proofs.Theorems.{rows-hold}
 use Rattle.restore.specs.Order.{differs, higherFirst, exchanged, placed, turnsFrom, order}
 use Rattle.restore.specs.Laws.{times, OneForEach, NoOther, goesFirst, InOrder}
 
--- the two of a pair are neighbours
-near : (k : ℕ) → k < count → (leb (partnerAt k) (suc k) && leb k (suc (partnerAt k))) ≡ true
-near k h = upTo-at count (λ i. leb (partnerAt i) (suc i) && leb i (suc (partnerAt i))) refl k h
-
 module _ (k : ℕ) (h : k < count) where
   partner-below : partnerAt k < count
   partner-below = rows-hold k h .partner-is
 
   partner-back : partnerAt (partnerAt k) ≡ k
   partner-back = rows-hold k h .partner-back
-
-  near-above : partnerAt k ≤ suc k
-  near-above = leb-true _ _ (and-left (leb (partnerAt k) (suc k)) _ (near k h))
-
-  near-below : k ≤ suc (partnerAt k)
-  near-below = leb-true _ _ (and-right (leb (partnerAt k) (suc k)) _ (near k h))
 
 pub not-flip : (a b : Bool) → not a ≡ b → a ≡ not b
 not-flip true true e = sym e
@@ -239,8 +229,8 @@ module _ (from to : Table) where
       where
         crossed : b < a → (s t : Bool) → exchanged from to a ≡ s → exchanged from to b ≡ t → ⊥
         crossed more s t e f =
-            let up : partnerAt b ≤ suc b = near-above b below′ in
-            let down : a ≤ suc (partnerAt a) = near-below a below in
+            let up : partnerAt b ≤ suc b = rows-hold b below′ .partner-near .0 in
+            let down : a ≤ suc (partnerAt a) = rows-hold a below .partner-near .1 in
             apart (pinched (partnerAt a) (partnerAt b) a b (placed from to a) (placed from to b) more up down (in-pair a s e) (in-pair b t f) less)
 
         by : (s t : Bool) → ltb a b ≡ s → ltb b a ≡ t → a < b

@@ -40,6 +40,7 @@ module _ (k : ℕ) (h : k < count) where
         ascends = λ more. ltb-true _ _ (upTo-at (count - 1) (λ i. ltb (idAt i) (idAt (suc i))) refl k (le-of-suc-le-suc more));
         partner-is = partner-below;
         partner-back = partner-back;
+        partner-near = (leb-true _ _ (upTo-at count (λ i. leb (partnerAt i) (suc i)) refl k h), leb-true _ _ (upTo-at count (λ i. leb i (suc (partnerAt i))) refl k h));
         parts-opposite = parts-opposite k h;
         alone-none = alone-none k h;
         range-some = low-high;

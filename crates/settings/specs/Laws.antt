@@ -25,7 +25,7 @@ abbrev pub NearestIsAnswered : Type 0
 NearestIsAnswered =
     (k wished partner : ℕ) → k < count → partnerFits k partner ≡ true → nearing (idAt k) wished partner ≡ Number.Is (nearestOf k wished partner)
 
--- 2. The columns, at every entry: the two of a pair have opposite parts in it, and a setting alone has none. That the const arrays of
+-- 2. The columns, at every entry: the two of a pair are neighbours with opposite parts in it, and a setting alone has none. That the const arrays of
 -- src/columns.rt have the same entries is what their readers there promise.
 abbrev pub opposite : Role → Role
 opposite Role.Alone = Role.Alone
@@ -39,6 +39,7 @@ pub record Row (k : ℕ) : Type 0 where
   pub ascends : suc k < count → idAt k < idAt (suc k)
   pub partner-is : partnerAt k < count
   pub partner-back : partnerAt (partnerAt k) ≡ k
+  pub partner-near : (partnerAt k ≤ suc k) × (k ≤ suc (partnerAt k))
   pub parts-opposite : roleAt (partnerAt k) ≡ opposite (roleAt k)
   pub alone-none : partnerAt k ≡ k → roleAt k ≡ Role.Alone
   pub range-some : lowAt k ≤ highAt k
