@@ -1,7 +1,7 @@
 // The stream of document 01, read piece by piece, for both ends of the line. Every call takes anything, and its promise fixes its answer
 // and every lent byte (specs/Calls.antt).
 ghost use Rattle.laws.specs.Promise.{Gives};
-ghost use Rattle.stream.specs.Calls.{hearing, heldOf};
+ghost use Rattle.stream.specs.Calls.{hearing, heldOf, allowed};
 ghost use Rattle.stream.specs.Stream.{outside};
 ghost use Rattle.stream.specs.declared.Heard.{Heard};
 ghost use mathlib.Core.Path.{_≡_};
@@ -43,6 +43,13 @@ impl Held {
             len: 0,
             chars: [0u8; numbers::MOST_HELD],
         }
+    }
+
+    // Whether some bytes leave this state.
+    pub fn is_allowed(self) -> bool
+        ensures { λ r. ⌜ r ≡ allowed self ⌝ }
+    {
+        unfinished::is_allowed(self)
     }
 
     // Reads on in the stream: stops after the first byte that ends a frame, or takes the whole piece. Refuses 11 under 35 bytes of
