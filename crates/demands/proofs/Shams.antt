@@ -10,7 +10,7 @@ use Rattle.laws.specs.Lists.{same}
 use Rattle.laws.specs.Promise.{overlaid, Given}
 use Rattle.wire.specs.Digits.{digit, nibble}
 use Rattle.wire.specs.Frame.{check, body, frame}
-use Rattle.wire.specs.Numbers.{little}
+use Rattle.endian.specs.Numbers.{little}
 use Rattle.wire.specs.Reading.{bodySays}
 use Rattle.stream.specs.Stream.{outside, taken}
 use Rattle.stream.specs.Calls.{noChars, heldOf, unfinished, hearing}

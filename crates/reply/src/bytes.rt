@@ -1,7 +1,7 @@
 // Numbers from their bytes, the low one first.
 ghost use mathlib.Core.Path.{_≡_};
 ghost use lib.ListN.{length};
-ghost use Rattle.wire.specs.Numbers.{fromLittle, signed};
+ghost use Rattle.endian.specs.Numbers.{fromLittle, signed};
 use crate::numbers;
 
 // The number of two bytes.

@@ -1,7 +1,7 @@
 // Readings in their units: the exact whole number, divided once. A value of another width is refused.
 ghost use mathlib.Core.Path.{_≡_};
 ghost use lib.ListN.{length};
-ghost use Rattle.wire.specs.Numbers.{fromLittle, signed};
+ghost use Rattle.endian.specs.Numbers.{fromLittle, signed};
 ghost use Rattle.reply.specs.Units.{over, inVolts, inAmperes, inFineAmperes, inAmpHours, inPercent};
 use crate::Shown;
 use crate::bytes;

@@ -10,14 +10,14 @@ use lib.Dec.{ltb, eqb}
 use Rattle.laws.specs.Promise.{Gives}
 use Rattle.paper.specs.Numbers.{frameRoom, shortBuffer, notAllowed, getCode, setCode}
 use Rattle.wire.specs.Frame.{frame}
-use Rattle.wire.specs.Numbers.{little}
+use Rattle.endian.specs.Numbers.{little}
 use Rattle.wire.specs.Calls.{unwritten, writtenAs, writing}
 use Rattle.wire.specs.declared.Written.{Written}
 use Rattle.settings.specs.Columns.{count, idAt, widthAt}
 use Rattle.settings.specs.Calls.{settingAt, placing}
 use Rattle.settings.specs.declared.Setting.{Setting}
 use Rattle.settings.specs.declared.Found.{Found}
-use Rattle.wire.proofs.Little.{length-little}
+use Rattle.endian.proofs.Little.{length-little}
 use Rattle.answers.specs.Answers.{said}
 use Rattle.requests.specs.Calls.{getWritten, setOf, setWritten}
 use Rattle.requests.specs.Laws.{SetIsRequest}

@@ -1,7 +1,7 @@
 // The read-only values, as the bytes that a Get answers.
 ghost use mathlib.Core.Path.{_≡_};
 ghost use mathlib.Core.Bool.{true};
-ghost use Rattle.wire.specs.Numbers.{little, complement};
+ghost use Rattle.endian.specs.Numbers.{little, complement};
 ghost use Rattle.who.specs.Parts.{identityAllowed};
 ghost use Rattle.who.specs.Values.{productValue, serialValue, readOnly};
 ghost use Rattle.who.specs.Calls.{valueOf, noValue, lookedOf};

@@ -1,19 +1,15 @@
 -- Numbers as bytes: how many there are, and that they are bytes. Assumes nothing.
 use mathlib.Core.Path.{_≡_, refl, ap}
 use mathlib.Core.Logic.{_≢_}
-use mathlib.Core.Bool.{Bool, true}
+use mathlib.Core.Bool.{true}
 use mathlib.Core.List.{List, [], _∷_}
 use Prim.Native.Nat.{ℕ, zero, suc, _+_, _*_, _≤_, _<_, _/_, _%_}
 use native.Mathlib.Omega.{arith}
 use borrow.Author.Tests.{lt-ltb}
-use lib.Dec.{ltb}
 use lib.ListN.{length, getD}
-use Rattle.laws.specs.Lists.{every}
+use Rattle.laws.specs.Lists.{every, byte}
 use Rattle.laws.proofs.Bools.{both}
-use Rattle.wire.specs.Numbers.{little, fromLittle}
-
-abbrev pub byte : ℕ → Bool
-byte b = ltb b 256
+use Rattle.endian.specs.Numbers.{little, fromLittle}
 
 pub length-little : (width n : ℕ) → length (little width n) ≡ width
 length-little zero n = refl
