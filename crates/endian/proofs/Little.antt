@@ -6,7 +6,7 @@ use mathlib.Core.List.{List, [], _∷_}
 use Prim.Native.Nat.{ℕ, zero, suc, _+_, _*_, _≤_, _<_, _/_, _%_}
 use native.Mathlib.Omega.{arith}
 use borrow.Author.Tests.{lt-ltb}
-use lib.ListN.{length, getD}
+use lib.ListN.{length, getD, take}
 use Rattle.laws.specs.Lists.{every, byte}
 use Rattle.laws.proofs.Bools.{both}
 use Rattle.endian.specs.Numbers.{little, fromLittle}
@@ -30,3 +30,16 @@ two-number [] least few other = absurd (omega arith)
 two-number (a ∷ []) least few other = absurd (other refl)
 two-number (a ∷ b ∷ []) least few other = omega arith
 two-number (a ∷ b ∷ c ∷ l) least few other = absurd (omega arith)
+
+-- the first two bytes and the first four as a number, where those that are missing count as 0
+pub two-first : (l : List ℕ) → getD l 0 0 + 256 * getD l 1 0 ≡ fromLittle (take 2 l)
+two-first [] = refl
+two-first (a ∷ []) = refl
+two-first (a ∷ b ∷ l) = omega arith
+
+pub four-first : (l : List ℕ) → getD l 0 0 + 256 * (getD l 1 0 + 256 * (getD l 2 0 + 256 * getD l 3 0)) ≡ fromLittle (take 4 l)
+four-first [] = refl
+four-first (a ∷ []) = refl
+four-first (a ∷ b ∷ []) = refl
+four-first (a ∷ b ∷ c ∷ []) = refl
+four-first (a ∷ b ∷ c ∷ d ∷ l) = omega arith

@@ -1,6 +1,6 @@
 -- The statements of specs/Laws.antt, proved. Assumes nothing.
 use Rattle.endian.specs.Laws.{LittleIsRead, ReadIsLittle, ComplementIsRead}
-use Rattle.endian.proofs.Signs.{little-read, read-little, complement-read}
+use Rattle.endian.proofs.RoundTrip.{little-read, read-little, complement-read}
 
 pub little-is-read : LittleIsRead
 little-is-read = little-read
