@@ -7,17 +7,18 @@ use Prim.Native.Nat.{ℕ, zero, suc, _+_, _*_, _≤_, _<_, _/_, _%_}
 use native.Mathlib.Omega.{arith}
 use borrow.Author.Tests.{lt-ltb}
 use lib.ListN.{length, getD, take}
+use lib.Seq.{take-all}
 use Rattle.laws.specs.Lists.{every, byte}
 use Rattle.laws.proofs.Bools.{both}
 use Rattle.endian.specs.Numbers.{little, fromLittle}
 
 pub length-little : (width n : ℕ) → length (little width n) ≡ width
 length-little zero n = refl
-length-little (suc width) n = ap suc (length-little width (n / 256))
+length-little (suc width) n = ap suc (length-little width _)
 
 pub bytes-little : (width n : ℕ) → every byte (little width n) ≡ true
 bytes-little zero n = refl
-bytes-little (suc width) n = let low : n % 256 < 256 = omega arith in both _ _ (lt-ltb (n % 256) 256 low) (bytes-little width (n / 256))
+bytes-little (suc width) n = let low : n % 256 < 256 = omega arith in both _ _ (lt-ltb (n % 256) 256 low) (bytes-little width _)
 
 -- one byte or two as a number
 pub one-number : (l : List ℕ) → length l ≡ 1 → getD l 0 0 ≡ fromLittle l
@@ -30,6 +31,10 @@ two-number [] least few other = absurd (omega arith)
 two-number (a ∷ []) least few other = absurd (other refl)
 two-number (a ∷ b ∷ []) least few other = omega arith
 two-number (a ∷ b ∷ c ∷ l) least few other = absurd (omega arith)
+
+-- the first bytes are all of them, where there are no more
+pub all-first : (width : ℕ) (l : List ℕ) → length l ≤ width → fromLittle (take width l) ≡ fromLittle l
+all-first width l h = ap fromLittle (take-all width l h)
 
 -- the first two bytes and the first four as a number, where those that are missing count as 0
 pub two-first : (l : List ℕ) → getD l 0 0 + 256 * getD l 1 0 ≡ fromLittle (take 2 l)

@@ -5,7 +5,7 @@ use Prim.Native.Nat.{ℕ, _+_, _≤_}
 use native.Mathlib.Nat.{zero-add}
 use native.Mathlib.Omega.{arith}
 use lib.ListN.{length, take, drop}
-use lib.Seq.{sets, sets-eq, take-append-seam}
+use lib.Seq.{sets, sets-eq, take-append-seam, take-length}
 use Rattle.laws.specs.Promise.{overlaid, Given, Gives}
 
 -- a run of stores from the front on overlays the buffer
@@ -20,6 +20,11 @@ pub sets-front : (written buffer : List ℕ) → length written ≤ length buffe
 sets-front written buffer h =
     let fits : 0 + length written ≤ length buffer = omega arith in
     rw (sets-eq written buffer 0 fits) (take-append-seam written _)
+
+-- what is copied to the front of a buffer overlays it
+pub copied : (from into : List ℕ) {last : List ℕ} → last ≡ take (length from) from ++ drop (length from) into → last ≡ overlaid from into
+unfolding overlaid
+copied from into e = rw (take-length from) at e
 
 -- a promise is met by the answer that it gives, with its bytes written; where it writes none, the buffer stays as it was
 pub gives-bytes : {A : Type 0} {given : Given A} {buffer : List ℕ} (r : A) (bytes l : List ℕ) → given ≡ record { answer = r; written = bytes } → l ≡ overlaid bytes buffer → Gives A given buffer r l
