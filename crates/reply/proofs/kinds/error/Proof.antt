@@ -1,7 +1,7 @@
 -- `reply::kinds::error` meets its contract. Assumes nothing.
 use mathlib.Core.Path.{sym, _∙_}
 use borrow.Author.Tests.{eq-eqb, ne-eqb}
-use native.Mathlib.Omega.{arith}
+use native.Mathlib.Nat.{le-of-eq}
 use Rattle.endian.proofs.Little.{all-first}
 use Rattle.reply.specs.Replies.{numbering}
 use borrow.Author.Needs.{needs}
@@ -20,7 +20,7 @@ read-16-requires c κs = search needs
 
 returns-2 : tie.Need-returns-2
 unfolding numbering
-returns-2 c = rw (eq-eqb _ 2 (c .before .if1 .left), c .read-16 .ensures, all-first 2 _ (omega (arith, c .before .if1 .left)))
+returns-2 c = rw (eq-eqb _ 2 (c .before .if1 .left), c .read-16 .ensures, all-first 2 _ (le-of-eq (c .before .if1 .left)))
 
 pub error-spec : {M : Type 1} → statement M
 error-spec = tie.close (tie.spec malformed-requires returns read-16-requires returns-2)

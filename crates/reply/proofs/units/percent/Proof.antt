@@ -1,7 +1,7 @@
 -- `reply::units::percent` meets its contract. Assumes nothing.
 use mathlib.Core.Path.{sym, _∙_}
 use borrow.Author.Tests.{eq-eqb, ne-eqb}
-use native.Mathlib.Omega.{arith}
+use native.Mathlib.Nat.{le-of-eq}
 use Rattle.endian.proofs.Little.{all-first}
 use Rattle.reply.specs.Units.{inPercent, over}
 use borrow.Author.Needs.{needs}
@@ -26,7 +26,7 @@ int-to-float-t6 c = search needs
 
 returns-2 : tie.Need-returns-2
 unfolding inPercent over
-returns-2 c = rw (eq-eqb _ 2 (c .before .before .if1 .left), c .before .read-16 .ensures, all-first 2 _ (omega (arith, c .before .before .if1 .left)))
+returns-2 c = rw (eq-eqb _ 2 (c .before .before .if1 .left), c .before .read-16 .ensures, all-first 2 _ (le-of-eq (c .before .before .if1 .left)))
 
 pub percent-spec : {M : Type 1} → statement M
 percent-spec =
