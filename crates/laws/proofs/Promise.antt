@@ -15,11 +15,14 @@ overlaid-sets written buffer h =
     let fits : 0 + length written ≤ length buffer = omega arith in
     sets-eq written buffer 0 fits ∙ ap (λ (k : ℕ). written ++ drop k buffer) (zero-add (length written))
 
--- and what is at the front is what was stored
+-- and what is at the front is what was written
+pub overlaid-front : (written buffer : List ℕ) → take (length written) (overlaid written buffer) ≡ written
+unfolding overlaid
+overlaid-front written buffer = take-append-seam written _
+
+-- the same of stores
 pub sets-front : (written buffer : List ℕ) → length written ≤ length buffer → take (length written) (sets buffer 0 written) ≡ written
-sets-front written buffer h =
-    let fits : 0 + length written ≤ length buffer = omega arith in
-    rw (sets-eq written buffer 0 fits) (take-append-seam written _)
+sets-front written buffer h = rw (overlaid-sets written buffer h) (overlaid-front written buffer)
 
 -- what is copied to the front of a buffer overlays it
 pub copied : (from into : List ℕ) {last : List ℕ} → last ≡ take (length from) from ++ drop (length from) into → last ≡ overlaid from into

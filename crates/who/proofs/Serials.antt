@@ -9,7 +9,7 @@ use lib.ListN.{length, take, drop, length-take}
 use Rattle.laws.specs.Lists.{every}
 use Rattle.laws.specs.Promise.{frontOf}
 use Rattle.laws.proofs.Bools.{and-left, and-right, both}
-use Rattle.laws.proofs.Fronts.{front-back}
+use Rattle.laws.proofs.Fronts.{front-again}
 use Rattle.paper.specs.Numbers.{mostSerial}
 use Rattle.who.specs.Parts.{printed, serialFits, identityOf, serialOf, identityAllowed}
 use Rattle.who.specs.declared.Identity.{Identity}
@@ -27,7 +27,7 @@ module _ (identity : Identity) (long : length (identity .serial) ≡ 32) (ok : i
   size = let less : identity .len ≤ 32 = serial-within identity ok in length-take (identity .len) (identity .serial) ∙ omega (arith, long)
 
   pub serial-alone : frontOf mostSerial (take (identity .len) (identity .serial)) ≡ identity .serial
-  serial-alone = front-back mostSerial (identity .len) (identity .serial) long (serial-within identity ok) zeros-behind
+  serial-alone = front-again mostSerial (identity .len) (identity .serial) long (serial-within identity ok) zeros-behind
 
   -- so the identity is that of its serial, which fits
   pub identity-back : identityOf (identity .product) (identity .version) (serialOf identity) ≡ identity
