@@ -4,8 +4,8 @@ use mathlib.Core.List.{[]}
 use Prim.Native.Nat.{ℕ, zero, suc, _^_, _≤_, _<_}
 use native.Mathlib.Omega.{arith}
 use lib.ListN.{length}
-use Rattle.wire.proofs.Little.{length-little}
-use Rattle.wire.proofs.Theorems.{little-is-read}
+use Rattle.endian.proofs.Little.{length-little}
+use Rattle.endian.proofs.Theorems.{little-is-read}
 use Rattle.settings.specs.Columns.{count, idAt, widthAt}
 use Rattle.tables.specs.Rules.{partnerNumber}
 use Rattle.settings.specs.Calls.{settingAt}
@@ -13,7 +13,7 @@ use Rattle.tables.specs.declared.Table.{Table}
 use Rattle.settings.proofs.Theorems.{rows-hold, find-is-found, allowed-has-room}
 use Rattle.tables.proofs.Theorems.{refused-names-nearest}
 use Rattle.tables.proofs.Tables.{set-accepted}
-use Rattle.wire.specs.Numbers.{little, fromLittle}
+use Rattle.endian.specs.Numbers.{little, fromLittle}
 use Rattle.paper.specs.Numbers.{setCode}
 use Rattle.answers.specs.Answers.{said, setsSetting, frameAnswer}
 use Rattle.answers.specs.Laws.{GetAnswersHeld, SetStoresIt, SetRefusedNamesNearest}

@@ -19,7 +19,7 @@ use Rattle.tables.specs.declared.Table.{Table}
 use Rattle.paper.specs.Numbers.{getCode, setCode, notAllowed}
 use Rattle.answers.specs.Answers.{silent, sent, staying, said, malformed, unknownId, notSupported, wrongWidth, getsOther, getsFound, getAnswer, setsOther, stored, setsSetting, setsFound, setAnswer, frameAnswer}
 use Rattle.who.specs.Parts.{identityAllowed}
-use Rattle.wire.specs.Numbers.{fromLittle}
+use Rattle.endian.specs.Numbers.{fromLittle}
 use Rattle.who.specs.Calls.{valueOf, noValue, lookedOf}
 use Rattle.answers.specs.Calls.{answering}
 use Rattle.answers.specs.AsHeld.{replyOf, saidOf, replying, decidedOf}

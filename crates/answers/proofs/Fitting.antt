@@ -8,7 +8,7 @@ use native.Mathlib.Omega.{arith}
 use borrow.Author.Tests.{lt-ltb, leb-true}
 use lib.Dec.{eqb, ltb}
 use lib.ListN.{length, take, drop, getD}
-use Rattle.laws.specs.Lists.{every}
+use Rattle.laws.specs.Lists.{every, byte}
 use Rattle.laws.proofs.Bools.{both, pick}
 use Rattle.wire.specs.Laws.{Writable}
 use Rattle.settings.specs.Calls.{finding}
@@ -18,8 +18,8 @@ use Rattle.settings.specs.declared.Setting.{Setting}
 use Rattle.settings.specs.declared.Found.{Found}
 use Rattle.tables.specs.declared.Answer.{Answer}
 use Rattle.who.specs.Parts.{identityAllowed}
-use Rattle.wire.specs.Numbers.{little, fromLittle}
-use Rattle.wire.proofs.Little.{byte, length-little, bytes-little}
+use Rattle.endian.specs.Numbers.{little, fromLittle}
+use Rattle.endian.proofs.Little.{length-little, bytes-little}
 use Rattle.who.specs.Values.{readOnly}
 use Rattle.who.specs.Laws.{Small, small-some}
 use Rattle.who.proofs.Theorems.{values-fit}

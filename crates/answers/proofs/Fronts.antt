@@ -5,9 +5,8 @@ use Prim.Native.Nat.{ℕ, suc, _+_, _≤_, _<_}
 use native.Mathlib.Omega.{arith}
 use lib.ListN.{length, getD, set, take, drop, length-set, drop-of-length-le}
 use lib.Seq.{sets, sets-eq}
-use Rattle.laws.specs.Promise.{overlaid}
+use Rattle.laws.specs.Promise.{overlaid, frontOf}
 use Rattle.laws.proofs.Lists.{sets-turn, sets-end}
-use Rattle.who.specs.Parts.{noSerial}
 use Rattle.who.specs.Calls.{valueOf}
 use Rattle.answers.specs.Answers.{said}
 use Rattle.answers.specs.AsHeld.{noData, replyOf, saidOf}
@@ -42,7 +41,7 @@ module _ {front rest : List ℕ} where
 
 -- an id, a flag and a value as it is held are those of the bytes that the value stands for
 pub said-is : (command id flag : ℕ) (v : List ℕ) → saidOf command id flag (valueOf v) ≡ replyOf command (said id flag v)
-unfolding saidOf replyOf valueOf overlaid noData noSerial
+unfolding saidOf replyOf valueOf frontOf overlaid noData
 said-is command id flag v =
     let three : length v + 3 ≡ suc (suc (suc (length v))) = omega arith in
     λ i. record { command = command; len = three i; bytes = overlaid (said id flag v) noData }

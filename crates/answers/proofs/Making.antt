@@ -19,7 +19,7 @@ use Rattle.settings.specs.declared.Found.{Found}
 use Rattle.tables.specs.declared.Answer.{Answer}
 use Rattle.tables.specs.declared.Change.{Change}
 use Rattle.tables.proofs.Theorems.{set-keeps-allowed, set-keeps-count, refused-keeps-it}
-use Rattle.wire.specs.Numbers.{fromLittle}
+use Rattle.endian.specs.Numbers.{fromLittle}
 use Rattle.who.specs.Values.{readOnly}
 use Rattle.paper.specs.Numbers.{pingCode, versionCode, productCode, restartCode, getCode, setCode, asyncCode}
 use Rattle.answers.specs.Answers.{Sent, Decision, staying, tells, restarts, getsOther, getsFound, getAnswer, setsOther, stored, setsSetting, setsFound, setAnswer, frameAnswer, makesFound, makes}

@@ -16,7 +16,7 @@ use Rattle.settings.specs.declared.Setting.{Setting}
 use Rattle.settings.specs.declared.Found.{Found}
 use Rattle.tables.specs.declared.Answer.{Answer}
 use Rattle.who.specs.Parts.{noReadings}
-use Rattle.wire.specs.Numbers.{little, fromLittle}
+use Rattle.endian.specs.Numbers.{little, fromLittle}
 use Rattle.who.specs.Values.{readOnly}
 use Rattle.who.specs.declared.Identity.{Identity}
 use Rattle.who.specs.declared.Readings.{Readings}

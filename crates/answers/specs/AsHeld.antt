@@ -7,7 +7,7 @@ use Rattle.laws.specs.Promise.{overlaid}
 use Rattle.settings.specs.Columns.{count}
 use Rattle.tables.specs.declared.Table.{Table}
 use Rattle.settings.specs.declared.Setting.{Setting}
-use Rattle.wire.specs.Numbers.{little}
+use Rattle.endian.specs.Numbers.{little}
 use Rattle.answers.specs.Answers.{Sent, silent, sent, error, Decision}
 use Rattle.who.specs.declared.Readings.{Readings}
 use Rattle.who.specs.declared.Value.{Value}

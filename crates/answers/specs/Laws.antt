@@ -12,7 +12,7 @@ use Rattle.settings.specs.Rules.{allowedFor, Nearest}
 use Rattle.tables.specs.Rules.{allowed, numberAt, partnerNumber, changed}
 use Rattle.tables.specs.declared.Table.{Table}
 use Rattle.who.specs.Parts.{identityAllowed}
-use Rattle.wire.specs.Numbers.{little}
+use Rattle.endian.specs.Numbers.{little}
 use Rattle.paper.specs.Numbers.{getCode, setCode}
 use Rattle.answers.specs.Answers.{Sent, silent, sent, error, Decision, staying, said, frameAnswer, makes}
 use Rattle.who.specs.declared.Identity.{Identity}

@@ -3,7 +3,7 @@
 use Prim.Native.Nat.{ℕ}
 use mathlib.Core.List.{List, []}
 use Rattle.wire.specs.Frame.{frame}
-use Rattle.wire.specs.Numbers.{little}
+use Rattle.endian.specs.Numbers.{little}
 use Rattle.settings.specs.Columns.{idAt, widthAt}
 use Rattle.paper.specs.Numbers.{getCode, setCode}
 use Rattle.answers.specs.Answers.{said}

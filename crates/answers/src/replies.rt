@@ -3,7 +3,7 @@ ghost use mathlib.Core.Path.{_≡_};
 ghost use mathlib.Core.List.{[], _∷_, _++_};
 ghost use Prim.Native.Nat.{_≤_};
 ghost use lib.ListN.{take};
-ghost use Rattle.wire.specs.Numbers.{little};
+ghost use Rattle.endian.specs.Numbers.{little};
 ghost use Rattle.answers.specs.Answers.{said};
 ghost use Rattle.answers.specs.AsHeld.{replyOf, saidOf};
 use crate::Reply;

@@ -2,7 +2,7 @@
 ghost use mathlib.Core.Path.{_≡_};
 ghost use Prim.Native.Nat.{_≤_};
 ghost use lib.ListN.{length};
-ghost use Rattle.wire.specs.Numbers.{little, fromLittle};
+ghost use Rattle.endian.specs.Numbers.{little, fromLittle};
 ghost use Rattle.who.specs.Calls.{valueOf};
 use who::Value;
 

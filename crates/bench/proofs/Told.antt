@@ -11,7 +11,7 @@ use Rattle.laws.specs.Lists.{every}
 use Rattle.laws.proofs.Bools.{pick}
 use Rattle.wire.specs.Digits.{isDigit}
 use Rattle.paper.specs.Numbers.{colon, newline}
-use Rattle.wire.specs.Numbers.{little, fromLittle}
+use Rattle.endian.specs.Numbers.{little, fromLittle}
 use Rattle.wire.specs.Reading.{Ended, good, refused, badCount, sumsUp, bodySays, brokenSays}
 use Rattle.stream.specs.Stream.{Unfinished, outside, inside, next, endedBy, framesFrom, taken}
 use Rattle.stream.specs.Calls.{unfinished}

@@ -19,14 +19,14 @@ use Rattle.stream.proofs.Reached.{unfinished-kept}
 use Rattle.stream.proofs.Theorems.{written-is-heard, heard-is-writable}
 use Rattle.settings.specs.Columns.{count, idAt, widthAt}
 use Rattle.settings.proofs.Theorems.{rows-hold}
-use Rattle.wire.specs.Numbers.{little}
+use Rattle.endian.specs.Numbers.{little}
 use Rattle.answers.specs.Requests.{getRequest, setRequest}
 use Rattle.paper.specs.Numbers.{getCode, setCode}
 use Rattle.answers.specs.Answers.{Sent, silent, sent, error, Decision, said, frameAnswer}
 use Rattle.answers.specs.Laws.{Fits, a-frame, an-error}
 use Rattle.answers.specs.Laws as fitting
 use Rattle.answers.proofs.Theorems.{replies-fit, get-answers-held, set-stores-it, set-refused-names-nearest}
-use Rattle.wire.proofs.Little.{length-little, bytes-little}
+use Rattle.endian.proofs.Little.{length-little, bytes-little}
 use Rattle.answers.proofs.Fitting.{writable-said}
 use Rattle.board.specs.Parts.{boardAllowed}
 use Rattle.board.specs.Calls.{errorFrame, replyBytes, endedIn, deciding, decidedBy, heardBy, answering}

@@ -20,7 +20,7 @@ use Rattle.settings.specs.Rules.{allowedFor, Nearest}
 use Rattle.tables.specs.Rules.{allowed, numberAt, partnerNumber, changed}
 use Rattle.tables.specs.declared.Table.{Table}
 use Rattle.who.specs.Parts.{serialFits, serialOf, noReadings}
-use Rattle.wire.specs.Numbers.{little}
+use Rattle.endian.specs.Numbers.{little}
 use Rattle.answers.specs.Answers.{Sent, silent, sent, error, said, frameAnswer}
 use Rattle.answers.specs.Requests.{getRequest, setRequest}
 use Rattle.who.specs.declared.Verdict.{Verdict}

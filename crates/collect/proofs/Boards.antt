@@ -9,11 +9,11 @@ use lib.ListN.{length, getD, take, drop, replicate, length-append, length-drop, 
 use lib.Seq.{append-snoc, getD-append-seam, length-take-le}
 use Rattle.laws.proofs.Bools.{and-left, and-right}
 use Rattle.laws.proofs.Lists.{every-zero, upTo-at}
-use Rattle.wire.specs.Numbers.{little, fromLittle}
-use Rattle.wire.proofs.Theorems.{little-is-read}
+use Rattle.endian.specs.Numbers.{little, fromLittle}
+use Rattle.endian.proofs.Theorems.{little-is-read}
 use Rattle.settings.specs.Columns.{count, idAt, widthAt}
 use Rattle.settings.proofs.Theorems.{rows-hold, allowed-has-room}
-use Rattle.wire.proofs.Little.{length-little}
+use Rattle.endian.proofs.Little.{length-little}
 use Rattle.paper.specs.Numbers.{getCode}
 use Rattle.reply.specs.declared.Status.{Status}
 use Rattle.reply.specs.declared.Reply.{Reply}

@@ -6,10 +6,9 @@ use Prim.Native.Nat.{ℕ, _<_}
 use borrow.Author.Tests.{eq-eqb, eqb-true, eqb-false, ltb-true}
 use lib.ListN.{length, getD, drop}
 use lib.Dec.{ltb, eqb}
-use Rattle.laws.specs.Lists.{every, same}
+use Rattle.laws.specs.Lists.{every, same, Bytes}
 use Rattle.laws.proofs.Bools.{and-left, and-right, both}
-use Rattle.wire.specs.Numbers.{little, fromLittle}
-use Rattle.wire.specs.Laws.{Bytes}
+use Rattle.endian.specs.Numbers.{little, fromLittle}
 use Rattle.settings.specs.Columns.{count, idAt, widthAt}
 use Rattle.settings.proofs.Theorems.{rows-hold}
 use Rattle.paper.specs.Numbers.{getCode}
@@ -20,7 +19,7 @@ use Rattle.reply.specs.Laws.{From, a-get}
 use Rattle.reply.specs.declared.Status.{Status}
 use Rattle.reply.specs.declared.Reply.{Reply}
 use Rattle.laws.proofs.Lists.{every-drop, same-back, same-self}
-use Rattle.wire.proofs.Theorems.{read-is-little}
+use Rattle.endian.proofs.Theorems.{read-is-little}
 use Rattle.reply.proofs.Flags.{status-of, flag-status}
 use Rattle.reply.proofs.Theorems.{said-is-read, read-is-from}
 use Rattle.reply.specs.Events.{Event, heard, refusedFrame, noAnswer, OnStream, nothing, a-frame, a-refusal, a-silence, isFlag}
@@ -29,7 +28,7 @@ use Rattle.collect.specs.Laws.{goodReply, isReply, carries, following, c
 use Rattle.collect.specs.declared.verdict.Verdict.{Verdict}
 use Rattle.collect.proofs.Deciding.{heard-is}
 use Rattle.collect.proofs.Reaching.{taking}
-use Rattle.wire.proofs.Little.{length-little}
+use Rattle.endian.proofs.Little.{length-little}
 
 same-as : (xs ys : List ℕ) → xs ≡ ys → same xs ys ≡ true
 same-as xs ys e = ap (same xs) (sym e) ∙ same-self xs

@@ -9,7 +9,7 @@ use native.Mathlib.Omega.{arith}
 use borrow.Author.Tests.{lt-ltb, le-ltb, ltb-false, eq-eqb, ne-eqb}
 use lib.ListN.{length, getD, drop, length-drop}
 use lib.Dec.{ltb}
-use Rattle.wire.specs.Numbers.{fromLittle}
+use Rattle.endian.specs.Numbers.{fromLittle}
 use Rattle.settings.specs.Columns.{count, ids, idAt, widths, widthAt, partners, partnerAt}
 use Rattle.settings.specs.Calls.{settingAt, placing, allowing}
 use Rattle.settings.specs.declared.Setting.{Setting}

@@ -7,7 +7,7 @@ use native.Mathlib.Omega.{arith}
 use lib.ListN.{length}
 use lib.Dec.{eqb}
 use Rattle.laws.proofs.Bools.{pick}
-use Rattle.wire.specs.Numbers.{fromLittle}
+use Rattle.endian.specs.Numbers.{fromLittle}
 use Rattle.settings.specs.Columns.{idAt, widthAt}
 use Rattle.reply.specs.Replies.{rest}
 use Rattle.reply.specs.Calls.{reading}

@@ -6,7 +6,7 @@ use mathlib.Core.List.{List}
 use lib.ListN.{length, getD, set, drop, replicate}
 use lib.Dec.{ltb, eqb}
 use Rattle.laws.specs.Lists.{every, upTo}
-use Rattle.wire.specs.Numbers.{fromLittle}
+use Rattle.endian.specs.Numbers.{fromLittle}
 use Rattle.settings.specs.Columns.{count, idAt, widthAt, partnerAt}
 use Rattle.settings.specs.Rules.{allowedFor}
 use Rattle.reply.specs.Replies.{rest}

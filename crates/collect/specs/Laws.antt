@@ -8,7 +8,7 @@ use mathlib.Core.List.{List, [], _∷_, _++_}
 use lib.ListN.{length, getD, take, drop}
 use lib.Dec.{ltb, eqb}
 use Rattle.laws.specs.Lists.{same}
-use Rattle.wire.specs.Numbers.{little, fromLittle}
+use Rattle.endian.specs.Numbers.{little, fromLittle}
 use Rattle.settings.specs.Columns.{count, idAt, widthAt}
 use Rattle.tables.specs.Rules.{factory}
 use Rattle.tables.specs.Rules as tables

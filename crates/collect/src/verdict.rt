@@ -2,7 +2,7 @@
 ghost use Prim.Native.Nat.{_≤_, _<_};
 ghost use mathlib.Core.Path.{_≡_};
 ghost use lib.ListN.{length, drop};
-ghost use Rattle.wire.specs.Numbers.{fromLittle};
+ghost use Rattle.endian.specs.Numbers.{fromLittle};
 ghost use Rattle.settings.specs.Columns.{count};
 ghost use Rattle.reply.specs.Events.{heard};
 ghost use Rattle.collect.specs.Collecting as spec;

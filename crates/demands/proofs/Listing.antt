@@ -9,7 +9,7 @@ use lib.ListN.{length}
 use lib.Dec.{ltb}
 use Rattle.laws.specs.Lists.{every}
 use Rattle.laws.proofs.Bools.{and-left, and-right}
-use Rattle.wire.specs.Numbers.{little}
+use Rattle.endian.specs.Numbers.{little}
 use Rattle.wire.specs.Reading.{Ended, good}
 use Rattle.stream.specs.Stream.{outside, framesOf, leftBy}
 use Rattle.wire.specs.Laws.{Writable}
@@ -26,7 +26,7 @@ use Rattle.paper.specs.Numbers.{setCode}
 use Rattle.answers.specs.Answers.{said}
 use Rattle.answers.specs.Requests.{setData}
 use Rattle.answers.proofs.Theorems.{set-stores-it}
-use Rattle.wire.proofs.Little.{length-little, bytes-little}
+use Rattle.endian.proofs.Little.{length-little, bytes-little}
 use Rattle.answers.proofs.Fitting.{writable-said}
 use Rattle.board.specs.Calls.{deciding}
 use Rattle.board.specs.declared.Board.{Board}

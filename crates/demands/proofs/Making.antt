@@ -8,7 +8,7 @@ use borrow.Author.Tests.{ltb-true, ltb-false}
 use lib.ListN.{length, take, getD}
 use lib.Seq.{take-all}
 use lib.Dec.{eqb, leb, ltb}
-use Rattle.wire.specs.Numbers.{fromLittle}
+use Rattle.endian.specs.Numbers.{fromLittle}
 use Rattle.wire.specs.Reading.{Ended, good, refused}
 use Rattle.stream.specs.Stream.{Unfinished, framesFrom, firstEnd, taken}
 use Rattle.stream.proofs.Theorems.{first-end-is-first}

@@ -7,10 +7,10 @@ use Prim.Native.Nat.{ℕ, _<_}
 use borrow.Author.Tests.{leb-true, ltb-true}
 use lib.Dec.{eqb}
 use Rattle.laws.specs.Lists.{same}
-use Rattle.laws.specs.Promise.{overlaid, Given}
+use Rattle.laws.specs.Promise.{overlaid, frontOf, Given}
 use Rattle.wire.specs.Digits.{digit, nibble}
 use Rattle.wire.specs.Frame.{check, body, frame}
-use Rattle.wire.specs.Numbers.{little}
+use Rattle.endian.specs.Numbers.{little}
 use Rattle.wire.specs.Reading.{bodySays}
 use Rattle.stream.specs.Stream.{outside, taken}
 use Rattle.stream.specs.Calls.{noChars, heldOf, unfinished, hearing}
@@ -24,7 +24,7 @@ use Rattle.settings.specs.Calls.{placing, placeOf, finding}
 use Rattle.tables.specs.Calls.{setTo}
 use Rattle.tables.specs.declared.Table.{Table}
 use Rattle.tables.proofs.Theorems.{factory-is-allowed}
-use Rattle.who.specs.Parts.{serialFits, noSerial, identityOf, serialOf, identityAllowed}
+use Rattle.who.specs.Parts.{serialFits, identityOf, serialOf, identityAllowed}
 use Rattle.paper.specs.Numbers.{getCode}
 use Rattle.answers.specs.Answers.{said, setsSetting, setAnswer, frameAnswer}
 use Rattle.answers.specs.Requests.{setRequest}
@@ -116,7 +116,7 @@ twoCalls = calls 15 75 ∷ calls 15 75 ∷ []
 first-set-alone : Decides firstSetAlone → ⊥
 unfolding overlaid digit nibble check body frame bodySays taken noChars heldOf unfinished stream.allowed
     inRange lowAgrees highAgrees agrees allowedFor allAllowed allowed placing placeOf finding setTo
-    serialFits noSerial identityOf serialOf identityAllowed setsSetting setAnswer frameAnswer
+    serialFits frontOf identityOf serialOf identityAllowed setsSetting setAnswer frameAnswer
     boardAllowed freshBoard starting deciding decidedBy heardBy answering isComplete isValid makes made
 first-set-alone h =
     let d = h 0 0 [] factory refl refl refl twoSets twoCalls in
@@ -126,7 +126,7 @@ first-set-alone h =
 stores-nothing-decides : Decides storesNothing → ⊥
 unfolding overlaid digit nibble check body frame bodySays taken noChars heldOf unfinished stream.allowed
     inRange lowAgrees highAgrees agrees allowedFor allAllowed allowed placing placeOf finding setTo
-    serialFits noSerial identityOf serialOf identityAllowed setsSetting setAnswer frameAnswer
+    serialFits frontOf identityOf serialOf identityAllowed setsSetting setAnswer frameAnswer
     boardAllowed freshBoard starting deciding decidedBy heardBy answering isComplete isValid makes made
 stores-nothing-decides h =
     let d = h 0 0 [] factory refl refl refl twoSets oneCall in
@@ -136,7 +136,7 @@ stores-nothing-decides h =
 never-changes : Decides neverChanges → ⊥
 unfolding overlaid digit nibble check body frame bodySays taken noChars heldOf unfinished stream.allowed
     inRange lowAgrees highAgrees agrees allowedFor allAllowed allowed placing placeOf finding setTo
-    serialFits noSerial identityOf serialOf identityAllowed setsSetting setAnswer frameAnswer
+    serialFits frontOf identityOf serialOf identityAllowed setsSetting setAnswer frameAnswer
     boardAllowed freshBoard starting deciding decidedBy heardBy answering isComplete isValid makes made
 never-changes h =
     let d = h 0 0 [] factory refl refl refl twoSets oneCall in

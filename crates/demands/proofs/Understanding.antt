@@ -8,17 +8,16 @@ use native.Mathlib.Omega.{arith}
 use borrow.Author.Tests.{leb-true, ltb-true, lt-ltb, le-leb, eq-eqb, eqb-true}
 use lib.ListN.{length, take, drop, getD}
 use lib.Dec.{eqb, leb, ltb}
-use Rattle.laws.specs.Lists.{every}
+use Rattle.laws.specs.Lists.{every, Bytes}
 use Rattle.laws.proofs.Bools.{pick, and-left, and-right, both}
 use Rattle.laws.proofs.Lists.{upTo-at}
 use Rattle.wire.specs.Frame.{frame}
-use Rattle.wire.specs.Numbers.{little, fromLittle}
+use Rattle.endian.specs.Numbers.{little, fromLittle}
 use Rattle.wire.specs.Reading.{Ended, good, refused}
 use Rattle.stream.specs.Stream.{taken}
 use Rattle.stream.specs.Calls.{unfinished}
-use Rattle.wire.specs.Laws.{Bytes}
 use Rattle.stream.specs.Laws.{Writables, whole}
-use Rattle.wire.proofs.Theorems.{little-is-read}
+use Rattle.endian.proofs.Theorems.{little-is-read}
 use Rattle.stream.proofs.Theorems.{written-is-heard, all-is-taken, heard-is-writable}
 use Rattle.settings.specs.Columns.{count, idAt, widthAt}
 use Rattle.settings.specs.Calls.{placeOf, finding}
@@ -34,7 +33,7 @@ use Rattle.answers.specs.Requests.{setData}
 use Rattle.who.specs.Values.{readOnly}
 use Rattle.who.specs.declared.Identity.{Identity}
 use Rattle.who.specs.declared.Readings.{Readings}
-use Rattle.wire.proofs.Little.{length-little}
+use Rattle.endian.proofs.Little.{length-little}
 use Rattle.answers.proofs.Fitting.{writable-said}
 use Rattle.board.specs.Calls.{endedIn, deciding}
 use Rattle.board.specs.declared.Board.{Board}

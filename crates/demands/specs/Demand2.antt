@@ -12,12 +12,12 @@ use Rattle.laws.specs.Cutting as Cutting
 use Rattle.laws.specs.Cutting.{Offer, ready}
 use Rattle.paper.specs.Numbers.{mostNibble, mostData, getCode, setCode}
 use Rattle.wire.specs.Frame.{frame}
-use Rattle.wire.specs.Numbers.{little, fromLittle}
+use Rattle.endian.specs.Numbers.{little, fromLittle}
 use Rattle.wire.specs.Reading.{good}
 use Rattle.stream.specs.Stream.{outside, framesOf}
 use Rattle.stream.specs.Calls.{heldOf}
 use Rattle.wire.specs.Laws as wire
-use Rattle.wire.specs.Laws.{Bytes}
+use Rattle.laws.specs.Lists.{Bytes}
 use Rattle.stream.specs.Laws.{hears}
 use Rattle.settings.specs.Columns.{count, widthAt}
 use Rattle.answers.specs.Answers.{Sent, silent, sent, error, said}

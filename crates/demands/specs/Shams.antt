@@ -13,7 +13,7 @@ use Rattle.laws.specs.Lists.{same}
 use Rattle.laws.specs.Promise.{Given}
 use Rattle.paper.specs.Numbers.{mostData, frameRoom, getCode}
 use Rattle.wire.specs.Frame.{frame}
-use Rattle.wire.specs.Numbers.{little}
+use Rattle.endian.specs.Numbers.{little}
 use Rattle.stream.specs.Stream.{taken}
 use Rattle.stream.specs.Calls as stream
 use Rattle.stream.specs.Calls.{unfinished, hearing}

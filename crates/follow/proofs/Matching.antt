@@ -8,15 +8,14 @@ use native.Mathlib.Omega.{arith}
 use borrow.Author.Tests.{eqb-true, eqb-false, eq-eqb, leb-true, le-leb}
 use lib.ListN.{length, take, drop, getD}
 use lib.Dec.{eqb, ltb, leb}
-use Rattle.laws.specs.Lists.{every, same}
+use Rattle.laws.specs.Lists.{every, same, Bytes}
 use Rattle.laws.proofs.Bools.{and-left, and-right, both}
 use Rattle.laws.proofs.Lists.{every-drop, same-back, same-self}
-use Rattle.wire.specs.Numbers.{little, fromLittle}
-use Rattle.wire.specs.Laws.{Bytes}
-use Rattle.wire.proofs.Theorems.{little-is-read, read-is-little}
+use Rattle.endian.specs.Numbers.{little, fromLittle}
+use Rattle.endian.proofs.Theorems.{little-is-read, read-is-little}
 use Rattle.paper.specs.Numbers.{setCode}
 use Rattle.answers.specs.Answers.{said}
-use Rattle.wire.proofs.Little.{length-little}
+use Rattle.endian.proofs.Little.{length-little}
 use Rattle.reply.specs.Replies.{flagOf, rest}
 use Rattle.reply.specs.Calls.{reading}
 use Rattle.reply.specs.Laws.{From, a-set}

@@ -11,9 +11,9 @@ use lib.ListN.{length, take, drop}
 use lib.Seq.{take-length}
 use lib.Dec.{ltb, eqb}
 use Rattle.laws.proofs.Bools.{and-left, and-right, both}
-use Rattle.wire.specs.Laws.{Bytes}
+use Rattle.laws.specs.Lists.{Bytes}
 use Rattle.tables.specs.declared.Table.{Table}
-use Rattle.wire.proofs.Little.{bytes-little}
+use Rattle.endian.proofs.Little.{bytes-little}
 use Rattle.restore.specs.Order.{dueSets}
 use Rattle.restore.specs.Calls.{bothAllowed, dueIn}
 use Rattle.restore.specs.declared.Wanted.{Wanted}

@@ -8,7 +8,7 @@ use mathlib.Core.List.{List, [], _∷_, map}
 use lib.ListN.{length, take, getD}
 use lib.Dec.{eqb, leb}
 use Rattle.laws.specs.Lists.{same}
-use Rattle.wire.specs.Numbers.{little}
+use Rattle.endian.specs.Numbers.{little}
 use Rattle.tables.specs.declared.Table.{Table}
 use Rattle.paper.specs.Numbers.{setCode}
 use Rattle.answers.specs.Answers.{said}

@@ -2,4 +2,5 @@
 pub mod Bools
 pub mod Lists
 pub mod Promise
+pub mod Fronts
 pub mod Cutting

@@ -2,11 +2,15 @@
 use Prim.Native.Nat.{ℕ}
 use mathlib.Core.Path.{_≡_}
 use mathlib.Core.List.{List, _++_}
-use lib.ListN.{length, drop}
+use lib.ListN.{length, drop, replicate}
 
 -- a lent buffer afterwards: what was written fills its front, the rest keeps its bytes
 unfoldable pub overlaid : List ℕ → List ℕ → List ℕ
 overlaid written buffer = written ++ drop (length written) buffer
+
+-- an array of n bytes with these at its front, and zeros behind them
+unfoldable pub frontOf : ℕ → List ℕ → List ℕ
+frontOf n bytes = overlaid bytes (replicate n 0)
 
 -- what a call gives: its answer, and the bytes that it writes at the front of the lent buffer
 pub record Given (A : Type 0) : Type 0 where

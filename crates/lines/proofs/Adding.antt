@@ -6,12 +6,13 @@ use Prim.Native.Nat.{ℕ, zero, suc, _+_, _-_, _≤_, min}
 use Prim.Native.String.{String}
 use native.Mathlib.Omega.{arith}
 use borrow.Rule.Slice.PartMut.{putMid}
-use lib.ListN.{length, getD, take, drop, replicate, length-take, length-drop, length-append, length-replicate, drop-of-length-le}
-use lib.Seq.{take-length, length-take-le, take-append-add, take-take, take-append-le}
+use lib.ListN.{length, getD, take, drop, replicate, length-take, length-drop, length-append, length-replicate}
+use lib.Seq.{length-take-le, take-take, take-append-le}
 use lib.Dec.{eqb}
 use Rattle.laws.specs.Lists.{every}
 use Rattle.laws.specs.Promise.{overlaid}
-use Rattle.laws.proofs.Lists.{padded, take-replicate, take-min, take-again, every-zero, zeros-behind}
+use Rattle.laws.proofs.Lists.{padded, take-min, take-again, every-zero, zeros-behind}
+use Rattle.laws.proofs.Fronts.{padded-behind}
 use Rattle.lines.specs.Lines.{most, chars, blank, lineOf, textOf, adding, Says}
 use Rattle.lines.specs.Laws.{LineIsText}
 use Rattle.lines.specs.declared.Line.{Line}
@@ -60,21 +61,6 @@ further l {m} {n} a b e f =
 -- from an empty line on
 pub from-start : {l m : Line} (a : List ℕ) → l ≡ lineOf [] → m ≡ adding l a → m ≡ lineOf a
 from-start a e f = f ∙ ap (λ (k : Line). adding k a) e ∙ adding-line [] a
-
--- what is copied to the front of some room overlays it
-pub copied : (from into : List ℕ) {last : List ℕ} → last ≡ take (length from) from ++ drop (length from) into → last ≡ overlaid from into
-unfolding overlaid
-copied from into e = rw (take-length from) at e
-
--- front characters, more after them, and zeros up to the room of a line
-behind : (front more zeros last : List ℕ) (k m : ℕ) → zeros ≡ replicate k 0 → k ≤ m → last ≡ overlaid (take (min (length more) k) more) (take k zeros)
-    → front ++ (last ++ drop k zeros) ≡ take (length front + k) ((front ++ more) ++ replicate m 0)
-unfolding overlaid
-behind front more zeros last k m z h e =
-    let n : length (take (min (length more) k) more) ≡ min (length more) k = length-take-le _ more (omega arith) in
-    let zs : List ℕ = replicate k 0 in
-    let none : drop k zs ≡ [] = drop-of-length-le zs {i = k} (rw length-replicate (omega arith)) in
-    rw (append-assoc front more (replicate m 0), take-append-add, ← padded more k m h, e, n, z, take-replicate k k 0 (omega arith), none, append-nil)
 
 -- a line's own characters alone
 module _ (l : Line) (long : length (l .chars) ≡ most) (n : ℕ) (least : n ≡ min (l .len) most) where
@@ -127,7 +113,7 @@ module _ (l : Line) (tidy : l ≡ lineOf (textOf l)) where
     more-chars last e =
         let all : length (textOf l) + (most - l .len) ≡ most = rw tidy-text (omega (arith, tidy-few)) in
         let less : most - l .len ≤ most = omega arith in
-        behind (textOf l) more (drop (l .len) (l .chars)) last (most - l .len) most tidy-rest less (rw least at e)
+        padded-behind (textOf l) more (drop (l .len) (l .chars)) last (most - l .len) most tidy-rest less (rw least at e)
         ∙ ap (λ (k : ℕ). take k ((textOf l ++ more) ++ blank)) all
 
     pub more-line : (last : List ℕ) → last ≡ overlaid (take n more) (take (most - l .len) (drop (l .len) (l .chars)))

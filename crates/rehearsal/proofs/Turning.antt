@@ -6,11 +6,12 @@ use Prim.Native.Nat.{ℕ, zero, suc, _+_, _-_, _≤_, _<_, min}
 use native.Mathlib.Omega.{arith}
 use borrow.Author.Tests.{leb-true, lt-ltb, ltb-true}
 use lib.ListN.{length, take, drop, length-take, length-drop}
-use lib.Seq.{take-nil, take-append-seam}
+use lib.Seq.{take-nil}
 use lib.Dec.{ltb}
 use Rattle.laws.specs.Promise.{Given, Gives, overlaid}
 use Rattle.laws.proofs.Bools.{and-left, and-right}
 use Rattle.laws.proofs.Lists.{take-min}
+use Rattle.laws.proofs.Promise.{overlaid-front}
 use Rattle.wire.specs.Reading.{Ended, good, refused}
 use Rattle.stream.specs.Stream.{outside, taken}
 use Rattle.stream.specs.Calls as stream
@@ -121,10 +122,6 @@ event-frame (good c bytes ∷ rest) (whole w others) command len e =
     let many : length bytes ≡ len = cc in
     record { count = many; few = rw (sym many) (w .few) }
 
-pub front-back : (front rest : List ℕ) → take (length front) (overlaid front rest) ≡ front
-unfolding overlaid
-front-back front rest = take-append-seam front _
-
 module _ (f : Followed) (reply : List ℕ) (held : Held) (out : held ≡ stream.heldOf outside) {h : Heard} (is : h ≡ stream.hearing held reply 35 .answer) where
   event-is : stream.hearing (stream.heldOf outside) reply 35 .answer .event ≡ h .event
   event-is = ap (λ (a : Heard). a .event) (sym (is ∙ ap (λ (s : Held). stream.hearing s reply 35 .answer) out))
@@ -158,7 +155,7 @@ module _ (f : Followed) (reply : List ℕ) (held : Held) (out : held ≡ stream.
     listen-frame buffer {bytes} filled =
         let w : List ℕ = stream.hearing (stream.heldOf outside) reply 35 .written in
         let same : bytes ≡ overlaid w buffer = filled ∙ ap (λ (s : Held). overlaid (stream.hearing s reply 35 .written) buffer) out in
-        let front : take len bytes ≡ w = ap (take len) same ∙ ap (λ (n : ℕ). take n (overlaid w buffer)) (sym (size-is .0)) ∙ front-back w buffer in
+        let front : take len bytes ≡ w = ap (take len) same ∙ ap (λ (n : ℕ). take n (overlaid w buffer)) (sym (size-is .0)) ∙ overlaid-front w buffer in
         rw (event-is ∙ e, front)
 
 -- one turn, by the piece that it hands over
@@ -194,7 +191,7 @@ module _ (t : Turn) (list : List ℕ) (size n : ℕ) (n-is : n ≡ min size (len
         let piece : List ℕ = take n (drop (t .at) list) in
         let w : List ℕ = answering (t .board) piece 75 .written in
         let len : r .len ≡ length w = ap (λ (x : Answered). x .len) (g .answered) ∙ bounded (t .board) piece .len-is in
-        let front : take (r .len) reply ≡ w = ap (take (r .len)) (g .left) ∙ ap (λ (m : ℕ). take m (overlaid w buffer)) len ∙ front-back w buffer in
+        let front : take (r .len) reply ≡ w = ap (take (r .len)) (g .left) ∙ ap (λ (m : ℕ). take m (overlaid w buffer)) len ∙ overlaid-front w buffer in
         let same = g .answered in
         let one : _≡_ {A = Turn} (record { board = r .board; followed = f; at = t .at + r .taken }) (after t piece) =
         λ i. record { board = same i .board; followed = (e ∙ ap (listening (t .followed)) front) i; at = t .at + same i .taken } in

@@ -5,8 +5,8 @@ use Prim.Native.Nat.{ℕ, suc, _≤_, _<_, _^_}
 use native.Mathlib.Omega.{arith}
 use borrow.Author.Tests.{le-ltb}
 use lib.ListN.{length}
-use Rattle.wire.specs.Numbers.{little, fromLittle}
-use Rattle.wire.proofs.Theorems.{little-is-read}
+use Rattle.endian.specs.Numbers.{little, fromLittle}
+use Rattle.endian.proofs.Theorems.{little-is-read}
 use Rattle.answers.specs.Answers.{said}
 use Rattle.reply.specs.Replies.{flagOf, fronted, front, telling, naming, numbering}
 use Rattle.reply.specs.Calls.{reading}

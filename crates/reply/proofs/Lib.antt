@@ -1,6 +1,5 @@
 -- Laws of the definitions of specs/, and what the proofs of the functions cite.
 pub mod Little
-pub mod Signs
 pub mod Choices
 pub mod Hearing
 pub mod Origins

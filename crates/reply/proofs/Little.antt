@@ -4,7 +4,7 @@ use mathlib.Core.List.{List, [], _∷_}
 use Prim.Native.Nat.{ℕ, _+_, _*_}
 use native.Mathlib.Omega.{arith}
 use lib.ListN.{length, getD}
-use Rattle.wire.specs.Numbers.{fromLittle}
+use Rattle.endian.specs.Numbers.{fromLittle}
 
 pub two-number : (l : List ℕ) → length l ≡ 2 → getD l 0 0 + 256 * getD l 1 0 ≡ fromLittle l
 two-number [] e = absurd (omega arith)

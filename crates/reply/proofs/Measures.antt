@@ -10,8 +10,8 @@ use lib.IntN.{ℤ, pos, negsuc}
 use lib.Signed.{mag}
 use lib.Dec.{eqb}
 use Rattle.reply.proofs.Choices.{choose}
-use Rattle.wire.specs.Numbers.{little, fromLittle, complement, signed}
-use Rattle.wire.proofs.Theorems.{little-is-read, complement-is-read}
+use Rattle.endian.specs.Numbers.{little, fromLittle, complement, signed}
+use Rattle.endian.proofs.Theorems.{little-is-read, complement-is-read}
 use Rattle.reply.specs.Units.{inVolts, inAmperes, inFineAmperes, inAmpHours, inPercent, over}
 use Rattle.reply.specs.Calls.{showing}
 use Rattle.who.specs.Values.{readOnly}

@@ -3,7 +3,7 @@ use Prim.Native.Nat.{ℕ}
 use mathlib.Core.Bool.{Bool, _||_}
 use mathlib.Core.List.{List, [], _∷_}
 use lib.Dec.{eqb}
-use Rattle.wire.specs.Laws.{Bytes}
+use Rattle.laws.specs.Lists.{Bytes}
 
 -- a frame of a command and its data, a frame that the stream refused, or the caller says "no answer"
 pub data Event : Type 0 where

@@ -10,8 +10,8 @@ use lib.Dec.{eqb}
 use lib.IntN.{ℤ, pos}
 use lib.Signed.{mag}
 use Rattle.paper.specs.Numbers as paper
-use Rattle.wire.specs.Numbers.{little, complement}
-use Rattle.wire.specs.Laws.{Bytes}
+use Rattle.endian.specs.Numbers.{little, complement}
+use Rattle.laws.specs.Lists.{Bytes}
 use Rattle.answers.specs.Answers.{said}
 use Rattle.who.specs.Values.{readOnly}
 use Rattle.who.specs.declared.Identity.{Identity}

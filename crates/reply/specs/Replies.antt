@@ -6,7 +6,7 @@ use mathlib.Core.List.{List}
 use lib.ListN.{length, take, drop, getD}
 use lib.Dec.{eqb, ltb}
 use Rattle.paper.specs.Numbers as paper
-use Rattle.wire.specs.Numbers.{fromLittle}
+use Rattle.endian.specs.Numbers.{fromLittle}
 use Rattle.reply.specs.declared.Status.{Status}
 use Rattle.reply.specs.declared.Reply.{Reply}
 use Rattle.reply.specs.declared.kinds.Front.{Front}

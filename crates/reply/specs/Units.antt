@@ -8,7 +8,7 @@ use lib.Dec.{eqb}
 use lib.IntN.{ℤ, pos}
 use lib.Ieee.{Float, binary64, div, ofInt}
 use Rattle.paper.specs.Numbers as paper
-use Rattle.wire.specs.Numbers.{fromLittle, signed}
+use Rattle.endian.specs.Numbers.{fromLittle, signed}
 use Rattle.reply.specs.declared.Shown.{Shown}
 
 -- "in double precision: the whole number divided once"

@@ -3,7 +3,6 @@ ghost use mathlib.Core.Path.{_≡_};
 ghost use Rattle.reply.specs.Replies.{front, fronted, telling, naming, numbering};
 use crate::Reply;
 use crate::Status;
-use crate::bytes::two;
 use crate::numbers;
 
 // What the first three bytes of a Get, Set or Async reply say; wrong where they are fewer, or the flags are no status.
@@ -45,7 +44,7 @@ fn front_of(bytes: &[u8]) -> Front
         return Front::Wrong;
     }
     let flags = bytes[2];
-    with_flags(two(&bytes[..2]), flags)
+    with_flags(endian::read_16(bytes), flags)
 }
 
 // Data that do not fit their kind.
@@ -72,7 +71,9 @@ pub(crate) fn error(bytes: &[u8]) -> Reply
     if bytes.len() != numbers::TWO {
         return malformed();
     }
-    Reply::Error { code: two(bytes) }
+    Reply::Error {
+        code: endian::read_16(bytes),
+    }
 }
 
 // 5: the board is there, and has this version.
@@ -83,7 +84,7 @@ pub(crate) fn ping(bytes: &[u8]) -> Reply
         return malformed();
     }
     Reply::Ping {
-        version: two(bytes),
+        version: endian::read_16(bytes),
     }
 }
 

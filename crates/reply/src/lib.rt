@@ -3,7 +3,6 @@
 ghost use mathlib.Core.Path.{_≡_};
 ghost use Rattle.reply.specs.Calls.{reading, showing};
 
-mod bytes;
 mod kinds;
 mod numbers;
 mod units;

@@ -15,12 +15,3 @@ pub(crate) const FINE_STEPS_OF_AMPERE: u16 = 1000;
 pub(crate) const STEPS_OF_AMP_HOUR: u16 = 10;
 
 pub(crate) const STEPS_OF_PERCENT: u16 = 100;
-
-// Two's complement: from the half on a number is negative, counted back from the largest.
-pub(crate) const HALF_16: u16 = 32768;
-
-pub(crate) const LARGEST_16: u16 = 65535;
-
-pub(crate) const HALF_32: u32 = 2147483648;
-
-pub(crate) const LARGEST_32: u32 = 4294967295;

@@ -1,10 +1,9 @@
 // Readings in their units: the exact whole number, divided once. A value of another width is refused.
 ghost use mathlib.Core.Path.{_≡_};
 ghost use lib.ListN.{length};
-ghost use Rattle.wire.specs.Numbers.{fromLittle, signed};
+ghost use Rattle.endian.specs.Numbers.{fromLittle, signed};
 ghost use Rattle.reply.specs.Units.{over, inVolts, inAmperes, inFineAmperes, inAmpHours, inPercent};
 use crate::Shown;
-use crate::bytes;
 use crate::numbers;
 
 // A value of another width than its id has.
@@ -19,7 +18,7 @@ fn over_16(value: &[u8], steps: u16) -> f64
     requires { ⌜ length (now value) ≡ 2 ⌝ }
     ensures { λ r. ⌜ r ≡ over (signed 2 (fromLittle (now (value .entry)))) steps ⌝ }
 {
-    let number = bytes::signed_16(bytes::two(value));
+    let number = endian::signed_16(endian::read_16(value));
     (number as f64) / (steps as f64)
 }
 
@@ -28,7 +27,7 @@ fn over_32(value: &[u8], steps: u16) -> f64
     requires { ⌜ length (now value) ≡ 4 ⌝ }
     ensures { λ r. ⌜ r ≡ over (signed 4 (fromLittle (now (value .entry)))) steps ⌝ }
 {
-    let number = bytes::signed_32(bytes::four(value));
+    let number = endian::signed_32(endian::read_32(value));
     (number as f64) / (steps as f64)
 }
 
@@ -79,6 +78,6 @@ pub(crate) fn percent(value: &[u8]) -> Shown
     if value.len() != numbers::TWO {
         return wrong_width();
     }
-    let number = bytes::two(value);
+    let number = endian::read_16(value);
     Shown::Percent((number as f64) / (numbers::STEPS_OF_PERCENT as f64))
 }

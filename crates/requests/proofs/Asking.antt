@@ -1,8 +1,8 @@
 -- The requests: their data, and what the calls make of them. Assumes nothing.
 use mathlib.Core.Path.{_≡_, refl, sym, ap, _∙_}
 use mathlib.Core.Bool.{Bool, true, false, cond, _||_, false≢true}
-use mathlib.Core.List.{List, [], _∷_}
-use Prim.Native.Nat.{ℕ, zero, suc, _+_, _/_, _%_, _^_, _≤_, _<_}
+use mathlib.Core.List.{List, []}
+use Prim.Native.Nat.{ℕ, zero, suc, _+_, _^_, _≤_, _<_}
 use native.Mathlib.Omega.{arith}
 use borrow.Author.Tests.{lt-ltb, le-ltb, ltb-true, ltb-false}
 use lib.ListN.{length, take}
@@ -10,26 +10,22 @@ use lib.Dec.{ltb, eqb}
 use Rattle.laws.specs.Promise.{Gives}
 use Rattle.paper.specs.Numbers.{frameRoom, shortBuffer, notAllowed, getCode, setCode}
 use Rattle.wire.specs.Frame.{frame}
-use Rattle.wire.specs.Numbers.{little}
+use Rattle.endian.specs.Numbers.{little}
 use Rattle.wire.specs.Calls.{unwritten, writtenAs, writing}
 use Rattle.wire.specs.declared.Written.{Written}
 use Rattle.settings.specs.Columns.{count, idAt, widthAt}
 use Rattle.settings.specs.Calls.{settingAt, placing}
 use Rattle.settings.specs.declared.Setting.{Setting}
 use Rattle.settings.specs.declared.Found.{Found}
-use Rattle.wire.proofs.Little.{length-little}
+use Rattle.endian.proofs.Little.{length-little}
 use Rattle.answers.specs.Answers.{said}
 use Rattle.requests.specs.Calls.{getWritten, setOf, setWritten}
 use Rattle.requests.specs.Laws.{SetIsRequest}
 
--- the high byte of a number of two bytes is one
-high-byte : (n : ℕ) → n < 65536 → n / 256 % 256 ≡ n / 256
-high-byte n h = omega arith
-
 -- a Get is its frame, by the frame writer's rule
-pub get-is : (id room : ℕ) → id < 65536 → writing getCode (id % 256 ∷ id / 256 ∷ 0 ∷ []) room ≡ getWritten id room
+pub get-is : (id room : ℕ) → writing getCode (said id 0 []) room ≡ getWritten id room
 unfolding getWritten writing
-get-is id room h = rw (high-byte id h)
+get-is id room = refl
 
 -- one byte or two hold a number
 pub holds-is : (width n : ℕ) → 1 ≤ width → width ≤ 2 → n < 65536 → (eqb width 2 || ltb n 256) ≡ ltb n (256 ^ width)
@@ -39,12 +35,11 @@ holds-is (suc (suc zero)) n some few small = sym (lt-ltb n 65536 small)
 holds-is (suc (suc (suc w))) n some few small = absurd (omega arith)
 
 -- the data of a Set, in either width
-pub data-is : (width id n : ℕ) → 1 ≤ width → width ≤ 2 → id < 65536 → n < 65536
-    → take (3 + width) (id % 256 ∷ id / 256 ∷ 0 ∷ n % 256 ∷ n / 256 ∷ []) ≡ said id 0 (little width n)
-data-is zero id n some few h small = absurd (omega arith)
-data-is (suc zero) id n some few h small = rw (high-byte id h)
-data-is (suc (suc zero)) id n some few h small = rw (high-byte id h, high-byte n small)
-data-is (suc (suc (suc w))) id n some few h small = absurd (omega arith)
+pub data-is : (width id n : ℕ) → 1 ≤ width → width ≤ 2 → take (3 + width) (said id 0 (little 2 n)) ≡ said id 0 (little width n)
+data-is zero id n some few = absurd (omega arith)
+data-is (suc zero) id n some few = refl
+data-is (suc (suc zero)) id n some few = refl
+data-is (suc (suc (suc w))) id n some few = absurd (omega arith)
 
 module _ (id width n : ℕ) where
   pub set-wide : ltb n (256 ^ width) ≡ false → setOf id width n ≡ unwritten notAllowed

@@ -15,7 +15,8 @@ use wire::Written;
 pub fn get(id: u16, out: &mut [u8]) -> Written
     ensures { λ r. ⌜ Gives Written (getWritten id (length (now (out .entry)))) (now (out .entry)) r (now (out .exit)) ⌝ }
 {
-    let bytes = [(id % 256) as u8, (id / 256) as u8, paper::NO_FLAGS];
+    let which = endian::bytes_16(id);
+    let bytes = [which[0], which[1], paper::NO_FLAGS];
     wire::write_frame(paper::GET, &bytes, out)
 }
 
@@ -49,12 +50,8 @@ fn set_of(id: u16, width: usize, number: u16, out: &mut [u8]) -> Written
     if !holds(width, number) {
         return Written::Refused(paper::NOT_ALLOWED);
     }
-    let bytes = [
-        (id % 256) as u8,
-        (id / 256) as u8,
-        paper::NO_FLAGS,
-        (number % 256) as u8,
-        (number / 256) as u8,
-    ];
+    let which = endian::bytes_16(id);
+    let value = endian::bytes_16(number);
+    let bytes = [which[0], which[1], paper::NO_FLAGS, value[0], value[1]];
     wire::write_frame(paper::SET, &bytes[..paper::FRONT + width], out)
 }

@@ -26,7 +26,7 @@ use Rattle.tables.proofs.Tables.{range-at}
 use Rattle.paper.specs.Numbers.{setCode}
 use Rattle.answers.specs.Requests.{setData, setRequest}
 use Rattle.requests.specs.Calls.{setWritten}
-use Rattle.wire.proofs.Little.{length-little}
+use Rattle.endian.proofs.Little.{length-little}
 use Rattle.requests.proofs.Theorems.{set-is-request}
 use Rattle.restore.specs.Order.{wanted}
 use Rattle.restore.specs.AsHeld.{setsOf}

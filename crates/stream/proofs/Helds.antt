@@ -1,18 +1,19 @@
 -- Laws of the unfinished frame as it is held: which states are allowed, and what is kept of the characters. Assumes nothing.
 use mathlib.Core.Path.{_≡_, refl, sym, ap, ap₂, _∙_}
 use mathlib.Core.Bool.{Bool, true, false, _&&_, _||_}
-use mathlib.Core.List.{List, [], _++_, append-assoc, append-nil}
+use mathlib.Core.List.{List, _++_}
 use Prim.Native.Nat.{ℕ, _+_, _-_, _≤_, _<_, min}
 use native.Mathlib.Omega.{arith}
 use borrow.Author.Tests.{lt-leb, le-leb, leb-true, leb-false, eqb-true}
 use borrow.Rule.Slice.PartMut.{putMid}
-use lib.ListN.{length, take, drop, replicate, length-take, length-drop, length-append, length-replicate, drop-of-length-le, take-append-drop}
-use lib.Seq.{take-length, take-all, length-take-le, take-append-add, take-take, take-append-le}
+use lib.ListN.{length, take, drop, replicate, length-take, length-drop, length-append, take-append-drop}
+use lib.Seq.{take-all, length-take-le, take-append-add, take-take, take-append-le}
 use lib.Dec.{leb, eqb}
 use Rattle.laws.specs.Lists.{every}
 use Rattle.laws.specs.Promise.{overlaid}
 use Rattle.laws.proofs.Bools.{and-left, and-right}
-use Rattle.laws.proofs.Lists.{every-zero, every-take, zeros-behind, padded, take-replicate, take-min}
+use Rattle.laws.proofs.Lists.{every-zero, every-take, zeros-behind, take-replicate, take-min}
+use Rattle.laws.proofs.Fronts.{padded-behind}
 use Rattle.wire.specs.Reading.{bodySays, brokenSays}
 use Rattle.wire.proofs.Answers.{body-long, broken-long}
 use Rattle.stream.specs.Stream.{Unfinished, outside, inside}
@@ -37,21 +38,6 @@ module _ (h : Held) (few : h .len ≤ 74) where
     pub allowed-rest : every stays (take (h .len) (h .chars)) ≡ true → allowed h ≡ every (eqb 0) (drop (h .len) (h .chars))
     unfolding allowed
     allowed-rest e = simp (le-leb (h .len) 74 few, somewhere, e)
-
--- what is copied to the front of a buffer overlays it
-pub copied : (from into : List ℕ) {last : List ℕ} → last ≡ take (length from) from ++ drop (length from) into → last ≡ overlaid from into
-unfolding overlaid
-copied from into e = rw (take-length from) at e
-
--- characters in front, more after them, and zeros up to a fixed room
-padded-behind : (front more zeros last : List ℕ) (k m : ℕ) → zeros ≡ replicate k 0 → k ≤ m → last ≡ overlaid (take (min (length more) k) more) (take k zeros)
-    → front ++ (last ++ drop k zeros) ≡ take (length front + k) ((front ++ more) ++ replicate m 0)
-unfolding overlaid
-padded-behind front more zeros last k m z h e =
-    let n : length (take (min (length more) k) more) ≡ min (length more) k = length-take-le _ more (omega arith) in
-    let zs : List ℕ = replicate k 0 in
-    let none : drop k zs ≡ [] = drop-of-length-le zs {i = k} (rw length-replicate (omega arith)) in
-    rw (append-assoc front more (replicate m 0), take-append-add, ← padded more k m h, e, n, z, take-replicate k k 0 (omega arith), none, append-nil)
 
 -- what an allowed state has
 module _ (h : Held) (ok : allowed h ≡ true) where

@@ -5,11 +5,10 @@ use mathlib.Core.List.{List, [], _∷_, _++_}
 use Prim.Native.Nat.{ℕ, _≤_}
 use lib.ListN.{length}
 use lib.Dec.{ltb, eqb}
-use Rattle.laws.specs.Lists.{every}
+use Rattle.laws.specs.Lists.{every, Bytes}
 use Rattle.paper.specs.Numbers.{colon, newline, mostChars}
 use Rattle.wire.specs.Frame.{body, frame}
 use Rattle.wire.specs.Reading.{Ended, good, refused, bodySays, brokenSays}
-use Rattle.wire.specs.Laws.{Bytes}
 use Rattle.wire.proofs.Nibbles.{digit-stays}
 use Rattle.wire.proofs.RoundTrip.{body-all, body-says, Said, said, said-nibble, said-few, said-small}
 use Rattle.stream.specs.Stream.{outside, inside, next, framesFrom, leftFrom, taken}

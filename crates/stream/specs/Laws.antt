@@ -12,7 +12,8 @@ use Rattle.laws.specs.Cutting.{Step, Offer, calls, ready}
 use Rattle.paper.specs.Numbers.{mostNibble, mostData}
 use Rattle.wire.specs.Frame.{frame}
 use Rattle.wire.specs.Reading.{Ended, good, refused}
-use Rattle.wire.specs.Laws.{Bytes, Writable}
+use Rattle.laws.specs.Lists.{Bytes}
+use Rattle.wire.specs.Laws.{Writable}
 use Rattle.stream.specs.Stream.{Unfinished, outside, framesFrom, framesOf, leftBy, firstEnd, taken}
 use Rattle.stream.specs.Calls.{mostHeld, heldOf, allowed, hearing}
 use Rattle.stream.specs.declared.Event.{Event}

@@ -10,7 +10,7 @@ use lib.ListN.{length}
 use lib.Dec.{ltb}
 use Rattle.laws.specs.Lists.{every}
 use Rattle.laws.proofs.Bools.{and-left, and-right}
-use Rattle.wire.specs.Numbers.{fromLittle, signed}
+use Rattle.endian.specs.Numbers.{fromLittle, signed}
 use Rattle.lines.specs.Lines.{chars}
 use Rattle.lines.specs.Numbers.{pointed}
 use Rattle.view.specs.Values.{signedText}

@@ -9,7 +9,7 @@ use lib.ListN.{getD}
 use lib.Dec.{ltb, leb}
 use Rattle.laws.proofs.Lists.{upTo-at}
 use Rattle.who.specs.Parts.{serialFits}
-use Rattle.wire.specs.Numbers.{little}
+use Rattle.endian.specs.Numbers.{little}
 use Rattle.reply.specs.Replies.{flagOf}
 use Rattle.reply.specs.Calls.{reading}
 use Rattle.reply.specs.declared.Status.{Status}

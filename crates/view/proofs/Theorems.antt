@@ -8,8 +8,8 @@ use borrow.Author.Tests.{eq-eqb, ne-eqb}
 use lib.ListN.{length, getD, take}
 use Rattle.who.specs.Parts.{serialFits}
 use Rattle.wire.specs.Digits.{digit}
-use Rattle.wire.specs.Numbers.{fromLittle, signed}
-use Rattle.wire.specs.Laws.{Bytes}
+use Rattle.endian.specs.Numbers.{fromLittle, signed}
+use Rattle.laws.specs.Lists.{Bytes}
 use Rattle.reply.specs.Units.{inVolts, inAmperes, inFineAmperes, inAmpHours, inPercent}
 use Rattle.reply.specs.Calls.{showing}
 use Rattle.lines.specs.Lines.{chars, lineOf}

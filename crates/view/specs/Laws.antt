@@ -11,8 +11,8 @@ use lib.IntN.{ℤ, pos, negsuc}
 use lib.Ieee.{Float}
 use Rattle.paper.specs.Numbers as paper
 use Rattle.who.specs.Parts.{serialFits}
-use Rattle.wire.specs.Numbers.{fromLittle, signed}
-use Rattle.wire.specs.Laws.{Bytes}
+use Rattle.endian.specs.Numbers.{fromLittle, signed}
+use Rattle.laws.specs.Lists.{Bytes}
 use Rattle.reply.specs.Replies.{rest}
 use Rattle.reply.specs.Units.{over}
 use Rattle.reply.specs.Calls.{reading, showing}

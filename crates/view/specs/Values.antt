@@ -9,7 +9,7 @@ use Rattle.laws.specs.Lists.{before}
 use Rattle.paper.specs.Numbers.{mostSerial}
 use Rattle.who.specs.Parts.{serialFits}
 use Rattle.wire.specs.Frame.{digitsOf}
-use Rattle.wire.specs.Numbers.{fromLittle}
+use Rattle.endian.specs.Numbers.{fromLittle}
 use Rattle.lines.specs.Lines.{chars}
 use Rattle.lines.specs.Numbers.{pointed}
 

@@ -2,7 +2,7 @@
 ghost use Prim.Native.Nat.{_<_};
 ghost use mathlib.Core.Path.{_≡_};
 ghost use lib.ListN.{length};
-ghost use Rattle.wire.specs.Numbers.{fromLittle};
+ghost use Rattle.endian.specs.Numbers.{fromLittle};
 
 // A byte among the larger numbers.
 pub(crate) fn wide(b: u8) -> usize

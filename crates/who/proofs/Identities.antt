@@ -2,17 +2,15 @@
 use mathlib.Core.Path.{_≡_, refl}
 use mathlib.Core.Bool.{Bool, true, false}
 use mathlib.Core.List.{List, []}
-use Prim.Native.Nat.{ℕ, zero, suc, _≤_}
+use Prim.Native.Nat.{ℕ, _≤_}
 use borrow.Author.Tests.{leb-true}
-use lib.ListN.{length, drop, replicate}
-use lib.Seq.{take-append-seam, drop-append-seam}
-use lib.Dec.{leb, eqb}
+use lib.ListN.{length}
+use lib.Dec.{leb}
 use Rattle.laws.specs.Lists.{every}
-use Rattle.laws.specs.Promise.{overlaid}
 use Rattle.laws.proofs.Bools.{and-left, and-right, both}
-use Rattle.laws.proofs.Lists.{every-replicate}
-use Rattle.who.specs.Parts.{printed, serialFits, noSerial, identityOf, serialOf, noIdentity, identityAllowed}
-use Rattle.paper.specs.Numbers.{notAllowed}
+use Rattle.laws.proofs.Fronts.{front-taken, front-zeros}
+use Rattle.who.specs.Parts.{printed, serialFits, identityOf, serialOf, noIdentity, identityAllowed}
+use Rattle.paper.specs.Numbers.{mostSerial, notAllowed}
 use Rattle.who.specs.Calls.{naming}
 use Rattle.who.specs.Laws.{NamedIsAllowed}
 use Rattle.who.specs.declared.Verdict.{Verdict}
@@ -30,21 +28,16 @@ module _ (product version : ℕ) (serial : List ℕ) where
   unfolding naming
   named-accepted e = rw e
 
-zeros-end : (n m : ℕ) → every (eqb 0) (drop n (replicate m 0)) ≡ true
-zeros-end zero m = every-replicate m
-zeros-end (suc n) zero = refl
-zeros-end (suc n) (suc m) = zeros-end n m
-
 pub serial-back : (product version : ℕ) (serial : List ℕ) → serialOf (identityOf product version serial) ≡ serial
-unfolding serialOf identityOf overlaid
-serial-back product version serial = take-append-seam serial _
+unfolding serialOf identityOf
+serial-back product version serial = front-taken mostSerial serial
 
 pub identity-fits : (product version : ℕ) (serial : List ℕ) → serialFits serial ≡ true → identityAllowed (identityOf product version serial) ≡ true
-unfolding identityAllowed serialOf identityOf overlaid noSerial serialFits
+unfolding identityAllowed serialOf identityOf serialFits
 identity-fits product version serial e =
-    rw (take-append-seam, drop-append-seam)
+    rw (front-taken mostSerial serial)
     (both _ _ (and-left (leb (length serial) 32) (every printed serial) e)
-    (both _ _ (and-right (leb (length serial) 32) (every printed serial) e) (zeros-end (length serial) 32)))
+    (both _ _ (and-right (leb (length serial) 32) (every printed serial) e) (front-zeros mostSerial serial)))
 
 pub nobody-allowed : identityAllowed noIdentity ≡ true
 unfolding noIdentity serialFits

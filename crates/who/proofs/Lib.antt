@@ -1,7 +1,6 @@
 -- Laws of the definitions of specs/, and what the proofs of the functions cite.
 pub mod Serials
 pub mod Identities
-pub mod Complements
 pub mod SerialValues
 pub mod ReadOut
 pub mod Theorems

@@ -8,11 +8,11 @@ use native.Mathlib.Omega.{arith}
 use borrow.Author.Tests.{lt-ltb, ltb-true, leb-true}
 use lib.Dec.{leb, ltb, eqb}
 use lib.ListN.{length, take, length-append, length-take}
-use Rattle.laws.specs.Lists.{every}
+use Rattle.laws.specs.Lists.{every, byte}
 use Rattle.laws.proofs.Bools.{and-left, and-right, both, pick}
 use Rattle.laws.proofs.Lists.{every-append}
-use Rattle.wire.specs.Numbers.{little}
-use Rattle.wire.proofs.Little.{byte, length-little, bytes-little}
+use Rattle.endian.specs.Numbers.{little}
+use Rattle.endian.proofs.Little.{length-little, bytes-little}
 use Rattle.who.specs.Parts.{printed, serialOf, identityAllowed}
 use Rattle.who.specs.Values.{productValue, serialValue, readOnly}
 use Rattle.paper.specs.Numbers.{notAllowed}

@@ -4,9 +4,9 @@ use mathlib.Core.Bool.{cond}
 use mathlib.Core.List.{List, []}
 use mathlib.Core.Option.{Option, none, some}
 use lib.ListN.{length}
-use Rattle.paper.specs.Numbers.{unknownId, notAllowed}
-use Rattle.laws.specs.Promise.{overlaid}
-use Rattle.who.specs.Parts.{serialFits, noSerial, identityOf, noIdentity, identityAllowed}
+use Rattle.paper.specs.Numbers.{mostSerial, unknownId, notAllowed}
+use Rattle.laws.specs.Promise.{frontOf}
+use Rattle.who.specs.Parts.{serialFits, identityOf, noIdentity, identityAllowed}
 use Rattle.who.specs.Values.{readOnly}
 use Rattle.who.specs.declared.Identity.{Identity}
 use Rattle.who.specs.declared.Readings.{Readings}
@@ -24,7 +24,7 @@ naming product version serial =
 
 -- a value as the program holds it: its bytes at the front of an array, zeros after them
 unfoldable pub valueOf : List ℕ → Value
-valueOf bytes = record { len = length bytes; bytes = overlaid bytes noSerial }
+valueOf bytes = record { len = length bytes; bytes = frontOf mostSerial bytes }
 
 unfoldable pub noValue : ℕ → Looked
 noValue number = record { verdict = Verdict.Refused number; value = valueOf [] }

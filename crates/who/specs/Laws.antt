@@ -5,10 +5,9 @@ use mathlib.Core.Path.{_≡_}
 use mathlib.Core.Bool.{true}
 use mathlib.Core.List.{List}
 use mathlib.Core.Option.{Option, none, some}
-use lib.Dec.{ltb}
 use lib.ListN.{length, replicate}
 use Rattle.paper.specs.Numbers as paper
-use Rattle.laws.specs.Lists.{every}
+use Rattle.laws.specs.Lists.{every, byte}
 use Rattle.paper.specs.Numbers.{mostSerial}
 use Rattle.who.specs.Parts.{identityOf, serialOf, identityAllowed, noReadings}
 use Rattle.who.specs.Values.{readOnly}
@@ -26,7 +25,7 @@ SerialIsKept = (product version : ℕ) (serial : List ℕ) → serialOf (identit
 -- 2. Every read-only value has at most 32 bytes.
 pub data Small : Option (List ℕ) → Type 0 where
   small-none : Small none
-  small-some : {v : List ℕ} → length v ≤ mostSerial → every (λ b. ltb b 256) v ≡ true → Small (some v)
+  small-some : {v : List ℕ} → length v ≤ mostSerial → every byte v ≡ true → Small (some v)
 
 abbrev pub ValuesFit : Type 0
 ValuesFit = (identity : Identity) (readings : Readings) (id : ℕ) → identityAllowed identity ≡ true → Small (readOnly identity readings id)

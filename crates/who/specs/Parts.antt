@@ -2,12 +2,12 @@
 use Prim.Native.Nat.{ℕ}
 use mathlib.Core.Bool.{Bool, _&&_}
 use mathlib.Core.List.{List, []}
-use lib.ListN.{length, take, drop, replicate}
+use lib.ListN.{length, take, drop}
 use lib.IntN.{pos}
 use lib.Dec.{leb, eqb}
 use Rattle.paper.specs.Numbers.{mostSerial}
 use Rattle.laws.specs.Lists.{every}
-use Rattle.laws.specs.Promise.{overlaid}
+use Rattle.laws.specs.Promise.{frontOf}
 use Rattle.who.specs.declared.Identity.{Identity}
 use Rattle.who.specs.declared.Readings.{Readings}
 
@@ -18,12 +18,9 @@ printed b = leb 0x20 b && leb b 0x7E
 unfoldable pub serialFits : List ℕ → Bool
 serialFits serial = leb (length serial) mostSerial && every printed serial
 
-unfoldable pub noSerial : List ℕ
-noSerial = replicate mostSerial 0
-
 unfoldable pub identityOf : ℕ → ℕ → List ℕ → Identity
 identityOf product version serial =
-    record { product = product; version = version; len = length serial; serial = overlaid serial noSerial }
+    record { product = product; version = version; len = length serial; serial = frontOf mostSerial serial }
 
 unfoldable pub noIdentity : Identity
 noIdentity = identityOf 0 0 []

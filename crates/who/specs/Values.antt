@@ -5,7 +5,7 @@ use mathlib.Core.List.{List, [], _∷_, _++_}
 use mathlib.Core.Option.{Option, none, some}
 use lib.Dec.{eqb, ltb}
 use Rattle.paper.specs.Numbers as paper
-use Rattle.wire.specs.Numbers.{little, complement}
+use Rattle.endian.specs.Numbers.{little, complement}
 use Rattle.paper.specs.Numbers.{mostSerial}
 use Rattle.who.specs.Parts.{serialOf}
 use Rattle.who.specs.declared.Identity.{Identity}

@@ -4,7 +4,9 @@ ghost use mathlib.Core.Bool.{_&&_};
 ghost use lib.Dec.{leb};
 ghost use lib.ListN.{length};
 ghost use Prim.Native.Nat.{_≤_};
+ghost use Rattle.paper.specs.Numbers.{mostSerial};
 ghost use Rattle.laws.specs.Lists.{every};
+ghost use Rattle.laws.specs.Promise.{frontOf};
 ghost use Rattle.who.specs.Parts.{serialFits, identityOf, identityAllowed, noIdentity};
 use crate::Identity;
 use crate::numbers;
@@ -37,22 +39,26 @@ pub(crate) fn serial_fits(serial: &[u8]) -> bool
         & all_within(serial, numbers::FIRST_PRINTED, numbers::LAST_PRINTED)
 }
 
+// An array with some bytes at its front, and zeros behind.
+pub(crate) fn front(from: &[u8]) -> [u8; paper::MOST_SERIAL]
+    requires { ⌜ length (now from) ≤ mostSerial ⌝ }
+    ensures { λ r. ⌜ r ≡ frontOf mostSerial (now (from .entry)) ⌝ }
+{
+    let mut array = [0u8; paper::MOST_SERIAL];
+    bytes::copy(from, &mut array);
+    array
+}
+
 // The identity of a product, a version and a serial.
 pub(crate) fn identity_of(product: u16, version: u16, serial: &[u8]) -> Identity
-    requires { ⌜ length (now serial) ≤ 32 ⌝ }
+    requires { ⌜ length (now serial) ≤ mostSerial ⌝ }
     ensures { λ r. ⌜ r ≡ identityOf product version (now (serial .entry)) ⌝ }
 {
-    let mut bytes = [0u8; paper::MOST_SERIAL];
-    let mut i = 0;
-    while i < serial.len() {
-        bytes[i] = serial[i];
-        i += 1;
-    }
     Identity {
         product,
         version,
         len: serial.len(),
-        serial: bytes,
+        serial: front(serial),
     }
 }
 

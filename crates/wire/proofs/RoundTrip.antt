@@ -8,7 +8,7 @@ use borrow.Author.Tests.{lt-ltb, le-ltb, le-leb, eq-eqb, ne-eqb, ltb-true, ltb-f
 use lib.ListN.{length, take, drop, getD, length-append, drop-of-length-le}
 use lib.Seq.{take-append-seam, getD-append-seam, split-at}
 use lib.Dec.{ltb, leb, eqb}
-use Rattle.laws.specs.Lists.{every, sumOf}
+use Rattle.laws.specs.Lists.{every, sumOf, Bytes}
 use Rattle.laws.proofs.Bools.{and-left, and-right}
 use Rattle.laws.proofs.Lists.{every-at, every-take, every-append, sum-append}
 use Rattle.wire.specs.Digits.{digit, nibble, isDigit}
@@ -16,7 +16,6 @@ use Rattle.paper.specs.Numbers.{colon, newline, total}
 use Rattle.wire.specs.Frame.{check, digitsOf, body, frame}
 use Rattle.wire.specs.Reading.{Ended, good, refused, bytesOf, commandOf, payloadOf, dataOf, badCount, sumsUp, bodySays}
 use Rattle.wire.specs.Calls.{between, wellEnclosed, reading, readAs, writing, writtenAs}
-use Rattle.wire.specs.Laws.{Bytes}
 use Rattle.wire.specs.declared.Read.{Read}
 use Rattle.wire.proofs.Nibbles.{nibble-digit, digit-nibble, digit-isDigit, nibble-at}
 use Rattle.wire.proofs.Bytes.{length-bytesOf, length-data, odd-count}

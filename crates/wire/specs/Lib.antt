@@ -1,7 +1,6 @@
 -- What a frame is and how its characters are read: document 01, "Frames", and the whole frame of "What the box reads". Read them in this
 -- order.
 pub mod Digits
-pub mod Numbers
 pub mod Frame
 pub mod Reading
 pub mod Calls

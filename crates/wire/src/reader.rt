@@ -4,7 +4,7 @@ ghost use mathlib.Core.Path.{_≡_};
 ghost use mathlib.Core.Bool.{true, false};
 ghost use lib.ListN.{length, take};
 ghost use Rattle.laws.specs.Lists.{every};
-ghost use Rattle.laws.specs.Promise.{overlaid, Gives};
+ghost use Rattle.laws.specs.Promise.{Gives};
 ghost use Rattle.wire.specs.Digits.{isDigit};
 ghost use Rattle.wire.specs.Reading.{bodySays, badCount, payloadOf};
 ghost use Rattle.wire.specs.Calls.{wellEnclosed, readAs};
@@ -59,18 +59,6 @@ fn payload_of(chars: &[u8]) -> [u8; MOST_PAYLOAD]
     payload
 }
 
-// Copies `from` to the front of `into`.
-fn copy(from: &[u8], into: &mut [u8])
-    requires { ⌜ length (now from) ≤ length (now into) ⌝ }
-    ensures { λ r. ⌜ now (into .exit) ≡ overlaid (now (from .entry)) (now (into .entry)) ⌝ }
-{
-    let mut i = 0;
-    while i < from.len() {
-        into[i] = from[i];
-        i += 1;
-    }
-}
-
 // What an odd number of digits say: 4, or the data to the front of `into`.
 pub(crate) fn read_digits(chars: &[u8], into: &mut [u8]) -> Read
     requires { ⌜ (length (now chars) ≤ 73) × (every isDigit (now chars) ≡ true) × (badCount (length (now chars)) ≡ false) × (35 ≤ length (now into)) ⌝ }
@@ -82,7 +70,7 @@ pub(crate) fn read_digits(chars: &[u8], into: &mut [u8]) -> Read
     if (command as usize + writer::sum_of(&payload[..n])) % 256 != paper::TOTAL {
         return Read::Refused(paper::BAD_SUM);
     }
-    copy(&payload[..n - 1], into);
+    bytes::copy(&payload[..n - 1], into);
     Read::Frame {
         command,
         len: n - 1,

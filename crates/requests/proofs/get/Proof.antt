@@ -1,6 +1,5 @@
 -- `requests::get` meets its contract. Assumes nothing.
 use mathlib.Core.Path.{sym}
-use Prim.Native.Nat.{_<_}
 use denote.Ref.{now}
 use lib.ListN.{length}
 use Rattle.requests.proofs.Asking.{get-is}
@@ -8,14 +7,14 @@ use borrow.Author.Needs.{needs}
 use Rattle.requests.proofs.get.Statement.{statement}
 use Rattle.requests.proofs.get.Tie as tie
 
-small : (s : tie.Start) → s .args .id < 65536
-small s = search needs
+bytes-16-requires : tie.Need-bytes-16-requires
+bytes-16-requires c κs = search needs
 
-cast-t5 : tie.Need-cast-t5
-cast-t5 c = search needs
+array-read-t8 : tie.Need-array-read-t8
+array-read-t8 c = search needs
 
-cast-t7 : tie.Need-cast-t7
-cast-t7 c = search needs
+array-read-t11 : tie.Need-array-read-t11
+array-read-t11 c = search needs
 
 slice-aggregate-write-frame : tie.Need-slice-aggregate-write-frame
 slice-aggregate-write-frame c = search needs
@@ -28,10 +27,17 @@ same-length c = search needs
 
 returns : tie.Need-returns
 returns c =
-    let s = c .before .before .before .before .before .before in
-    rw (sym (get-is (s .args .id) (length (now (s .args .out))) (small s))) (c .before .before .write-frame .ensures)
+    let s = c .before .before .before .before .before .before .before in
+    rw (sym (get-is (s .args .id) (length (now (s .args .out))))) (rw (c .before .before .before .before .before .bytes-16 .ensures) at (c .before .before .write-frame .ensures))
 
 pub get-spec : {M : Type 1} → statement M
 get-spec =
     tie.close
-    (tie.spec cast-t5 cast-t7 slice-aggregate-write-frame write-frame-requires same-length returns)
+    (tie.spec
+    bytes-16-requires
+    array-read-t8
+    array-read-t11
+    slice-aggregate-write-frame
+    write-frame-requires
+    same-length
+    returns)

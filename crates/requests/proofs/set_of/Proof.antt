@@ -1,39 +1,38 @@
 -- `requests::set_of` meets its contract. Assumes nothing.
 use mathlib.Core.Path.{sym, _∙_}
-use Prim.Native.Nat.{_<_}
 use borrow.Author.Tests.{not-true, not-false}
 use denote.Ref.{now}
-use Rattle.laws.proofs.Promise.{gives-none}
 use lib.ListN.{length, length-take}
+use native.Mathlib.Omega.{arith}
+use Rattle.laws.proofs.Promise.{gives-none}
 use Rattle.requests.proofs.Asking.{data-is, set-wide, set-of-is}
 use borrow.Author.Needs.{needs}
-use native.Mathlib.Omega.{arith}
 use Rattle.requests.proofs.set_of.Statement.{statement}
 use Rattle.requests.proofs.set_of.Tie as tie
 
-id-small : (s : tie.Start) → s .args .id < 65536
-id-small s = search needs
-
-number-small : (s : tie.Start) → s .args .number < 65536
-number-small s = search needs
-
 holds-requires : tie.Need-holds-requires
-holds-requires c κs = (c .before .pre .0, c .before .pre .1)
+holds-requires c κs = search needs
 
 returns : tie.Need-returns
 returns c = gives-none _ (set-wide _ _ _ (sym (c .before .holds .ensures) ∙ not-true _ (c .if1 .taken)))
 
-cast-t9 : tie.Need-cast-t9
-cast-t9 c = search needs
+bytes-16-requires : tie.Need-bytes-16-requires
+bytes-16-requires c κs = search needs
 
-cast-t11 : tie.Need-cast-t11
-cast-t11 c = search needs
+bytes-16-requires-2 : tie.Need-bytes-16-requires-2
+bytes-16-requires-2 c κs = search needs
 
-cast-t13 : tie.Need-cast-t13
-cast-t13 c = search needs
+array-read-t13 : tie.Need-array-read-t13
+array-read-t13 c = search needs
 
-cast-t15 : tie.Need-cast-t15
-cast-t15 c = search needs
+array-read-t16 : tie.Need-array-read-t16
+array-read-t16 c = search needs
+
+array-read-t19 : tie.Need-array-read-t19
+array-read-t19 c = search needs
+
+array-read-t22 : tie.Need-array-read-t22
+array-read-t22 c = search needs
 
 add-bytes : tie.Need-add-bytes
 add-bytes c = search needs
@@ -42,7 +41,7 @@ array-share-prefix-bytes : tie.Need-array-share-prefix-bytes
 array-share-prefix-bytes c = search needs
 
 slice-aggregate-write-frame : tie.Need-slice-aggregate-write-frame
-slice-aggregate-write-frame c = rw length-take (omega (arith, c .before .before .before .before .pre))
+slice-aggregate-write-frame c = rw length-take (omega (arith, c .before .before .before .before .before .before .pre))
 
 write-frame-requires : tie.Need-write-frame-requires
 write-frame-requires c κs = search needs
@@ -52,13 +51,13 @@ same-length c = search needs
 
 returns-2 : tie.Need-returns-2
 returns-2 c =
-    let s = c .before .before .before .before .before .before .before .before in
-    let fits = sym (c .before .before .before .before .before .before .holds .ensures) ∙ not-false _ (c .before .before .before .before .before .if1 .left) in
+    let s = c .before .before .before .before .before .before .before .before .before .before in
+    let fits = sym (c .before .before .before .before .before .before .before .before .holds .ensures) ∙ not-false _ (c .before .before .before .before .before .before .before .if1 .left) in
     rw (
       sym (set-of-is (s .args .id) (s .args .width) (s .args .number) (length (now (s .args .out))) (s .pre .1) (s .pre .2) fits),
-      sym (data-is (s .args .width) (s .args .id) (s .args .number) (s .pre .0) (s .pre .1) (id-small s) (number-small s)),
+      sym (data-is (s .args .width) (s .args .id) (s .args .number) (s .pre .0) (s .pre .1)),
     )
-    (c .before .before .write-frame .ensures)
+    (rw (c .before .before .before .before .before .before .bytes-16 .ensures, c .before .before .before .before .before .bytes-162 .ensures) at (c .before .before .write-frame .ensures))
 
 pub set-of-spec : {M : Type 1} → statement M
 set-of-spec =
@@ -66,10 +65,12 @@ set-of-spec =
     (tie.spec
     holds-requires
     returns
-    cast-t9
-    cast-t11
-    cast-t13
-    cast-t15
+    bytes-16-requires
+    bytes-16-requires-2
+    array-read-t13
+    array-read-t16
+    array-read-t19
+    array-read-t22
     add-bytes
     array-share-prefix-bytes
     slice-aggregate-write-frame

@@ -2,7 +2,7 @@
 use mathlib.Core.Path.{_∙_}
 use native.Mathlib.Omega.{arith}
 use Rattle.answers.proofs.Deciding.{says-is, value-short}
-use Rattle.wire.proofs.Little.{length-little}
+use Rattle.endian.proofs.Little.{length-little}
 use Rattle.answers.proofs.gets.get_setting.Statement.{statement}
 use Rattle.answers.proofs.gets.get_setting.Tie as tie
 

@@ -3,7 +3,7 @@ use mathlib.Core.Path.{ap, _∙_}
 use native.Mathlib.Omega.{arith}
 use Rattle.answers.specs.AsHeld.{decidedOf}
 use Rattle.answers.proofs.Deciding.{says-is, value-short, sets-wrong, sets-right}
-use Rattle.wire.proofs.Little.{length-little}
+use Rattle.endian.proofs.Little.{length-little}
 use Rattle.answers.proofs.sets.set_setting.Statement.{statement}
 use Rattle.answers.proofs.sets.set_setting.Tie as tie
 

@@ -3,7 +3,7 @@ use mathlib.Core.Path.{_∙_}
 use native.Mathlib.Omega.{arith}
 use borrow.Author.Needs.{needs}
 use Rattle.answers.proofs.Deciding.{says-is, value-short, stored-is}
-use Rattle.wire.proofs.Little.{length-little}
+use Rattle.endian.proofs.Little.{length-little}
 use Rattle.answers.proofs.sets.stored.Statement.{statement}
 use Rattle.answers.proofs.sets.stored.Tie as tie
 

@@ -2,7 +2,7 @@
 use native.Mathlib.Omega.{arith}
 use borrow.Author.Needs.{needs}
 use denote.Ref.{now}
-use Rattle.wire.proofs.Little.{one-number, two-number}
+use Rattle.endian.proofs.Little.{one-number, two-number}
 use Rattle.answers.proofs.values.number_of.Statement.{statement}
 use Rattle.answers.proofs.values.number_of.Tie as tie
 

@@ -2,8 +2,7 @@
 use mathlib.Core.Path.{_≡_}
 use native.Mathlib.Omega.{arith}
 use borrow.Author.Needs.{needs}
-use Rattle.laws.specs.Promise.{overlaid}
-use Rattle.who.specs.Parts.{noSerial}
+use Rattle.laws.specs.Promise.{overlaid, frontOf}
 use Rattle.who.specs.Calls.{valueOf}
 use Rattle.answers.proofs.values.wide.Statement.{statement}
 use Rattle.answers.proofs.values.wide.Tie as tie
@@ -15,7 +14,7 @@ array-write-bytes : tie.Need-array-write-bytes
 array-write-bytes c = search needs
 
 returns : tie.Need-returns
-unfolding valueOf overlaid noSerial
+unfolding valueOf frontOf overlaid
 returns c = rw (c .if1 .taken)
 
 cast-bytes-2 : tie.Need-cast-bytes-2
@@ -25,7 +24,7 @@ array-write-bytes-2 : tie.Need-array-write-bytes-2
 array-write-bytes-2 c = search needs
 
 returns-2 : tie.Need-returns-2
-unfolding valueOf overlaid noSerial
+unfolding valueOf frontOf overlaid
 returns-2 c =
     let two : c .before .args .width ≡ 2 = omega (arith, c .before .pre .0, c .before .pre .1, c .if1 .left) in
     rw two

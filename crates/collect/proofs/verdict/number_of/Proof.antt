@@ -1,7 +1,7 @@
 -- `collect::verdict::number_of` meets its contract. Assumes nothing.
 use denote.Ref.{now}
 use Rattle.collect.specs.Collecting.{fits}
-use Rattle.wire.proofs.Little.{one-number, two-number}
+use Rattle.endian.proofs.Little.{one-number, two-number}
 use borrow.Author.Needs.{needs}
 use native.Mathlib.Omega.{arith}
 use Rattle.collect.proofs.verdict.number_of.Statement.{statement}

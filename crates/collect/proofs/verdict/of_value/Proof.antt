@@ -4,7 +4,7 @@ use borrow.Author.Tests.{not-true, not-false}
 use denote.Ref.{now}
 use lib.ListN.{length, drop, length-drop}
 use Rattle.laws.proofs.Lists.{part-to-end}
-use Rattle.wire.specs.Numbers.{fromLittle}
+use Rattle.endian.specs.Numbers.{fromLittle}
 use Rattle.collect.specs.Collecting.{fits}
 use Rattle.collect.specs.declared.verdict.Verdict.{Verdict}
 use Rattle.collect.proofs.Deciding.{width-between, value-other, value-unfit, value-taken}

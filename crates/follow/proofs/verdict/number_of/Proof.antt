@@ -3,7 +3,7 @@ use Prim.Native.Nat.{_-_, _<_}
 use mathlib.Core.Logic.{_≢_}
 use denote.Ref.{now}
 use lib.ListN.{length}
-use Rattle.wire.proofs.Little.{one-number, two-number}
+use Rattle.endian.proofs.Little.{one-number, two-number}
 use Rattle.follow.proofs.Verdicts.{more-than-one}
 use native.Mathlib.Omega.{arith}
 use Rattle.follow.proofs.verdict.number_of.Statement.{statement}

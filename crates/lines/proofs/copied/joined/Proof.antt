@@ -5,7 +5,8 @@ use native.Mathlib.Omega.{arith}
 use borrow.Author.Needs.{needs}
 use lib.ListN.{length, length-take, length-drop}
 use Rattle.lines.specs.Lines.{most}
-use Rattle.lines.proofs.Adding.{copied, tidy-few, tidy-long, more-line}
+use Rattle.laws.proofs.Promise.{copied}
+use Rattle.lines.proofs.Adding.{tidy-few, tidy-long, more-line}
 use Rattle.lines.proofs.copied.joined.Statement.{statement}
 use Rattle.lines.proofs.copied.joined.Tie as tie
 

@@ -4,7 +4,8 @@ use native.Mathlib.Omega.{arith}
 use borrow.Author.Needs.{needs}
 use lib.ListN.{length, length-take}
 use Rattle.lines.specs.Lines.{most, blank}
-use Rattle.lines.proofs.Adding.{copied, kept-length, tidy-line}
+use Rattle.laws.proofs.Promise.{copied}
+use Rattle.lines.proofs.Adding.{kept-length, tidy-line}
 use Rattle.lines.proofs.copied.tidied.Statement.{statement}
 use Rattle.lines.proofs.copied.tidied.Tie as tie
 

@@ -2,8 +2,6 @@
 use mathlib.Core.Path.{sym, _∙_}
 use borrow.Author.Tests.{lt-ltb, le-ltb}
 use Rattle.reply.specs.Replies.{front}
-use lib.ListN.{length-take}
-use native.Mathlib.Omega.{arith}
 use borrow.Author.Needs.{needs}
 use Rattle.reply.proofs.kinds.front_of.Statement.{statement}
 use Rattle.reply.proofs.kinds.front_of.Tie as tie
@@ -15,18 +13,15 @@ returns c = rw (lt-ltb _ 3 (c .if1 .taken))
 shared-slice-read-flags : tie.Need-shared-slice-read-flags
 shared-slice-read-flags c = search needs
 
-slice-aggregate-two : tie.Need-slice-aggregate-two
-slice-aggregate-two c = rw length-take (omega (arith, c .before .before .if1 .left))
-
-two-requires : tie.Need-two-requires
-two-requires c κs = rw length-take (omega (arith, c .before .before .if1 .left))
+read-16-requires : tie.Need-read-16-requires
+read-16-requires c κs = search needs
 
 with-flags-requires : tie.Need-with-flags-requires
 with-flags-requires c κs = search needs
 
 returns-2 : tie.Need-returns-2
 unfolding front
-returns-2 c = c .with-flags .ensures ∙ sym (rw (le-ltb _ 3 (c .before .before .before .before .if1 .left), sym (c .before .two .ensures)))
+returns-2 c = c .with-flags .ensures ∙ sym (rw (le-ltb _ 3 (c .before .before .before .if1 .left), sym (c .before .read-16 .ensures)))
 
 pub front-of-spec : {M : Type 1} → statement M
 front-of-spec =
@@ -34,7 +29,6 @@ front-of-spec =
     (tie.spec
     returns
     shared-slice-read-flags
-    slice-aggregate-two
-    two-requires
+    read-16-requires
     with-flags-requires
     returns-2)

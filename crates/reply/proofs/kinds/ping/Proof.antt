@@ -1,6 +1,8 @@
 -- `reply::kinds::ping` meets its contract. Assumes nothing.
 use mathlib.Core.Path.{sym, _∙_}
 use borrow.Author.Tests.{eq-eqb, ne-eqb}
+use native.Mathlib.Nat.{le-of-eq}
+use Rattle.endian.proofs.Little.{all-first}
 use Rattle.reply.specs.Replies.{numbering}
 use borrow.Author.Needs.{needs}
 use Rattle.reply.proofs.kinds.ping.Statement.{statement}
@@ -13,12 +15,12 @@ returns : tie.Need-returns
 unfolding numbering
 returns c = c .malformed .ensures ∙ sym (rw (ne-eqb _ 2 (c .before .if1 .taken)))
 
-two-requires : tie.Need-two-requires
-two-requires c κs = search needs
+read-16-requires : tie.Need-read-16-requires
+read-16-requires c κs = search needs
 
 returns-2 : tie.Need-returns-2
 unfolding numbering
-returns-2 c = rw (eq-eqb _ 2 (c .before .if1 .left), c .two .ensures)
+returns-2 c = rw (eq-eqb _ 2 (c .before .if1 .left), c .read-16 .ensures, all-first 2 _ (le-of-eq (c .before .if1 .left)))
 
 pub ping-spec : {M : Type 1} → statement M
-ping-spec = tie.close (tie.spec malformed-requires returns two-requires returns-2)
+ping-spec = tie.close (tie.spec malformed-requires returns read-16-requires returns-2)

@@ -2,13 +2,15 @@
 use mir.Syntax.{w16}
 use mir.Val.{SFits}
 use mir.ValLaws.{toZ-ofZ}
+use native.Mathlib.Nat.{le-of-eq}
+use Rattle.endian.proofs.Little.{all-first}
 use Rattle.reply.specs.Units.{over}
 use borrow.Author.Needs.{needs}
 use Rattle.reply.proofs.units.over_16.Statement.{statement}
 use Rattle.reply.proofs.units.over_16.Tie as tie
 
-two-requires : tie.Need-two-requires
-two-requires c κs = search needs
+read-16-requires : tie.Need-read-16-requires
+read-16-requires c κs = search needs
 
 signed-16-requires : tie.Need-signed-16-requires
 signed-16-requires c κs = search needs
@@ -23,9 +25,9 @@ returns : tie.Need-returns
 unfolding over
 returns c =
     let fits : SFits w16 (c .before .before .signed-16 .result) = search needs in
-    rw (toZ-ofZ w16 _ fits, c .before .before .signed-16 .ensures, c .before .before .before .two .ensures)
+    rw (toZ-ofZ w16 _ fits, c .before .before .signed-16 .ensures, c .before .before .before .read-16 .ensures, all-first 2 _ (le-of-eq (c .before .before .before .before .before .pre)))
 
 pub over-16-spec : {M : Type 1} → statement M
 over-16-spec =
     tie.close
-    (tie.spec two-requires signed-16-requires int-to-float-result int-to-float-result-2 returns)
+    (tie.spec read-16-requires signed-16-requires int-to-float-result int-to-float-result-2 returns)

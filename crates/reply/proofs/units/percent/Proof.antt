@@ -1,6 +1,8 @@
 -- `reply::units::percent` meets its contract. Assumes nothing.
 use mathlib.Core.Path.{sym, _∙_}
 use borrow.Author.Tests.{eq-eqb, ne-eqb}
+use native.Mathlib.Nat.{le-of-eq}
+use Rattle.endian.proofs.Little.{all-first}
 use Rattle.reply.specs.Units.{inPercent, over}
 use borrow.Author.Needs.{needs}
 use Rattle.reply.proofs.units.percent.Statement.{statement}
@@ -13,8 +15,8 @@ returns : tie.Need-returns
 unfolding inPercent
 returns c = c .wrong-width .ensures ∙ sym (rw (ne-eqb _ 2 (c .before .if1 .taken)))
 
-two-requires : tie.Need-two-requires
-two-requires c κs = search needs
+read-16-requires : tie.Need-read-16-requires
+read-16-requires c κs = search needs
 
 int-to-float-t5 : tie.Need-int-to-float-t5
 int-to-float-t5 c = search needs
@@ -24,9 +26,9 @@ int-to-float-t6 c = search needs
 
 returns-2 : tie.Need-returns-2
 unfolding inPercent over
-returns-2 c = rw (eq-eqb _ 2 (c .before .before .if1 .left), c .before .two .ensures)
+returns-2 c = rw (eq-eqb _ 2 (c .before .before .if1 .left), c .before .read-16 .ensures, all-first 2 _ (le-of-eq (c .before .before .if1 .left)))
 
 pub percent-spec : {M : Type 1} → statement M
 percent-spec =
     tie.close
-    (tie.spec wrong-width-requires returns two-requires int-to-float-t5 int-to-float-t6 returns-2)
+    (tie.spec wrong-width-requires returns read-16-requires int-to-float-t5 int-to-float-t6 returns-2)

@@ -4,7 +4,8 @@ use mathlib.Core.Path.{_≡_}
 use native.Mathlib.Omega.{arith}
 use borrow.Author.Needs.{needs}
 use lib.ListN.{length, length-take, length-drop}
-use Rattle.stream.proofs.Helds.{allowed-few, copied, held-more}
+use Rattle.laws.proofs.Promise.{copied}
+use Rattle.stream.proofs.Helds.{allowed-few, held-more}
 use Rattle.stream.proofs.unfinished.with_more.Statement.{statement}
 use Rattle.stream.proofs.unfinished.with_more.Tie as tie
 

@@ -1,50 +1,20 @@
 -- `who::values::four` meets its contract. Assumes nothing.
-use mathlib.Core.Path.{refl}
-use Rattle.laws.specs.Promise.{overlaid}
-use Rattle.who.specs.Parts.{noSerial}
-use Rattle.who.specs.Calls.{valueOf}
 use borrow.Author.Needs.{needs}
 use Rattle.who.proofs.values.four.Statement.{statement}
 use Rattle.who.proofs.values.four.Tie as tie
 
-cast-bytes : tie.Need-cast-bytes
-cast-bytes c = search needs
+bytes-32-requires : tie.Need-bytes-32-requires
+bytes-32-requires c κs = search needs
 
-array-write-bytes : tie.Need-array-write-bytes
-array-write-bytes c = search needs
+slice-aggregate-value-of : tie.Need-slice-aggregate-value-of
+slice-aggregate-value-of c = search needs
 
-cast-bytes-2 : tie.Need-cast-bytes-2
-cast-bytes-2 c = search needs
-
-array-write-bytes-2 : tie.Need-array-write-bytes-2
-array-write-bytes-2 c = search needs
-
-cast-bytes-3 : tie.Need-cast-bytes-3
-cast-bytes-3 c = search needs
-
-array-write-bytes-3 : tie.Need-array-write-bytes-3
-array-write-bytes-3 c = search needs
-
-cast-bytes-4 : tie.Need-cast-bytes-4
-cast-bytes-4 c = search needs
-
-array-write-bytes-4 : tie.Need-array-write-bytes-4
-array-write-bytes-4 c = search needs
+value-of-requires : tie.Need-value-of-requires
+value-of-requires c κs = search needs
 
 returns : tie.Need-returns
-unfolding valueOf overlaid noSerial
-returns c = refl
+returns c = rw (c .value-of .ensures, c .before .before .bytes-32 .ensures)
 
 pub four-spec : {M : Type 1} → statement M
 four-spec =
-    tie.close
-    (tie.spec
-    cast-bytes
-    array-write-bytes
-    cast-bytes-2
-    array-write-bytes-2
-    cast-bytes-3
-    array-write-bytes-3
-    cast-bytes-4
-    array-write-bytes-4
-    returns)
+    tie.close (tie.spec bytes-32-requires slice-aggregate-value-of value-of-requires returns)

@@ -5,7 +5,7 @@ use borrow.Author.Tests.{ne-eqb}
 use mir.Val.{SFits}
 use mir.ValLaws.{toZ-ofZ}
 use mir.Syntax.{w16, w32}
-use Rattle.wire.specs.Numbers.{complement}
+use Rattle.endian.specs.Numbers.{complement}
 use Rattle.who.specs.Values.{readOnly}
 use Rattle.who.specs.Calls.{lookedOf}
 use Rattle.who.proofs.values.looked.Statement.{statement}

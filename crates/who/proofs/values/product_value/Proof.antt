@@ -1,38 +1,33 @@
 -- `who::values::product_value` meets its contract. Assumes nothing.
-use mathlib.Core.Path.{refl}
-use Rattle.laws.specs.Promise.{overlaid}
-use Rattle.who.specs.Parts.{noSerial}
-use Rattle.who.specs.Calls.{valueOf}
 use borrow.Author.Needs.{needs}
 use Rattle.who.proofs.values.product_value.Statement.{statement}
 use Rattle.who.proofs.values.product_value.Tie as tie
 
-cast-bytes : tie.Need-cast-bytes
-cast-bytes c = search needs
+bytes-16-requires : tie.Need-bytes-16-requires
+bytes-16-requires c κs = search needs
 
-array-write-bytes : tie.Need-array-write-bytes
-array-write-bytes c = search needs
+array-read-t7 : tie.Need-array-read-t7
+array-read-t7 c = search needs
 
-cast-bytes-2 : tie.Need-cast-bytes-2
-cast-bytes-2 c = search needs
+array-read-t10 : tie.Need-array-read-t10
+array-read-t10 c = search needs
 
-array-write-bytes-2 : tie.Need-array-write-bytes-2
-array-write-bytes-2 c = search needs
+slice-aggregate-value-of : tie.Need-slice-aggregate-value-of
+slice-aggregate-value-of c = search needs
 
-array-write-bytes-3 : tie.Need-array-write-bytes-3
-array-write-bytes-3 c = search needs
+value-of-requires : tie.Need-value-of-requires
+value-of-requires c κs = search needs
 
 returns : tie.Need-returns
-unfolding valueOf overlaid noSerial
-returns c = refl
+returns c = rw (c .value-of .ensures, c .before .before .bytes-16 .ensures)
 
 pub product-value-spec : {M : Type 1} → statement M
 product-value-spec =
     tie.close
     (tie.spec
-    cast-bytes
-    array-write-bytes
-    cast-bytes-2
-    array-write-bytes-2
-    array-write-bytes-3
+    bytes-16-requires
+    array-read-t7
+    array-read-t10
+    slice-aggregate-value-of
+    value-of-requires
     returns)

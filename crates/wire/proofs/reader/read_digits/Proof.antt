@@ -1,13 +1,13 @@
 -- `wire::reader::read_digits` meets its contract. Assumes nothing.
-use Prim.Native.Nat.{_+_, _%_, _≤_}
+use Prim.Native.Nat.{_+_, _-_, _%_, _/_, _≤_}
 use mathlib.Core.Path.{_≡_, sym, ap, _∙_}
 use native.Mathlib.Nat.{add-mod-mod}
 use native.Mathlib.Omega.{arith}
 use borrow.Author.Needs.{needs}
 use borrow.Author.Tests.{eq-eqb, ne-eqb}
-use lib.ListN.{length, length-take}
+use lib.ListN.{length, take, length-take}
 use Rattle.laws.specs.Lists.{sumOf}
-use Rattle.laws.proofs.Promise.{gives-none, gives-bytes}
+use Rattle.laws.proofs.Promise.{copied, gives-none, gives-bytes}
 use Rattle.wire.specs.Reading.{commandOf, payloadOf}
 use Rattle.wire.specs.Calls.{readAs}
 use Rattle.wire.proofs.Nibbles.{nibble-at}
@@ -78,8 +78,8 @@ copy-requires c κs =
     let c7 = c .before .before .before .before .before .before .before in
     rw length-take (omega (arith, c7 .payload-of .ensures .0))
 
-sub-t10 : tie.Need-sub-t10
-sub-t10 c =
+sub-t14 : tie.Need-sub-t14
+sub-t14 c =
     let c13 = c .before .before .before .before .before .before .before .before .before .before .before .before .before in
     omega (arith, many c13)
 
@@ -96,12 +96,12 @@ returns-2 c =
     let pre = c13 .pre in
     rw (c8 .nibble-of .ensures, ← length-data (c13 .args .chars .now) (pre .2))
     (gives-bytes _ _ _ (ap readAs (body-good _ (pre .0) (pre .1) (pre .2) (eq-eqb _ _ (sym (sums c6) ∙ c5 .if1 .left))))
-    (rw (data-part _ _ (pre .2) (c10 .payload-of .ensures .1)) at (c .before .before .copy .ensures)))
+    (rw (data-part _ _ (pre .2) (c10 .payload-of .ensures .1)) at (copied (take (length (c13 .args .chars .now) / 2 - 1) (c10 .payload-of .result)) (c13 .args .into .now) (c .before .before .copy .ensures .1))))
 
 pub read-digits-spec : {M : Type 1} → statement M
 read-digits-spec =
     tie.close
     (tie.spec
     payload-of-requires shared-slice-read-nibble-of nibble-of-requires cast-if1 array-share-prefix-payload slice-aggregate-sum-of
-    sum-of-requires add-if1 returns sub-payload array-share-prefix-payload-2 slice-aggregate-copy copy-requires sub-t10
+    sum-of-requires add-if1 returns sub-payload array-share-prefix-payload-2 slice-aggregate-copy copy-requires sub-t14
     same-length returns-2)

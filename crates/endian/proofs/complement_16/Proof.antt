@@ -1,11 +1,11 @@
--- `who::values::complement_16` meets its contract. Assumes nothing.
+-- `endian::complement_16` meets its contract. Assumes nothing.
 use mathlib.Core.Path.{refl}
 use borrow.Author.Needs.{needs}
 use mir.Val.{SFits}
 use mir.Syntax.{w16}
-use Rattle.who.proofs.Complements.{flip-cast, flip-less, flip-is, plain-cast, plain-is}
-use Rattle.who.proofs.values.complement_16.Statement.{statement}
-use Rattle.who.proofs.values.complement_16.Tie as tie
+use Rattle.endian.proofs.Encoding.{flip-cast, flip-less, flip-is, plain-cast, plain-is}
+use Rattle.endian.proofs.complement_16.Statement.{statement}
+use Rattle.endian.proofs.complement_16.Tie as tie
 
 fits : (s : tie.Start) → SFits w16 (s .args .x)
 fits s = search needs

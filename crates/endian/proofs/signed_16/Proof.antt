@@ -1,11 +1,11 @@
--- `reply::bytes::signed_16` meets its contract. Assumes nothing.
+-- `endian::signed_16` meets its contract. Assumes nothing.
 use mathlib.Core.Path.{refl}
 use mir.Syntax.{w16}
 use mir.Val.{Fits}
-use Rattle.reply.proofs.Signs.{plain-is, turned-is}
+use Rattle.endian.proofs.Decoding.{plain-is, turned-is}
 use borrow.Author.Needs.{needs}
-use Rattle.reply.proofs.bytes.signed_16.Statement.{statement}
-use Rattle.reply.proofs.bytes.signed_16.Tie as tie
+use Rattle.endian.proofs.signed_16.Statement.{statement}
+use Rattle.endian.proofs.signed_16.Tie as tie
 
 fits : (s : tie.Start) → Fits w16 (s .args .n)
 fits s = search needs

@@ -7,7 +7,7 @@ use borrow.Author.Tests.{lt-ltb, le-ltb}
 use mir.Val.{Fits, toZ, bits, hbits}
 use mir.ValLaws.{toZ-pos, pow-bits}
 use mir.Syntax.{Width}
-use Rattle.wire.specs.Numbers.{signed}
+use Rattle.endian.specs.Numbers.{signed}
 
 module _ (w : Width) (width : ℕ) (same : 256 ^ width ≡ 2 ^ bits w) where
   -- below the half a number is itself

@@ -1,11 +1,11 @@
--- `reply::bytes::signed_32` meets its contract. Assumes nothing.
+-- `endian::signed_32` meets its contract. Assumes nothing.
 use mathlib.Core.Path.{refl}
 use mir.Syntax.{w32}
 use mir.Val.{Fits}
-use Rattle.reply.proofs.Signs.{plain-is, turned-is}
+use Rattle.endian.proofs.Decoding.{plain-is, turned-is}
 use borrow.Author.Needs.{needs}
-use Rattle.reply.proofs.bytes.signed_32.Statement.{statement}
-use Rattle.reply.proofs.bytes.signed_32.Tie as tie
+use Rattle.endian.proofs.signed_32.Statement.{statement}
+use Rattle.endian.proofs.signed_32.Tie as tie
 
 fits : (s : tie.Start) → Fits w32 (s .args .n)
 fits s = search needs

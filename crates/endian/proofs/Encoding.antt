@@ -11,7 +11,7 @@ use lib.Signed.{mag, nonNeg, ltZ}
 use mir.Val.{SFits, Fits, toZ, ofZ, bits, hbits}
 use mir.ValLaws.{toZ-ofZ, toZ-pos, half-full}
 use mir.Syntax.{Width}
-use Rattle.wire.specs.Numbers.{complement}
+use Rattle.endian.specs.Numbers.{complement}
 
 -- the largest number of a width, m, less the bits of a negative number
 module _ (w : Width) (m : ℕ) (top : suc m ≡ 2 ^ bits w) where

@@ -11,8 +11,8 @@ use lib.Dec.{ltb}
 use lib.IntN.{pos, negsuc}
 use Rattle.laws.specs.Lists.{every}
 use Rattle.laws.proofs.Bools.{and-left, and-right}
-use Rattle.wire.specs.Numbers.{little, fromLittle, signed}
-use Rattle.wire.specs.Laws.{LittleIsRead, ReadIsLittle, ComplementIsRead}
+use Rattle.endian.specs.Numbers.{little, fromLittle, signed}
+use Rattle.endian.specs.Laws.{LittleIsRead, ReadIsLittle, ComplementIsRead}
 
 pub little-read : LittleIsRead
 little-read zero n h = omega arith
