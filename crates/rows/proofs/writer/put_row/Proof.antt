@@ -1,0 +1,55 @@
+-- `rows::writer::put_row` meets its contract. Assumes nothing.
+use mathlib.Core.Path.{_≡_, sym, ap, _∙_}
+use mathlib.Core.List.{List}
+use Prim.Native.Nat.{ℕ, _<_}
+use native.Mathlib.Omega.{arith}
+use borrow.Author.Needs.{needs}
+use lib.ListN.{length}
+use denote.Ref.{now}
+use Rattle.laws.specs.Promise.{overlaid}
+use Rattle.lines.proofs.Adding.{copied}
+use Rattle.rows.proofs.Rows.{row-short, line-text, line-len, line-room}
+use Rattle.rows.proofs.writer.put_row.Statement.{statement}
+use Rattle.rows.proofs.writer.put_row.Tie as tie
+
+small : (c : tie.Start) → c .args .number < 65536
+small c = search needs
+
+row-of-requires : tie.Need-row-of-requires
+row-of-requires c κs = search needs
+
+array-share-prefix-chars : tie.Need-array-share-prefix-chars
+array-share-prefix-chars c = line-room _ _ (small (c .before .before .before)) _ (c .before .row-of .ensures)
+
+slice-aggregate-copy : tie.Need-slice-aggregate-copy
+slice-aggregate-copy c =
+    let c2 = c .before .before in
+    let s = c2 .before .before in
+    line-len _ _ (small s) _ (c2 .row-of .ensures) ∙ sym (ap length (line-text _ _ (small s) _ (c2 .row-of .ensures)))
+
+copy-requires : tie.Need-copy-requires
+copy-requires c κs =
+    let c3 = c .before .before .before in
+    let s = c3 .before .before in
+    rw (line-text _ _ (small s) _ (c3 .row-of .ensures)) (omega (arith, row-short (s .args .id) (s .args .number) (omega (arith, small s)), s .pre))
+
+same-length : tie.Need-same-length
+same-length c = search needs
+
+returns : tie.Need-returns
+returns c =
+    let c2 = c .before .before in
+    let c6 = c2 .before .before .before .before in
+    let text = line-text _ _ (small (c6 .before .before)) _ (c6 .row-of .ensures) in
+    (c2 .copy .ensures .0 ∙ ap length text, copied _ _ (c2 .copy .ensures .1) ∙ ap (λ (l : List ℕ). overlaid l (now (c6 .before .before .args .out))) text)
+
+pub put-row-spec : {M : Type 1} → statement M
+put-row-spec =
+    tie.close
+    (tie.spec
+    row-of-requires
+    array-share-prefix-chars
+    slice-aggregate-copy
+    copy-requires
+    same-length
+    returns)
