@@ -8,6 +8,7 @@ use borrow.Author.Tests.{lt-ltb, le-ltb, ltb-true, ltb-false, lt-leb, leb-true, 
 use lib.ListN.{length, getD, take, drop, length-drop, length-append}
 use lib.Seq.{take-all, take-append-seam, split-at, length-take-le, getD-take}
 use lib.Dec.{ltb, leb, eqb}
+use Rattle.paper.specs.Numbers as paper
 use Rattle.paper.specs.Numbers.{colon, newline}
 use Rattle.laws.specs.Lists.{every, before}
 use Rattle.laws.proofs.Bools.{and-left, and-right, nor-left, both}
@@ -24,11 +25,21 @@ use Rattle.lines.specs.declared.Line.{Line}
 use Rattle.lines.proofs.Digits.{digits-under}
 use Rattle.lines.proofs.Theorems.{line-is-text}
 use Rattle.rows.specs.Decimals.{isNumber}
-use Rattle.rows.specs.Row.{tab, idDigits, rowOf, lineLength, firstLine, isRow, idIn, numberIn}
-use Rattle.rows.specs.Calls.{reading}
+use Rattle.rows.specs.Row.{tab, idDigits, rowOf, rowRoom, lineLength, firstLine, isRow, idIn, numberIn}
+use Rattle.rows.specs.Calls.{unwritten, writtenAs, writing, reading}
 use Rattle.rows.specs.Laws.{RowIsShort, Begins, Reads, row, none, ReadExactly}
 use Rattle.rows.specs.declared.Row.{Row}
 use Rattle.rows.proofs.Decimal.{number-digits, number-small, decimal-read, read-decimal}
+
+-- writing, by its refusal
+module _ (id n room : ℕ) where
+  pub write-short : room < rowRoom → writing id n room ≡ unwritten paper.shortBuffer
+  unfolding writing
+  write-short h = rw (lt-ltb room rowRoom h)
+
+  pub write-made : rowRoom ≤ room → writing id n room ≡ writtenAs (rowOf id n)
+  unfolding writing
+  write-made h = rw (le-ltb room rowRoom h)
 
 -- a line so built, by the parts of the test; one of fewer than six characters has no number
 no-right : (a : Bool) → (a && false) ≡ false
@@ -66,23 +77,25 @@ module _ (line : List ℕ) (ok : isRow line ≡ true) where
   unfolding isRow
   row-number = and-right (eqb (getD line 4 0) tab) _ (and-right (every isDigit (take 4 line)) _ ok)
 
--- what is read, by the length of the first line
+-- what is read, by the length of the first line and whether that is so built
 module _ (text : List ℕ) {len : ℕ} (is : len ≡ lineLength text) where
-  pub read-ended : length text ≤ len → Row.Refused 14 ≡ reading text
-  unfolding reading
-  read-ended h = let past : length text ≤ lineLength text = rw is at h in rw (le-ltb (lineLength text) (length text) past)
+  pub line-inside : len ≡ length (take len text)
+  line-inside = let inside : lineLength text ≤ length text = before-first (λ b. eqb b newline) text .inside in sym (length-take-le len text (rw is inside))
 
-  module _ (h : len < length text) where
-    here : ltb (lineLength text) (length text) ≡ true
-    here = let less : lineLength text < length text = rw is at h in lt-ltb _ _ less
+  module _ {ok : Bool} (told : ok ≡ isRow (take len text)) where
+    test : (ltb len (length text) && ok) ≡ (ltb (lineLength text) (length text) && isRow (firstLine text))
+    test = ap (λ (b : Bool). ltb len (length text) && b) told ∙ ap (λ (n : ℕ). ltb n (length text) && isRow (take n text)) is
 
-    pub read-other : isRow (take len text) ≡ false → Row.Refused 14 ≡ reading text
+    pub read-other : (ltb len (length text) && ok) ≡ false → Row.Refused paper.badLine ≡ reading text
     unfolding reading
-    read-other e = rw (here, rw is at e)
+    read-other e = rw (sym test ∙ e)
 
-    pub read-row : isRow (take len text) ≡ true → Row.Is (idIn (take len text)) (numberIn (take len text)) (suc (length (take len text))) ≡ reading text
+    pub read-built : (ltb len (length text) && ok) ≡ true → isRow (take len text) ≡ true
+    read-built e = sym told ∙ and-right (ltb len (length text)) ok e
+
+    pub read-row : (ltb len (length text) && ok) ≡ true → Row.Is (idIn (take len text)) (numberIn (take len text)) (suc (length (take len text))) ≡ reading text
     unfolding reading
-    read-row e = rw (length-take-le len text (omega arith), here, rw is at e, is)
+    read-row e = rw (sym line-inside, sym test ∙ e, is)
 
 -- the row of an id and a number without its newline
 abbrev front : ℕ → ℕ → List ℕ

@@ -14,6 +14,8 @@ mod writer;
 // The room that writing a row needs: the longest number has five digits.
 pub const ROW_ROOM: usize = 11;
 
+pub(crate) const TAB: u8 = b'\t';
+
 // What the writer answers: the row's length, or document 01's number of the refusal.
 pub enum Written {
     Row(usize),
@@ -39,7 +41,10 @@ pub fn write(id: u16, number: u16, out: &mut [u8]) -> Written
     if out.len() < ROW_ROOM {
         return Written::Refused(paper::SHORT_BUFFER);
     }
-    Written::Row(writer::put_row(id, number, out))
+    let row = writer::row_of(id, number);
+    let len = row.len;
+    let chars = row.chars;
+    Written::Row(bytes::copy(&chars[..len], out))
 }
 
 // Reads the row at the front of a text: 14 for a line that is not so built, or a text that has ended.
@@ -47,10 +52,7 @@ pub fn read(text: &[u8]) -> Row
     ensures { λ r. ⌜ r ≡ reading (now (text .entry)) ⌝ }
 {
     let len = reader::line_len(text);
-    if text.len() <= len {
-        return Row::Refused(paper::BAD_LINE);
-    }
-    if !reader::is_row(&text[..len]) {
+    if !((len < text.len()) & reader::is_row(&text[..len])) {
         return Row::Refused(paper::BAD_LINE);
     }
     reader::row_in(&text[..len])

@@ -1,5 +1,5 @@
 // The reader.
-ghost use Prim.Native.Nat.{suc, _<_};
+ghost use Prim.Native.Nat.{suc, _+_, _*_, _<_};
 ghost use mathlib.Core.Path.{_≡_};
 ghost use mathlib.Core.Bool.{true};
 ghost use lib.ListN.{length};
@@ -11,10 +11,9 @@ ghost use Rattle.rows.specs.Calls.{judgedAs};
 ghost use Rattle.rows.specs.declared.Row.{Row};
 use crate::Judged;
 use crate::Row;
+use crate::TAB;
 use crate::decimals;
 use settings::Found;
-
-const TAB: u8 = b'\t';
 
 // An id has four digits and its number comes after the tab; the shortest number has one digit.
 const ID_LEN: usize = 4;
@@ -56,18 +55,18 @@ pub(crate) fn is_row(line: &[u8]) -> bool
 // The nibble of a digit: the low four bits count from 0 for a decimal digit and from 1 for a letter, and letters alone stand from 64 on.
 fn nibble_of(c: u8) -> u16
     requires { ⌜ nibble c < 16 ⌝ }
-    ensures { λ r. ⌜ (r ≡ nibble c) × (r < 16) ⌝ }
+    ensures { λ r. ⌜ r ≡ nibble c ⌝ }
 {
     (c % 16 + 9 * (c / 64)) as u16
 }
 
-// The id of a line so built.
-fn id_in(line: &[u8]) -> u16
-    requires { ⌜ isRow (now line) ≡ true ⌝ }
-    ensures { λ r. ⌜ r ≡ idIn (now (line .entry)) ⌝ }
+// The id of four digits.
+fn id_of(a: u8, b: u8, c: u8, d: u8) -> u16
+    requires { ⌜ (nibble a < 16) × (nibble b < 16) × (nibble c < 16) × (nibble d < 16) ⌝ }
+    ensures { λ r. ⌜ r ≡ (nibble a * 16 + nibble b) * 256 + (nibble c * 16 + nibble d) ⌝ }
 {
-    let high = nibble_of(line[0]) * 16 + nibble_of(line[1]);
-    let low = nibble_of(line[2]) * 16 + nibble_of(line[3]);
+    let high = nibble_of(a) * 16 + nibble_of(b);
+    let low = nibble_of(c) * 16 + nibble_of(d);
     high * 256 + low
 }
 
@@ -77,7 +76,7 @@ pub(crate) fn row_in(line: &[u8]) -> Row
     ensures { λ r. ⌜ r ≡ Row.Is (idIn (now (line .entry))) (numberIn (now (line .entry))) (suc (length (now (line .entry)))) ⌝ }
 {
     Row::Is {
-        id: id_in(line),
+        id: id_of(line[0], line[1], line[2], line[3]),
         number: decimals::value_of(&line[NUMBER_AT..]),
         len: line.len() + 1,
     }

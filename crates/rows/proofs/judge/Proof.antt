@@ -38,10 +38,4 @@ pub judge-spec : {M : Type 1} → statement M
 judge-spec =
     tie.close
     (tie.spec
-    returns
-    read-requires
-    enum-known-read
-    judged-requires
-    enum-known-read-2
-    returns-2
-    returns-3)
+    returns read-requires enum-known-read judged-requires enum-known-read-2 returns-2 returns-3)

@@ -39,12 +39,4 @@ pub all-decimal-spec : {M : Type 1} → statement M
 all-decimal-spec =
     tie.close
     (tie.spec
-    Inv-loop
-    μ-loop
-    loop-holds
-    shared-slice-read-is-decimal
-    is-decimal-requires
-    add-i
-    loop-less
-    loop-again
-    returns)
+    Inv-loop μ-loop loop-holds shared-slice-read-is-decimal is-decimal-requires add-i loop-less loop-again returns)

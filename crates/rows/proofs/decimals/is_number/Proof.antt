@@ -36,10 +36,4 @@ pub is-number-spec : {M : Type 1} → statement M
 is-number-spec =
     tie.close
     (tie.spec
-    returns
-    returns-2
-    all-decimal-requires
-    returns-3
-    returns-4
-    shared-slice-read-result
-    returns-5)
+    returns returns-2 all-decimal-requires returns-3 returns-4 shared-slice-read-result returns-5)

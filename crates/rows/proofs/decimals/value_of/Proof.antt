@@ -49,15 +49,4 @@ pub value-of-spec : {M : Type 1} → statement M
 value-of-spec =
     tie.close
     (tie.spec
-    Inv-loop
-    μ-loop
-    loop-holds
-    mul-n
-    shared-slice-read-n
-    sub-n
-    cast-n
-    add-n
-    add-i
-    loop-less
-    loop-again
-    returns)
+    Inv-loop μ-loop loop-holds mul-n shared-slice-read-n sub-n cast-n add-n add-i loop-less loop-again returns)

@@ -50,14 +50,5 @@ pub is-row-spec : {M : Type 1} → statement M
 is-row-spec =
     tie.close
     (tie.spec
-    returns
-    slice-aggregate-all-digits
-    all-digits-requires
-    returns-2
-    shared-slice-read-if3
-    returns-3
-    sub-is-number
-    part-is-number-start
-    part-is-number-end
-    is-number-requires
-    returns-4)
+    returns slice-aggregate-all-digits all-digits-requires returns-2 shared-slice-read-if3 returns-3 sub-is-number part-is-number-start
+    part-is-number-end is-number-requires returns-4)

@@ -1,12 +1,12 @@
 -- `rows::writer::row_of` meets its contract. Assumes nothing.
+use borrow.Author.Needs.{needs}
 use Rattle.lines.proofs.Adding.{further, from-start}
 use Rattle.rows.specs.Row.{rowOf}
-use borrow.Author.Needs.{needs}
 use Rattle.rows.proofs.writer.row_of.Statement.{statement}
 use Rattle.rows.proofs.writer.row_of.Tie as tie
 
-id-digits-requires : tie.Need-id-digits-requires
-id-digits-requires c κs = search needs
+front-of-requires : tie.Need-front-of-requires
+front-of-requires c κs = search needs
 
 start-requires : tie.Need-start-requires
 start-requires c κs = search needs
@@ -17,45 +17,28 @@ slice-aggregate-put c = search needs
 put-requires : tie.Need-put-requires
 put-requires c κs = search needs
 
-slice-aggregate-put-2 : tie.Need-slice-aggregate-put-2
-slice-aggregate-put-2 c = search needs
-
-put-requires-2 : tie.Need-put-requires-2
-put-requires-2 c κs = search needs
-
 number-of-requires : tie.Need-number-of-requires
 number-of-requires c κs = search needs
 
 put-number-requires : tie.Need-put-number-requires
 put-number-requires c κs = search needs
 
-slice-aggregate-put-3 : tie.Need-slice-aggregate-put-3
-slice-aggregate-put-3 c = search needs
+slice-aggregate-put-2 : tie.Need-slice-aggregate-put-2
+slice-aggregate-put-2 c = search needs
 
-put-requires-3 : tie.Need-put-requires-3
-put-requires-3 c κs = search needs
+put-requires-2 : tie.Need-put-requires-2
+put-requires-2 c κs = search needs
 
 returns : tie.Need-returns
 unfolding rowOf
 returns c =
-    let c5 = c .before .before .before .before .before in
-    let c9 = c5 .before .before .before .before in
-    let put = further _ _ _ (c5 .before .put .ensures) (c .before .before .before .before .put2 .ensures) in
-    let made = from-start _ (c5 .before .before .before .start .ensures) (further _ _ _ (further _ _ _ put (c .before .before .put-number .ensures)) (c .put3 .ensures)) in
-    rw (c9 .id-digits .ensures, c .before .before .before .number-of .ensures) at made
+    let c4 = c .before .before .before .before in
+    let c6 = c4 .before .before in
+    let made = from-start _ (c6 .start .ensures) (further _ _ _ (further _ _ _ (c4 .put .ensures) (c .before .before .put-number .ensures)) (c .put2 .ensures)) in
+    rw (c6 .before .front-of .ensures, c .before .before .before .number-of .ensures) at made
 
 pub row-of-spec : {M : Type 1} → statement M
 row-of-spec =
     tie.close
     (tie.spec
-    id-digits-requires
-    start-requires
-    slice-aggregate-put
-    put-requires
-    slice-aggregate-put-2
-    put-requires-2
-    number-of-requires
-    put-number-requires
-    slice-aggregate-put-3
-    put-requires-3
-    returns)
+    front-of-requires start-requires slice-aggregate-put put-requires number-of-requires put-number-requires slice-aggregate-put-2 put-requires-2 returns)

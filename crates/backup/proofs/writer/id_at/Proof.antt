@@ -1,12 +1,12 @@
--- `backup::line::id_at` meets its contract. Assumes nothing.
+-- `backup::writer::id_at` meets its contract. Assumes nothing.
 use mathlib.Core.Path.{_≡_, sym, ap, _∙_}
 use Prim.Native.Nat.{ℕ}
 use borrow.Author.Needs.{needs}
 use Rattle.settings.proofs.Theorems.{place-is-found}
 use Rattle.settings.specs.Calls.{settingAt}
 use Rattle.settings.specs.declared.Found.{Found}
-use Rattle.backup.proofs.line.id_at.Statement.{statement}
-use Rattle.backup.proofs.line.id_at.Tie as tie
+use Rattle.backup.proofs.writer.id_at.Statement.{statement}
+use Rattle.backup.proofs.writer.id_at.Tie as tie
 
 abbrev idOf : Found → ℕ
 idOf (Found.At s) = s .id

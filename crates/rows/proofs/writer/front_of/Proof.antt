@@ -1,7 +1,7 @@
--- `rows::writer::id_digits` meets its contract. Assumes nothing.
+-- `rows::writer::front_of` meets its contract. Assumes nothing.
 use borrow.Author.Needs.{needs}
-use Rattle.rows.proofs.writer.id_digits.Statement.{statement}
-use Rattle.rows.proofs.writer.id_digits.Tie as tie
+use Rattle.rows.proofs.writer.front_of.Statement.{statement}
+use Rattle.rows.proofs.writer.front_of.Tie as tie
 
 cast-pair-of : tie.Need-cast-pair-of
 cast-pair-of c = search needs
@@ -18,6 +18,6 @@ pair-of-requires-2 c κs = search needs
 returns : tie.Need-returns
 returns c = rw (c .pair-of2 .ensures, c .before .pair-of .ensures)
 
-pub id-digits-spec : {M : Type 1} → statement M
-id-digits-spec =
+pub front-of-spec : {M : Type 1} → statement M
+front-of-spec =
     tie.close (tie.spec cast-pair-of pair-of-requires cast-pair-of-2 pair-of-requires-2 returns)
