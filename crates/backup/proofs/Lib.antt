@@ -1,10 +1,8 @@
 -- Laws of the definitions of specs/, and what the proofs of the functions cite.
-pub mod Digits
-pub mod Ranges
-pub mod Lining
-pub mod Texts
+pub mod Places
+pub mod Calls
 pub mod Listing
-pub mod Decimal
+pub mod Lining
 pub mod RoundTrip
 pub mod Theorems
 pub mod Same

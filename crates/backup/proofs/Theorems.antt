@@ -1,17 +1,17 @@
 -- The statements of specs/Laws.antt, proved. Assumes nothing.
 use mathlib.Core.Path.{refl}
 use Rattle.wire.specs.Digits.{digit}
-use Rattle.backup.specs.Decimals.{five, leading, decimal}
-use Rattle.backup.specs.Text.{lineOf, linesFrom, textOf}
-use Rattle.backup.specs.Laws.{DecimalIsRead, ReadIsDecimal, WrittenIsRead, ReadIsWritten, TextIsShort, FactoryIsPrinted}
-use Rattle.backup.proofs.Decimal.{decimal-read, read-decimal}
-use Rattle.backup.proofs.RoundTrip.{written-read, read-written, text-fits}
+use Rattle.lines.specs.Numbers.{decimalFrom}
+use Rattle.rows.specs.Row.{rowOf}
+use Rattle.backup.specs.Text.{linesFor, textFor, placesFrom, places, header, textOf}
+use Rattle.backup.specs.Laws.{ReadExactly, OtherHeaderIsRefused, WrittenIsRead, ReadIsWritten, TextIsShort, FactoryIsPrinted}
+use Rattle.backup.proofs.RoundTrip.{read-exactly, other-refused, written-read, read-written, text-fits}
 
-pub decimal-is-read : DecimalIsRead
-decimal-is-read = decimal-read
+pub text-is-read-exactly : ReadExactly
+text-is-read-exactly = read-exactly
 
-pub read-is-decimal : ReadIsDecimal
-read-is-decimal = read-decimal
+pub other-header-is-refused : OtherHeaderIsRefused
+other-header-is-refused = other-refused
 
 pub written-is-read : WrittenIsRead
 written-is-read = written-read
@@ -24,5 +24,5 @@ text-is-short = text-fits
 
 -- by computation
 pub factory-is-printed : FactoryIsPrinted
-unfolding digit five leading decimal lineOf linesFrom textOf
+unfolding digit decimalFrom rowOf linesFor textFor placesFrom places header textOf
 factory-is-printed = refl

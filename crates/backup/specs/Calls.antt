@@ -11,7 +11,7 @@ use Rattle.tables.specs.Rules.{factory, allowed}
 use Rattle.tables.specs.declared.Table.{Table}
 use Rattle.backup.specs.Text.{textOf, Says, good, refused, textSays}
 use Rattle.backup.specs.declared.Written.{Written}
-use Rattle.backup.specs.declared.Verdict.{Verdict}
+use Rattle.backup.specs.declared.Checked.{Checked}
 use Rattle.backup.specs.declared.Backup.{Backup}
 
 abbrev pub unwritten : ℕ → Given Written
@@ -25,8 +25,8 @@ writing table room = cond (ltb room textRoom) (unwritten paper.shortBuffer) (con
 
 -- "A refusal returns its number, the line, the header being 1 (0 for 17 and 18) and the factory table."
 abbrev pub readAs : Says → Backup
-readAs (good table) = record { table = table; verdict = Verdict.Accepted }
-readAs (refused number line) = record { table = factory; verdict = Verdict.Refused number line }
+readAs (good table) = record { table = table; verdict = Checked.Accepted }
+readAs (refused number line) = record { table = factory; verdict = Checked.Refused number line }
 
 unfoldable pub reading : List ℕ → Backup
 reading text = readAs (textSays text)

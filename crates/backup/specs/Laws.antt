@@ -1,26 +1,45 @@
 -- What is proved of the definitions, as statements to hold against the paper. Each is proved under its name in proofs/Theorems.antt.
 -- Assumes nothing.
-use Prim.Native.Nat.{ℕ, _≤_, _<_}
-use Prim.Native.Char.{code}
-use Prim.Native.String.{String, [] as end, _∷_ as _then_}
+use Prim.Native.Nat.{ℕ, _≤_}
+use Prim.Native.String.{String}
 use mathlib.Core.Path.{_≡_}
-use mathlib.Core.Bool.{true}
+use mathlib.Core.Bool.{Bool, true, _&&_}
 use mathlib.Core.List.{List, [], _∷_, _++_}
 use lib.ListN.{length}
+use lib.Dec.{ltb}
+use Rattle.laws.specs.Lists.{every}
 use Rattle.settings.specs.Columns.{count}
-use Rattle.tables.specs.Rules.{allowed, factory}
+use Rattle.tables.specs.Rules.{allowed, numberAt, changed, factory}
 use Rattle.tables.specs.declared.Table.{Table}
-use Rattle.backup.specs.Decimals.{decimal, isNumber, valueOf}
-use Rattle.backup.specs.Text.{textOf, good}
+use Rattle.lines.specs.Lines.{chars}
+use Rattle.paper.specs.Numbers as paper
 use Rattle.paper.specs.Numbers.{textRoom}
+use Rattle.backup.specs.Text.{textFor, textOf, good, refused, saysFor}
 use Rattle.backup.specs.Calls.{writing, writtenAs, reading, readAs}
 
--- 1. A number is read back from its decimal digits, which have no leading zero; and digits with none are those of their number.
-abbrev pub DecimalIsRead : Type 0
-DecimalIsRead = (n : ℕ) → n < 100000 → (isNumber (decimal n) ≡ true) × (valueOf (decimal n) ≡ n)
+-- 1. A text with any first line and lines for any places of the table that ascend: it is read as a table exactly when that table is allowed,
+-- has factory numbers at every other place, and the text is byte for byte the one that is made for it.
+abbrev pub arePlaces : List ℕ → Bool
+arePlaces [] = true
+arePlaces (k ∷ places) = (ltb k count && every (ltb k) places) && arePlaces places
 
-abbrev pub ReadIsDecimal : Type 0
-ReadIsDecimal = (digits : List ℕ) → isNumber digits ≡ true → decimal (valueOf digits) ≡ digits
+-- the first table with the numbers of the second at these places
+unfoldable pub filled : List ℕ → Table → Table → Table
+filled [] s t = s
+filled (k ∷ places) s t = filled places (changed s k (numberAt t k)) t
+
+pub record IsText (header places : List ℕ) (table : Table) (text : List ℕ) : Type 0 where
+  pub is-allowed : allowed table ≡ true
+  pub is-filled : filled places factory table ≡ table
+  pub is-text : text ≡ textFor header places table
+
+abbrev pub ReadExactly : Type 0
+ReadExactly = (header places : List ℕ) (table : Table) (text : List ℕ) → arePlaces places ≡ true
+    → (saysFor header places text ≡ good table → IsText header places table text) × (IsText header places table text → saysFor header places text ≡ good table)
+
+-- 13 is given where the text has another first line.
+abbrev pub OtherHeaderIsRefused : Type 0
+OtherHeaderIsRefused = (header places text : List ℕ) → ((rest : List ℕ) → text ≡ header ++ rest → ⊥) → saysFor header places text ≡ refused paper.otherHeader 1
 
 -- 2. Reading a written backup gives the table back. (A table has its numbers in every value of the type, which `length` says.)
 abbrev pub WrittenIsRead : Type 0
@@ -37,20 +56,16 @@ ReadIsWritten = (text : List ℕ) (table : Table) → reading text ≡ readAs (g
 
 -- 4. Every text fits the room that writing needs.
 abbrev pub TextIsShort : Type 0
-TextIsShort = (table : Table) → length (textOf table) ≤ textRoom
+TextIsShort = (table : Table) → allowed table ≡ true → length (textOf table) ≤ textRoom
 
 -- 5. "The factory table is exactly these 27 lines": the two fields of each as they are printed there, a tab (9) between them and a newline
 -- (10) after them.
 pub data Row : Type 0 where
   row : (first second : String) → Row
 
-abbrev pub codes : String → List ℕ
-codes end = []
-codes (c then more) = code c ∷ codes more
-
 abbrev pub printed : List Row → List ℕ
 printed [] = []
-printed (row first second ∷ more) = codes first ++ 9 ∷ codes second ++ 10 ∷ printed more
+printed (row first second ∷ more) = chars first ++ 9 ∷ chars second ++ 10 ∷ printed more
 
 abbrev pub factoryRows : List Row
 factoryRows =

@@ -3,13 +3,11 @@
 ghost use mathlib.Core.Path.{_≡_};
 ghost use lib.ListN.{length};
 ghost use Rattle.laws.specs.Promise.{Gives};
+ghost use Rattle.backup.specs.Text as text;
 ghost use Rattle.backup.specs.Calls.{writing, reading};
 ghost use Rattle.backup.specs.declared.Written.{Written};
 use tables::Table;
 
-mod decimals;
-mod line;
-mod numbers;
 mod reader;
 mod writer;
 
@@ -20,7 +18,7 @@ pub enum Written {
 }
 
 // What the reader answers: accepted, or the number of the refusal and the line, the header being 1 (0 for 17 and 18).
-pub enum Verdict {
+pub enum Checked {
     Accepted,
     Refused { number: u8, line: usize },
 }
@@ -28,7 +26,16 @@ pub enum Verdict {
 // A text read: its table, or the factory table where it is refused.
 pub struct Backup {
     pub table: Table,
-    pub verdict: Verdict,
+    pub verdict: Checked,
+}
+
+pub(crate) const HEADER_LEN: usize = 12;
+
+// The first line of every text.
+fn header() -> [u8; HEADER_LEN]
+    ensures { λ r. ⌜ r ≡ text.header ⌝ }
+{
+    *b"settings\t26\n"
 }
 
 // Writes a table as text to the front of `out`. Refuses 11 under 512 bytes of room, then 12 for a table that is not allowed; then nothing
@@ -43,18 +50,17 @@ pub fn write(table: Table, out: &mut [u8]) -> Written
         return Written::Refused(paper::NOT_ALLOWED);
     }
     let held = table.numbers;
-    Written::Text(writer::put_text(held, out))
+    let header = header();
+    let at = bytes::copy(&header, out);
+    Written::Text(writer::put_lines(held, out, at))
 }
 
 // Reads a text: 13 for another first line, then line by line 14, 15, 16, then 18, then 17.
 pub fn read(text: &[u8]) -> Backup
     ensures { λ r. ⌜ r ≡ reading (now (text .entry)) ⌝ }
 {
-    if text.len() < numbers::HEADER_LEN {
+    if !reader::begins(text) {
         return reader::refused(paper::OTHER_HEADER, 1);
     }
-    if !reader::is_header(&text[..numbers::HEADER_LEN]) {
-        return reader::refused(paper::OTHER_HEADER, 1);
-    }
-    reader::read_lines(&text[numbers::HEADER_LEN..])
+    reader::read_lines(&text[HEADER_LEN..])
 }

@@ -1,46 +1,43 @@
 // The writer.
-ghost use Prim.Native.Nat.{_+_, _≤_, _<_};
+ghost use Prim.Native.Nat.{_+_, _*_, _≤_, _<_};
 ghost use mathlib.Core.Path.{_≡_};
-ghost use mathlib.Core.List.{[], _∷_, _++_};
 ghost use lib.ListN.{length};
 ghost use lib.Seq.{sets};
-ghost use Rattle.laws.specs.Promise.{overlaid};
-ghost use Rattle.paper.specs.Numbers.{newline};
 ghost use Rattle.settings.specs.Columns.{count, idAt};
-ghost use Rattle.backup.specs.Text.{tab, idDigits, lineOf, linesFrom, textOf};
-use crate::decimals;
-use crate::line;
-use crate::numbers;
+ghost use Rattle.rows.specs.Row.{rowOf, rowRoom};
+ghost use Rattle.backup.specs.Text.{places, linesFor};
+use rows::Written;
 use settings::COUNT;
+use settings::Found;
 
-// The id that is due and the tab after it.
-fn put_id(out: &mut [u8], at: usize, index: usize)
-    requires { ⌜ (at + 5 ≤ length (now out)) × (index < count) ⌝ }
-    ensures { λ r. ⌜ now (out .exit) ≡ sets (now (out .entry)) at (idDigits (idAt index) ++ tab ∷ []) ⌝ }
+// The id of the setting at a place.
+fn id_at(index: usize) -> u16
+    requires { ⌜ index < count ⌝ }
+    ensures { λ r. ⌜ r ≡ idAt index ⌝ }
 {
-    let id = line::due(index);
-    out[at] = id[0];
-    out[at + 1] = id[1];
-    out[at + 2] = id[2];
-    out[at + 3] = id[3];
-    out[at + 4] = numbers::TAB;
+    let found = settings::at(index);
+    match found {
+        Found::At(setting) => setting.id,
+        Found::Nothing => 0,
+    }
 }
 
 // A setting's line at a place, and the place after it.
 fn put_line(out: &mut [u8], at: usize, index: usize, n: u16) -> usize
-    requires { ⌜ (at + 11 ≤ length (now out)) × (index < count) ⌝ }
-    ensures { λ r. ⌜ (r ≡ at + length (lineOf index n ++ newline ∷ [])) × (now (out .exit) ≡ sets (now (out .entry)) at (lineOf index n ++ newline ∷ [])) ⌝ }
+    requires { ⌜ (at + rowRoom ≤ length (now out)) × (index < count) ⌝ }
+    ensures { λ r. ⌜ (r ≡ at + length (rowOf (idAt index) n)) × (now (out .exit) ≡ sets (now (out .entry)) at (rowOf (idAt index) n)) × (r ≤ at + rowRoom) ⌝ }
 {
-    put_id(out, at, index);
-    let end = decimals::put_number(out, at + numbers::NUMBER_AT, n);
-    out[end] = paper::NEWLINE;
-    end + 1
+    let written = rows::write(id_at(index), n, &mut out[at..]);
+    match written {
+        Written::Row(len) => at + len,
+        Written::Refused(_) => at,
+    }
 }
 
 // A line for each setting from a place on, and the place after them.
-fn put_lines(held: [u16; COUNT], out: &mut [u8], start: usize) -> usize
-    requires { ⌜ start + 286 ≤ length (now out) ⌝ }
-    ensures { λ r. ⌜ (r ≡ start + length (linesFrom count 0 (record { numbers = held }))) × (now (out .exit) ≡ sets (now (out .entry)) start (linesFrom count 0 (record { numbers = held }))) ⌝ }
+pub(crate) fn put_lines(held: [u16; COUNT], out: &mut [u8], start: usize) -> usize
+    requires { ⌜ start + rowRoom * count ≤ length (now out) ⌝ }
+    ensures { λ r. ⌜ (r ≡ start + length (linesFor places (record { numbers = held }))) × (now (out .exit) ≡ sets (now (out .entry)) start (linesFor places (record { numbers = held }))) × (r ≤ length (now (out .entry))) ⌝ }
 {
     let mut at = start;
     let mut index = 0;
@@ -49,13 +46,4 @@ fn put_lines(held: [u16; COUNT], out: &mut [u8], start: usize) -> usize
         index += 1;
     }
     at
-}
-
-// The whole text at the buffer's front, and its length.
-pub(crate) fn put_text(held: [u16; COUNT], out: &mut [u8]) -> usize
-    requires { ⌜ 512 ≤ length (now out) ⌝ }
-    ensures { λ r. ⌜ (r ≡ length (textOf (record { numbers = held }))) × (now (out .exit) ≡ overlaid (textOf (record { numbers = held })) (now (out .entry))) ⌝ }
-{
-    let at = bytes::copy(b"settings\t26\n", out);
-    put_lines(held, out, at)
 }

@@ -1,7 +1,7 @@
 // `night check FILE`, and what is wrong in a file.
 use crate::file;
 use crate::words;
-use backup::Verdict;
+use backup::Checked;
 use lines::Line;
 
 // Says whether the file is good, or what is wrong in it and where.
@@ -18,11 +18,11 @@ pub(crate) fn run() {
 }
 
 // What the verdict on a text is, and why.
-pub(crate) fn tell(report: i32, verdict: Verdict) {
+pub(crate) fn tell(report: i32, verdict: Checked) {
     words::add(report, sentences::checked(verdict));
     match verdict {
-        Verdict::Accepted => {}
-        Verdict::Refused { number, line: _ } => {
+        Checked::Accepted => {}
+        Checked::Refused { number, line: _ } => {
             words::add(report, put_why(Line::start().put(b": "), number));
         }
     }

@@ -2,7 +2,7 @@
 ghost use Rattle.io.specs.Counts.{Counts};
 use crate::words;
 use backup::Backup;
-use backup::Verdict;
+use backup::Checked;
 use backup::Written;
 use sentences::Kept;
 use tables::Table;
@@ -58,10 +58,10 @@ pub(crate) fn read(path: &[u8]) -> Text {
 }
 
 // Whether a text is good.
-pub(crate) fn is_good(verdict: Verdict) -> bool {
+pub(crate) fn is_good(verdict: Checked) -> bool {
     match verdict {
-        Verdict::Accepted => true,
-        Verdict::Refused { number: _, line: _ } => false,
+        Checked::Accepted => true,
+        Checked::Refused { number: _, line: _ } => false,
     }
 }
 

@@ -3,7 +3,7 @@ use mathlib.Core.Path.{_≡_}
 use Rattle.laws.proofs.Promise.{equal-same}
 use Rattle.follow.specs.declared.Follower.{Follower}
 use Rattle.collect.specs.declared.Collector.{Collector}
-use Rattle.backup.specs.declared.Verdict.{Verdict}
+use Rattle.backup.specs.declared.Checked.{Checked}
 use Rattle.tally.specs.declared.Tally.{Tally}
 use Rattle.lines.specs.declared.Line.{Line}
 use Rattle.sentences.specs.declared.Kept.{Kept}
@@ -27,7 +27,7 @@ pub saved-same : (collector : Collector) (kept : Kept) (r r′ : Line)
     → saved.Post tt (collector, (kept, tt)) r (collector, (kept, tt)) → saved.Post tt (collector, (kept, tt)) r′ (collector, (kept, tt)) → r ≡ r′
 saved-same collector kept r r′ met met′ = equal-same met met′
 
-pub checked-same : (verdict : Verdict) (r r′ : Line) → checked.Post tt (verdict, tt) r (verdict, tt) → checked.Post tt (verdict, tt) r′ (verdict, tt) → r ≡ r′
+pub checked-same : (verdict : Checked) (r r′ : Line) → checked.Post tt (verdict, tt) r (verdict, tt) → checked.Post tt (verdict, tt) r′ (verdict, tt) → r ≡ r′
 checked-same verdict r r′ met met′ = equal-same met met′
 
 pub summed-same : (tally : Tally) (r r′ : Line) → summed.Post tt (tally, tt) r (tally, tt) → summed.Post tt (tally, tt) r′ (tally, tt) → r ≡ r′

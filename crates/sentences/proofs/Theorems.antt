@@ -26,7 +26,7 @@ use Rattle.collect.specs.declared.Collected.{Collected}
 use Rattle.collect.specs.declared.Phase.{Phase}
 use Rattle.collect.specs.declared.Collector.{Collector}
 use Rattle.collect.specs.declared.Outcome as collects
-use Rattle.backup.specs.declared.Verdict.{Verdict}
+use Rattle.backup.specs.declared.Checked.{Checked}
 use Rattle.backup.specs.declared.Backup.{Backup}
 use Rattle.laws.specs.Promise.{Given}
 use Rattle.backup.specs.Text.{Says as Judgement, good, refused, textOf, textSays}
@@ -220,15 +220,15 @@ pub good-is-good : GoodIsGood
 unfolding goodText refusedText betweenText
 good-is-good verdict = (
   λ e. by verdict (says-text [] (checkedText verdict) "good: " e),
-  λ is. text-says (checkedText verdict) "good: " (omega arith) (ap (λ (v : Verdict). take 6 (checkedText v)) is),
+  λ is. text-says (checkedText verdict) "good: " (omega arith) (ap (λ (v : Checked). take 6 (checkedText v)) is),
 )
   where
-    by : (v : Verdict) → take 6 (checkedText v) ≡ chars "good: " → v ≡ Verdict.Accepted
-    by Verdict.Accepted e = refl
-    by (Verdict.Refused number line) e = let z : _≡_ {A = ℕ} 0x72 0x67 = first e in absurd (omega arith)
+    by : (v : Checked) → take 6 (checkedText v) ≡ chars "good: " → v ≡ Checked.Accepted
+    by Checked.Accepted e = refl
+    by (Checked.Refused number line) e = let z : _≡_ {A = ℕ} 0x72 0x67 = first e in absurd (omega arith)
 
 -- a text that is accepted is read as some table, which it is the text of
-read-as : (text : List ℕ) (s : Judgement) → textSays text ≡ s → readAs s .verdict ≡ Verdict.Accepted → IsBackup text
+read-as : (text : List ℕ) (s : Judgement) → textSays text ≡ s → readAs s .verdict ≡ Checked.Accepted → IsBackup text
 unfolding reading writing
 read-as text (good table) is e =
     let written = read-is-written text table (ap readAs is) in

@@ -11,7 +11,7 @@ use Rattle.settings.specs.Columns.{count}
 use Rattle.follow.specs.Following.{standing, total, followerAllowed}
 use Rattle.follow.specs.declared.Outcome as follows
 use Rattle.collect.specs.declared.Outcome as collects
-use Rattle.backup.specs.declared.Verdict.{Verdict}
+use Rattle.backup.specs.declared.Checked.{Checked}
 use Rattle.tally.specs.Results.{tallyAllowed}
 use Rattle.tally.specs.declared.Tally.{Tally}
 use Rattle.tally.proofs.Counting.{within-of}
@@ -97,9 +97,9 @@ good-fits : (settings : ℕ) → Fits (goodText settings)
 unfolding goodText
 good-fits settings = fits-between _ _ _ (omega arith)
 
-checked-fits : (verdict : Verdict) → Fits (checkedText verdict)
-checked-fits Verdict.Accepted = good-fits _
-checked-fits (Verdict.Refused number line) = let all : length (refusedText number ++ atText line) ≤ 55 = joined (refusedText number) (atText line) 28 27 (refused-long number) (at-long line) in omega arith
+checked-fits : (verdict : Checked) → Fits (checkedText verdict)
+checked-fits Checked.Accepted = good-fits _
+checked-fits (Checked.Refused number line) = let all : length (refusedText number ++ atText line) ≤ 55 = joined (refusedText number) (atText line) 28 27 (refused-long number) (at-long line) in omega arith
 
 pub files-uncut : FilesFit
 unfolding collectedText savedText

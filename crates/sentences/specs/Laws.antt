@@ -25,7 +25,7 @@ use Rattle.collect.specs.declared.Collector.{Collector}
 use Rattle.collect.specs.declared.Collected.{Collected}
 use Rattle.backup.specs.Text.{textOf, good}
 use Rattle.backup.specs.Calls.{reading, readAs}
-use Rattle.backup.specs.declared.Verdict.{Verdict}
+use Rattle.backup.specs.declared.Checked.{Checked}
 use Rattle.tally.specs.Results.{tallyAllowed}
 use Rattle.tally.specs.declared.Tally.{Tally}
 use Rattle.lines.specs.Lines.{most, chars, lineOf, Says}
@@ -99,7 +99,7 @@ LineIsCarried = (events : List Event) → OnStream events → ReadingSays events
 
 -- 4. A backup is said to be good exactly where it is accepted: where it is byte for byte the text of an allowed table.
 abbrev pub GoodIsGood : Type 0
-GoodIsGood = (verdict : Verdict) → Says (lineOf (checkedText verdict)) 0 "good: " ↔ (verdict ≡ Verdict.Accepted)
+GoodIsGood = (verdict : Checked) → Says (lineOf (checkedText verdict)) 0 "good: " ↔ (verdict ≡ Checked.Accepted)
 
 pub record IsBackup (text : List ℕ) : Type 0 where
   pub table : Table
@@ -168,7 +168,7 @@ abbrev pub FollowersFit : Type 0
 FollowersFit = (f : Follower) → Fits (followedText f) × Fits (progressText f)
 
 abbrev pub FilesFit : Type 0
-FilesFit = (c : Collector) (kept : Kept) (verdict : Verdict) → Fits (collectedText c) × (Fits (savedText c kept) × Fits (checkedText verdict))
+FilesFit = (c : Collector) (kept : Kept) (verdict : Checked) → Fits (collectedText c) × (Fits (savedText c kept) × Fits (checkedText verdict))
 
 abbrev pub YardsFit : Type 0
 YardsFit = (t : Tally) → Fits (summedText t)

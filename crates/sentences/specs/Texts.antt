@@ -13,7 +13,7 @@ use Rattle.collect.specs.Calls.{collecting}
 use Rattle.collect.specs.declared.Collector.{Collector}
 use Rattle.collect.specs.declared.Collected.{Collected}
 use Rattle.collect.specs.declared.Outcome as collects
-use Rattle.backup.specs.declared.Verdict.{Verdict}
+use Rattle.backup.specs.declared.Checked.{Checked}
 use Rattle.tally.specs.Results.{tallyAllowed}
 use Rattle.tally.specs.declared.Tally.{Tally}
 use Rattle.lines.specs.Lines.{chars}
@@ -94,9 +94,9 @@ goodText settings = betweenText (chars "good: ") settings (chars " settings, eve
 unfoldable pub atText : ℕ → List ℕ
 atText line = cond (eqb line 0) [] (betweenText (chars ", line ") line [])
 
-abbrev pub checkedText : Verdict → List ℕ
-checkedText Verdict.Accepted = goodText count
-checkedText (Verdict.Refused number line) = refusedText number ++ atText line
+abbrev pub checkedText : Checked → List ℕ
+checkedText Checked.Accepted = goodText count
+checkedText (Checked.Refused number line) = refusedText number ++ atText line
 
 -- A yard's night.
 

@@ -5,7 +5,7 @@ use mathlib.Core.List.{List, [], _∷_}
 use Rattle.settings.specs.Calls.{settingAt}
 use Rattle.follow.specs.declared.Outcome as follows
 use Rattle.collect.specs.declared.Outcome as collects
-use Rattle.backup.specs.declared.Verdict.{Verdict}
+use Rattle.backup.specs.declared.Checked.{Checked}
 use Rattle.tally.specs.Results.{tallyOf, withSets}
 use Rattle.lines.specs.Lines.{chars}
 use Rattle.lines.specs.Worked.{Sample, sample, allRead}
@@ -29,8 +29,8 @@ lines =
     sample (fileText collects.Outcome.Done 26 Kept.Not) "not saved: the file is as it was" ∷
     sample (fileText (collects.Outcome.Stopped (settingAt 5)) 5 Kept.Whole) "not saved: not every setting was read" ∷
     sample (goodText 26) "good: 26 settings, every number in range, every pair agrees" ∷
-    sample (checkedText (Verdict.Refused 16 13)) "refused 16, line 13" ∷
-    sample (checkedText (Verdict.Refused 17 0)) "refused 17" ∷
+    sample (checkedText (Checked.Refused 16 13)) "refused 16, line 13" ∷
+    sample (checkedText (Checked.Refused 17 0)) "refused 17" ∷
     sample (summedText (withSets (tallyOf 3 1 0 1 0) 24 26))
     "yard: 3 done, 1 equal, 0 stopped, 1 silent, 0 not begun; 24 of 26 settings confirmed" ∷
     sample (summedText (tallyOf 1000001 0 0 0 0)) "refused 12" ∷

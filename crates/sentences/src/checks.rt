@@ -3,7 +3,7 @@ ghost use mathlib.Core.Path.{_≡_};
 ghost use Rattle.lines.specs.Lines.{adding};
 ghost use Rattle.sentences.specs.Texts.{goodText, atText, checkedText};
 use crate::parts;
-use backup::Verdict;
+use backup::Checked;
 use lines::Line;
 use settings::COUNT;
 
@@ -30,12 +30,12 @@ fn put_good(line: Line, count: usize) -> Line
 }
 
 // A verdict in words.
-pub(crate) fn put_verdict(line: Line, verdict: Verdict) -> Line
+pub(crate) fn put_verdict(line: Line, verdict: Checked) -> Line
     ensures { λ r. ⌜ r ≡ adding line (checkedText verdict) ⌝ }
 {
     match verdict {
-        Verdict::Accepted => put_good(line, COUNT),
-        Verdict::Refused {
+        Checked::Accepted => put_good(line, COUNT),
+        Checked::Refused {
             number,
             line: place,
         } => put_at(parts::put_refused(line, number), place),

@@ -4,7 +4,7 @@
 ghost use mathlib.Core.Path.{_≡_};
 ghost use Rattle.lines.specs.Lines.{lineOf};
 ghost use Rattle.sentences.specs.Texts.{followedText, progressText, collectedText, savedText, checkedText, summedText};
-use backup::Verdict;
+use backup::Checked;
 use collect::Collector;
 use follow::Follower;
 use lines::Line;
@@ -53,7 +53,7 @@ pub fn saved(collector: Collector, kept: Kept) -> Line
 }
 
 // What a backup is: good, or the number of its refusal and the line.
-pub fn checked(verdict: Verdict) -> Line
+pub fn checked(verdict: Checked) -> Line
     ensures { λ r. ⌜ r ≡ lineOf (checkedText verdict) ⌝ }
 {
     checks::put_verdict(Line::start(), verdict)

@@ -1,6 +1,6 @@
 // The board that the words ask for.
 use crate::words;
-use backup::Verdict as Read;
+use backup::Checked;
 use board::Board;
 use board::Judged;
 use tables::Table;
@@ -120,8 +120,8 @@ fn read(text: &[u8]) -> Chosen {
     let table = backup.table;
     let verdict = backup.verdict;
     match verdict {
-        Read::Accepted => Chosen { ready: true, table },
-        Read::Refused { number: _, line: _ } => {
+        Checked::Accepted => Chosen { ready: true, table },
+        Checked::Refused { number: _, line: _ } => {
             words::say(b"START is refused: `night check` says why");
             no_table()
         }

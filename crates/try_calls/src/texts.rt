@@ -13,7 +13,7 @@ use crate::parts::least;
 use crate::parts::start_of;
 use crate::say;
 use crate::words;
-use backup::Verdict;
+use backup::Checked;
 use backup::Written;
 use bytes::scan::find;
 use tables::Table;
@@ -82,10 +82,10 @@ fn reads(bytes: [u8; SPACE], len: usize) {
 }
 
 // A verdict.
-fn judged(verdict: Verdict) {
+fn judged(verdict: Checked) {
     match verdict {
-        Verdict::Accepted => words::say(words::ACCEPTED),
-        Verdict::Refused { number, line } => {
+        Checked::Accepted => words::say(words::ACCEPTED),
+        Checked::Refused { number, line } => {
             say::refused(number);
             say::numbered(words::LINE, line);
         }

@@ -2,6 +2,7 @@
 use Prim.Native.Nat.{_-_}
 use native.Mathlib.Omega.{arith}
 use borrow.Author.Needs.{needs}
+use Rattle.settings.specs.Columns.{count}
 use Rattle.backup.proofs.Listing.{Listing, listing-start, listing-room, listing-turn, listing-end}
 use Rattle.backup.proofs.writer.put_lines.Statement.{statement}
 use Rattle.backup.proofs.writer.put_lines.Tie as tie
@@ -10,7 +11,7 @@ abbrev Inv-loop : tie.InvT-loop
 Inv-loop out₀ start held at₀ index₀ out at index = Listing out₀ start (record { numbers = held }) out at index
 
 abbrev μ-loop : tie.MeasureT-loop
-μ-loop out₀ start held at₀ index₀ out at index = 26 - index
+μ-loop out₀ start held at₀ index₀ out at index = count - index
 
 loop-holds : tie.Need-loop-holds Inv-loop μ-loop
 loop-holds c = listing-start _ _ _ (c .before .pre)
@@ -31,7 +32,7 @@ loop-less : tie.Need-loop-less Inv-loop μ-loop
 loop-less c = omega arith
 
 loop-again : tie.Need-loop-again Inv-loop μ-loop
-loop-again c = listing-turn (c .before .before .before .before .loop-test .taken) (c .before .before .before .before .before .loop .inv) (c .before .before .put-line .ensures .0) (c .before .before .put-line .ensures .1)
+loop-again c = listing-turn (c .before .before .before .before .loop-test .taken) (c .before .before .before .before .before .loop .inv) (c .before .before .put-line .ensures .0) (c .before .before .put-line .ensures .1) (c .before .before .put-line .ensures .2)
 
 same-length : tie.Need-same-length Inv-loop μ-loop
 same-length c = c .before .loop .inv .long
@@ -43,14 +44,4 @@ pub put-lines-spec : {M : Type 1} → statement M
 put-lines-spec =
     tie.close
     (tie.spec
-    Inv-loop
-    μ-loop
-    loop-holds
-    mul-put-line
-    array-read-put-line
-    put-line-requires
-    add-index
-    loop-less
-    loop-again
-    same-length
-    returns)
+    Inv-loop μ-loop loop-holds mul-put-line array-read-put-line put-line-requires add-index loop-less loop-again same-length returns)

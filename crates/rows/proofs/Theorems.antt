@@ -1,0 +1,20 @@
+-- The statements of specs/Laws.antt, proved. Assumes nothing.
+use Rattle.rows.specs.Laws.{DecimalIsRead, ReadIsDecimal, ReadExactly, JudgedExactly, RowIsShort}
+use Rattle.rows.proofs.Decimal.{decimal-read, read-decimal}
+use Rattle.rows.proofs.Rows.{read-exactly, row-short}
+use Rattle.rows.proofs.Judging.{judged-exactly}
+
+pub decimal-is-read : DecimalIsRead
+decimal-is-read = decimal-read
+
+pub read-is-decimal : ReadIsDecimal
+read-is-decimal = read-decimal
+
+pub row-is-read-exactly : ReadExactly
+row-is-read-exactly = read-exactly
+
+pub row-is-judged-exactly : JudgedExactly
+row-is-judged-exactly = judged-exactly
+
+pub row-is-short : RowIsShort
+row-is-short = row-short

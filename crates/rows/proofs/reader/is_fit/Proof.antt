@@ -1,0 +1,24 @@
+-- `rows::reader::is_fit` meets its contract. Assumes nothing.
+use mathlib.Core.Path.{sym, _∙_}
+use borrow.Author.Needs.{needs}
+use borrow.Author.Tests.{lt-ltb}
+use Rattle.settings.specs.Calls.{ranging}
+use Rattle.rows.proofs.Ranges.{range-small}
+use Rattle.rows.proofs.reader.is_fit.Statement.{statement}
+use Rattle.rows.proofs.reader.is_fit.Tie as tie
+
+returns : tie.Need-returns
+returns c = sym (range-small _ _ (c .before .pre) (c .if1 .taken))
+
+cast-in-range : tie.Need-cast-in-range
+cast-in-range c = search needs
+
+in-range-requires : tie.Need-in-range-requires
+in-range-requires c κs = tt
+
+returns-2 : tie.Need-returns-2
+unfolding ranging
+returns-2 c = c .in-range .ensures ∙ rw (lt-ltb _ _ (c .before .before .pre))
+
+pub is-fit-spec : {M : Type 1} → statement M
+is-fit-spec = tie.close (tie.spec returns cast-in-range in-range-requires returns-2)
