@@ -34,11 +34,17 @@ use Rattle.backup.specs.Calls.{writtenAs, writing, reading, readAs}
 use Rattle.backup.specs.declared.Written.{Written}
 use Rattle.backup.proofs.Theorems.{read-is-written, written-is-read}
 use Rattle.tally.specs.Results.{tallyAllowed}
+use Rattle.who.specs.Parts.{serialFits}
+use Rattle.wire.specs.Digits.{digit}
+use Rattle.wire.specs.Numbers.{signed}
+use Rattle.view.specs.Values.{serialReads, isUnderstood}
+use Rattle.view.specs.Calls.{allowed as allowed-viewer}
 use Rattle.lines.specs.Lines.{chars, lineOf, Says}
-use Rattle.lines.specs.Numbers.{decimalFrom, decimal}
+use Rattle.lines.specs.Numbers.{decimalFrom, decimal, pointed}
 use Rattle.lines.proofs.Adding.{says-text, text-says}
 use Rattle.sentences.specs.Texts.{betweenText, ofText, refusedText, stoppedText, endText, followedText, progressText, readText, own, collectedText, keptText, fileText, savedText, goodText, atText, checkedText, countsText, summedText}
 use Rattle.sentences.specs.Laws.{AllDone, DoneIsDone, NothingDue, EqualIsEqual, followedBy, LineIsMatched, ReadIsRead, collectedBy, LineIsCarried, SavedIsSaved, NotSavedIsNot, GoodIsGood, IsBackup, GoodIsBackup, WellIsWell, NoneIsNone, StrayFollower, StrayCollector, StrayTally, CollectorsCount, FilesCount, FollowersFit, FilesFit, YardsFit}
+use Rattle.sentences.specs.Values.{wordText, strangeText, productText, versionText, serialText, amountText, readingText, wordsText, shownText}
 use Rattle.sentences.specs.Worked.{LinesRead}
 use Rattle.sentences.specs.declared.Kept.{Kept}
 use Rattle.sentences.proofs.Ending.{isKnown, followed-good, followed-stray, progress-good, progress-stray, stands-known, within-list, done-list, equal-list, equal-none, arrived, goes}
@@ -351,5 +357,5 @@ pub yards-fit : YardsFit
 yards-fit = yards-uncut
 
 pub lines-read : LinesRead
-unfolding decimalFrom betweenText ofText refusedText stoppedText goodText atText countsText summedText tallyAllowed
+unfolding digit decimalFrom pointed betweenText ofText refusedText stoppedText goodText atText countsText summedText tallyAllowed signed serialFits serialReads isUnderstood allowed-viewer wordText strangeText productText versionText serialText amountText readingText wordsText shownText
 lines-read = refl
