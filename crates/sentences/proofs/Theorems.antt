@@ -46,7 +46,7 @@ use Rattle.lines.specs.Numbers.{decimalFrom, decimal, pointed}
 use Rattle.lines.proofs.Adding.{says-text, text-says}
 use Rattle.sentences.specs.Texts.{betweenText, ofText, refusedText, stoppedText, endText, followedText, progressText, readText, own, collectedText, keptText, fileText, savedText, goodText, refusalText, checkedText, countsText, summedText}
 use Rattle.sentences.specs.Laws.{AllDone, DoneIsDone, NothingDue, EqualIsEqual, followedBy, LineIsMatched, ReadIsRead, collectedBy, LineIsCarried, SavedIsSaved, NotSavedIsNot, GoodIsGood, IsBackup, GoodIsBackup, WellIsWell, NoneIsNone, StrayFollower, StrayCollector, StrayTally, CollectorsCount, FilesCount, FollowersFit, FilesFit, YardsFit}
-use Rattle.sentences.specs.Values.{wordText, strangeText, productText, versionText, serialText, amountText, readingText, wordsText, shownText}
+use Rattle.sentences.specs.Values.{wordText, strangeText, serialText, amountText, readingText, wordsText, shownText}
 use Rattle.sentences.specs.Worked.{LinesRead}
 use Rattle.sentences.specs.declared.Kept.{Kept}
 use Rattle.sentences.proofs.Ending.{isKnown, followed-good, followed-stray, progress-good, progress-stray, stands-known, within-list, done-list, equal-list, equal-none, arrived, goes}
@@ -361,5 +361,5 @@ pub yards-fit : YardsFit
 yards-fit = yards-uncut
 
 pub lines-read : LinesRead
-unfolding digit decimalFrom pointed betweenText ofText refusedText stoppedText goodText refusalText countsText summedText tallyAllowed signed serialFits serialReads isUnderstood allowed-viewer wordText strangeText productText versionText serialText amountText readingText wordsText shownText
+unfolding digit decimalFrom pointed betweenText ofText refusedText stoppedText goodText refusalText countsText summedText tallyAllowed signed serialFits serialReads isUnderstood allowed-viewer wordText strangeText serialText amountText readingText wordsText shownText
 lines-read = refl

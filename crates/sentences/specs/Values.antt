@@ -28,14 +28,6 @@ wordText before high low after = before ++ digitsOf (high ∷ low ∷ []) ++ aft
 unfoldable pub strangeText : ℕ → List ℕ
 strangeText id = wordText [] (id / 256) (id % 256) (chars ": not understood")
 
--- `product A381`: "00, product low, product high, FF"
-unfoldable pub productText : List ℕ → List ℕ
-productText value = wordText (chars "product ") (getD value 2 0) (getD value 1 0) []
-
--- `version 4401`
-unfoldable pub versionText : List ℕ → List ℕ
-versionText value = wordText (chars "version ") (getD value 1 0) (getD value 0 0) []
-
 -- `serial HQ1234`
 unfoldable pub serialText : List ℕ → List ℕ
 serialText value = chars "serial " ++ serialIn value
@@ -87,12 +79,12 @@ rowText r value = amountText (chars (r .word)) (wholeOf r value) (r .decimals) (
 unfoldable pub readingText : ℕ → List ℕ → List ℕ
 readingText id value = rowText (rowIn signedRows id) value
 
--- a value that is understood
+-- A value that is understood: `product A381` ("00, product low, product high, FF"), `version 4401`.
 unfoldable pub wordsText : ℕ → List ℕ → List ℕ
 wordsText id value =
-    cond (eqb id paper.productId) (productText value)
+    cond (eqb id paper.productId) (wordText (chars "product ") (getD value 2 0) (getD value 1 0) [])
     (cond (eqb id paper.serialId) (serialText value)
-    (cond (eqb id paper.versionId) (versionText value)
+    (cond (eqb id paper.versionId) (wordText (chars "version ") (getD value 1 0) (getD value 0 0) [])
     (readingText id value)))
 
 -- What a frame said of the id that was due, and nothing where it said nothing of it.

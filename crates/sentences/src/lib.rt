@@ -88,5 +88,14 @@ pub fn seen(viewer: Viewer, command: u8, bytes: &[u8]) -> Line
 pub fn shown(viewer: Viewer) -> Line
     ensures { λ r. ⌜ r ≡ lineOf (shownText viewer) ⌝ }
 {
-    values::put_shown(Line::start(), viewer)
+    if !viewer.is_allowed() {
+        return parts::put_stray(Line::start());
+    }
+    parts::put_of(
+        Line::start(),
+        b"shown: ",
+        viewer.understood,
+        view::COUNT,
+        b" values",
+    )
 }

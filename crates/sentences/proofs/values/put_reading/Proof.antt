@@ -1,11 +1,13 @@
 -- `sentences::values::put_reading` meets its contract. Assumes nothing.
 use mathlib.Core.Path.{ap, _∙_}
-use borrow.Author.Tests.{eq-eqb, ne-eqb}
+use Prim.Native.Nat.{_*_, _<_}
+use native.Mathlib.Omega.{arith}
+use borrow.Author.Needs.{needs}
+use borrow.Author.Tests.{ne-eqb, lt-ltb}
 use Rattle.wire.specs.Numbers.{signed}
 use Rattle.view.specs.Values.{widthOf}
-use Rattle.sentences.specs.Values.{readingText}
 use Rattle.view.proofs.Widths.{width-two}
-use borrow.Author.Needs.{needs}
+use Rattle.sentences.specs.Values.{readingText}
 use Rattle.sentences.proofs.values.put_reading.Statement.{statement}
 use Rattle.sentences.proofs.values.put_reading.Tie as tie
 
@@ -16,7 +18,7 @@ returns : tie.Need-returns
 unfolding readingText signed
 returns c =
     let c4 = c .before .before .before .before in
-    rw (eq-eqb _ 0xED8D (c4 .if1 .taken)) (rw (c .before .before .two .ensures .0) at (c .put-amount .ensures))
+    rw (c4 .if1 .taken) (rw (c .before .before .two .ensures .0) at (c .put-amount .ensures))
 
 two-requires-2 : tie.Need-two-requires-2
 two-requires-2 c κs =
@@ -27,7 +29,7 @@ returns-2 : tie.Need-returns-2
 unfolding readingText signed
 returns-2 c =
     let c4 = c .before .before .before .before in
-    rw (ne-eqb _ 0xED8D (c4 .before .if1 .left), eq-eqb _ 0xED8F (c4 .if2 .taken)) (rw (c .before .before .two2 .ensures .0) at (c .put-amount2 .ensures))
+    rw (c4 .if2 .taken) (rw (c .before .before .two2 .ensures .0) at (c .put-amount2 .ensures))
 
 four-requires : tie.Need-four-requires
 four-requires c κs =
@@ -38,7 +40,7 @@ returns-3 : tie.Need-returns-3
 unfolding readingText signed
 returns-3 c =
     let c4 = c .before .before .before .before in
-    rw (ne-eqb _ 0xED8D (c4 .before .before .if1 .left), ne-eqb _ 0xED8F (c4 .before .if2 .left), eq-eqb _ 0xED8C (c4 .if3 .taken)) (rw (c .before .before .four .ensures .0) at (c .put-amount3 .ensures))
+    rw (c4 .if3 .taken) (rw (c .before .before .four .ensures .0) at (c .put-amount3 .ensures))
 
 four-requires-2 : tie.Need-four-requires-2
 four-requires-2 c κs =
@@ -49,18 +51,20 @@ returns-4 : tie.Need-returns-4
 unfolding readingText signed
 returns-4 c =
     let c4 = c .before .before .before .before in
-    rw (ne-eqb _ 0xED8D (c4 .before .before .before .if1 .left), ne-eqb _ 0xED8F (c4 .before .before .if2 .left), ne-eqb _ 0xED8C (c4 .before .if3 .left), eq-eqb _ 0xEEFF (c4 .if4 .taken)) (rw (c .before .before .four2 .ensures .0) at (c .put-amount4 .ensures))
+    rw (c4 .if4 .taken) (rw (c .before .before .four2 .ensures .0) at (c .put-amount4 .ensures))
 
-put-charge-requires : tie.Need-put-charge-requires
-put-charge-requires c κs =
+two-requires-3 : tie.Need-two-requires-3
+two-requires-3 c κs =
     let c4 = c .before .before .before .before in
-    c4 .before .pre ∙ width-two _ (c .before .if3 .left) (c .if4 .left)
+    c4 .before .before .pre ∙ width-two _ (c .before .before .if3 .left) (c .before .if4 .left)
 
 returns-5 : tie.Need-returns-5
-unfolding readingText signed
+unfolding readingText
 returns-5 c =
     let c4 = c .before .before .before .before in
-    rw (ne-eqb _ 0xED8D (c4 .if1 .left), ne-eqb _ 0xED8F (c .before .before .before .if2 .left), ne-eqb _ 0xED8C (c .before .before .if3 .left), ne-eqb _ 0xEEFF (c .before .if4 .left)) (c .put-charge .ensures)
+    let less : 2 * c .before .before .two3 .result < 131072 = omega (arith, c .before .before .two3 .ensures .1) in
+    rw (ne-eqb _ 0xED8D (c4 .before .before .before .if1 .left), ne-eqb _ 0xED8F (c4 .before .before .if2 .left), ne-eqb _ 0xED8C (c4 .before .if3 .left), ne-eqb _ 0xEEFF (c4 .if4 .left))
+    (rw (lt-ltb _ _ less, c .before .before .two3 .ensures .0) at (c .put-amount5 .ensures))
 
 pub put-reading-spec : {M : Type 1} → statement M
 put-reading-spec =
@@ -86,5 +90,8 @@ put-reading-spec =
     (λ c. search needs)
     (λ c κs. search needs)
     returns-4
-    put-charge-requires
+    (λ c. search needs)
+    two-requires-3
+    (λ c. search needs)
+    (λ c κs. search needs)
     returns-5)
