@@ -9,7 +9,8 @@ use Rattle.stream.specs.Calls.{noChars, heldOf, unfinished}
 use Rattle.stream.specs.Calls as stream
 use Rattle.settings.specs.Rules.{inRange, lowAgrees, highAgrees, agrees, allowedFor, allAllowed, nearestOf}
 use Rattle.tables.specs.Rules.{allowed}
-use Rattle.settings.specs.Calls.{placing, placeOf, finding, partnerFits, nearing}
+use Rattle.settings.specs.Calls.{placing, finding, partnerFits, nearing}
+use Rattle.settings.specs.Columns.{placeOf}
 use Rattle.tables.specs.Calls.{setTo}
 use Rattle.who.specs.Parts.{serialFits, identityOf, serialOf, identityAllowed}
 use Rattle.answers.specs.Answers.{tells, restarts, getAnswer, setsSetting, setAnswer, frameAnswer}

@@ -17,10 +17,10 @@ use Rattle.stream.specs.Calls.{noChars, heldOf, unfinished, hearing}
 use Rattle.stream.specs.declared.Heard.{Heard}
 use Rattle.stream.proofs.Answers.{hearing-heard}
 use Rattle.stream.specs.Calls as stream
-use Rattle.settings.specs.Columns.{count}
+use Rattle.settings.specs.Columns.{count, placeOf}
 use Rattle.tables.specs.Rules.{factory, allowed, numberAt, changed}
 use Rattle.settings.specs.Rules.{inRange, lowAgrees, highAgrees, agrees, allowedFor, allAllowed}
-use Rattle.settings.specs.Calls.{placing, placeOf, finding}
+use Rattle.settings.specs.Calls.{placing, finding}
 use Rattle.tables.specs.Calls.{setTo}
 use Rattle.tables.specs.declared.Table.{Table}
 use Rattle.tables.proofs.Theorems.{factory-is-allowed}

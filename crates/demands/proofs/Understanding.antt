@@ -19,8 +19,8 @@ use Rattle.stream.specs.Calls.{unfinished}
 use Rattle.stream.specs.Laws.{Writables, whole}
 use Rattle.endian.proofs.Theorems.{little-is-read}
 use Rattle.stream.proofs.Theorems.{written-is-heard, all-is-taken, heard-is-writable}
-use Rattle.settings.specs.Columns.{count, idAt, widthAt}
-use Rattle.settings.specs.Calls.{placeOf, finding}
+use Rattle.settings.specs.Columns.{count, idAt, widthAt, placeOf}
+use Rattle.settings.specs.Calls.{finding}
 use Rattle.tables.specs.Calls.{setTo}
 use Rattle.tables.specs.declared.Table.{Table}
 use Rattle.settings.specs.declared.Setting.{Setting}

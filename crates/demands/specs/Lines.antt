@@ -12,7 +12,8 @@ use Rattle.laws.specs.Lists.{same}
 use Rattle.laws.specs.Promise.{Given}
 use Rattle.paper.specs.Numbers.{newline, frameRoom}
 use Rattle.tables.specs.Rules.{factory, changed}
-use Rattle.settings.specs.Calls.{placeOf, nearing}
+use Rattle.settings.specs.Calls.{nearing}
+use Rattle.settings.specs.Columns.{placeOf}
 use Rattle.tables.specs.declared.Table.{Table}
 use Rattle.settings.specs.declared.Number.{Number}
 use Rattle.answers.specs.declared.Outcome.{Outcome}

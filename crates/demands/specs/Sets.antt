@@ -8,10 +8,9 @@ use lib.Dec.{eqb, leb, ltb}
 use Rattle.paper.specs.Numbers as paper
 use Rattle.endian.specs.Numbers.{fromLittle}
 use Rattle.wire.specs.Reading.{Ended, good, refused}
-use Rattle.settings.specs.Columns.{count, widthAt, roleAt}
+use Rattle.settings.specs.Columns.{count, widthAt, roleAt, placeOf}
 use Rattle.settings.specs.Rules.{inRange, agrees}
 use Rattle.tables.specs.Rules.{partnerNumber, changed}
-use Rattle.settings.specs.Calls.{placeOf}
 use Rattle.tables.specs.declared.Table.{Table}
 
 -- the place of the setting that a frame's data name, and the value after id and flags

@@ -44,7 +44,7 @@ pub adding-line : (text more : List ℕ) → adding (lineOf text) more ≡ lineO
 unfolding adding
 adding-line text more = ap (λ (l : List ℕ). lineOf (l ++ more)) (text-back text) ∙ line-again text more
 
--- an empty text tidies a line, and a tidy line is the one of its text
+-- a tidied line is the one of its text, and what is put after it is put after the line
 pub tidied-same : {l : Line} (t : List ℕ) → l ≡ lineOf t → l ≡ lineOf (textOf l)
 tidied-same t e = e ∙ sym (line-again t [] ∙ ap lineOf (append-nil t)) ∙ ap lineOf (append-nil (take most t)) ∙ sym (ap lineOf (text-back t)) ∙ ap (λ (k : Line). lineOf (textOf k)) (sym e)
 

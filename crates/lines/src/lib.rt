@@ -46,10 +46,10 @@ impl Line {
     pub fn put_pointed(self, n: usize, decimals: u8) -> Line
         ensures { λ r. ⌜ r ≡ adding self (pointed n decimals) ⌝ }
     {
-        numbers::put_fraction(
-            self.put_number(n / numbers::steps_of(decimals)),
-            n,
-            decimals,
-        )
+        let whole = self.put_number(n / numbers::steps_of(decimals));
+        if decimals == 0 {
+            return whole;
+        }
+        numbers::put_fraction(whole, n, decimals)
     }
 }

@@ -1,5 +1,6 @@
 // Numbers put after a line, digit by digit.
 ghost use mathlib.Core.Path.{_≡_};
+ghost use mathlib.Core.Logic.{_≢_};
 ghost use Rattle.lines.specs.Lines.{adding};
 ghost use Rattle.lines.specs.Numbers.{lastDigit, decimalFrom, steps, fraction};
 use crate::Line;
@@ -45,11 +46,9 @@ pub(crate) fn steps_of(decimals: u8) -> usize
 
 // The line with the point and the digits after it.
 pub(crate) fn put_fraction(line: Line, n: usize, decimals: u8) -> Line
+    requires { ⌜ decimals ≢ 0 ⌝ }
     ensures { λ r. ⌜ r ≡ adding line (fraction decimals n) ⌝ }
 {
-    if decimals == 0 {
-        return line.put(b"");
-    }
     let begun = line.put(b".");
     if decimals == 1 {
         return put_digit(begun, n);

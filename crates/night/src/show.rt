@@ -16,5 +16,5 @@ pub(crate) fn run() {
     }
     let viewed = talk.viewed;
     let viewer = viewed.viewer;
-    words::tell(ends.report, view::shown(viewer));
+    words::tell(ends.report, sentences::shown(viewer));
 }

@@ -269,10 +269,11 @@ fn show(report: i32, before: Talk, after: Talk) {
         return;
     }
     let asker = after.asker;
+    let said = after.said;
     match asker {
         Asker::Collector => reading::show(report, before.collected, after.collected),
         Asker::Follower => restoring::show(report, before.followed, after.followed),
-        Asker::Viewer => viewing::show(report, after.viewed),
+        Asker::Viewer => viewing::show(report, before.viewed, said, after.len),
     }
 }
 

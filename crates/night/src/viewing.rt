@@ -2,7 +2,7 @@
 use crate::talk::Request;
 use crate::words;
 use listen::Told;
-use view::Outcome;
+use view::Next;
 use view::Viewed;
 use view::Viewer;
 
@@ -11,11 +11,11 @@ pub(crate) fn due(viewed: Viewed, silent: bool) -> Request {
     if silent {
         return Request::Nothing;
     }
-    let outcome = viewed.outcome;
-    match outcome {
-        Outcome::Waiting(id) => Request::Get(id),
-        Outcome::Done => Request::Nothing,
-        Outcome::Refused(_) => Request::Nothing,
+    let next = viewed.next;
+    match next {
+        Next::Waiting(id) => Request::Get(id),
+        Next::Done => Request::Nothing,
+        Next::Refused(_) => Request::Nothing,
     }
 }
 
@@ -42,7 +42,9 @@ pub(crate) fn told_to(viewed: Viewed, told: Told, data: &[u8]) -> Viewed {
     }
 }
 
-// Shows the value that was just answered.
-pub(crate) fn show(report: i32, viewed: Viewed) {
-    words::tell(report, viewed.line);
+// Shows the value that was just answered, by the viewer before that and the data of the frame; only a Get reply answers a viewer.
+pub(crate) fn show(report: i32, before: Viewed, data: [u8; paper::MOST_DATA], len: usize) {
+    let viewer = before.viewer;
+    let n = words::front(len, &data);
+    words::tell(report, sentences::seen(viewer, paper::GET, &data[..n]));
 }

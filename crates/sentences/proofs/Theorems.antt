@@ -6,6 +6,8 @@ use mathlib.Core.List.{List, [], _∷_, _++_, append-assoc}
 use Prim.Native.Nat.{ℕ, _≤_}
 use native.Mathlib.Omega.{arith}
 use lib.ListN.{length, getD, take}
+use lib.Dec.{eqb}
+use Rattle.laws.proofs.Bools.{pick}
 use Rattle.settings.specs.Columns.{count}
 use Rattle.tables.specs.declared.Table.{Table}
 use Rattle.restore.specs.Order.{dueSets}
@@ -34,11 +36,17 @@ use Rattle.backup.specs.Calls.{writtenAs, writing, reading, readAs}
 use Rattle.backup.specs.declared.Written.{Written}
 use Rattle.backup.proofs.Theorems.{read-is-written, written-is-read}
 use Rattle.tally.specs.Results.{tallyAllowed}
+use Rattle.who.specs.Parts.{serialFits}
+use Rattle.wire.specs.Digits.{digit}
+use Rattle.endian.specs.Numbers.{signed}
+use Rattle.view.specs.Values.{serialReads, isUnderstood}
+use Rattle.view.specs.Calls.{allowed as allowed-viewer}
 use Rattle.lines.specs.Lines.{chars, lineOf, Says}
-use Rattle.lines.specs.Numbers.{decimalFrom, decimal}
+use Rattle.lines.specs.Numbers.{decimalFrom, decimal, pointed}
 use Rattle.lines.proofs.Adding.{says-text, text-says}
-use Rattle.sentences.specs.Texts.{betweenText, ofText, refusedText, stoppedText, endText, followedText, progressText, readText, own, collectedText, keptText, fileText, savedText, goodText, atText, checkedText, countsText, summedText}
+use Rattle.sentences.specs.Texts.{betweenText, ofText, refusedText, stoppedText, endText, followedText, progressText, readText, own, collectedText, keptText, fileText, savedText, goodText, refusalText, checkedText, countsText, summedText}
 use Rattle.sentences.specs.Laws.{AllDone, DoneIsDone, NothingDue, EqualIsEqual, followedBy, LineIsMatched, ReadIsRead, collectedBy, LineIsCarried, SavedIsSaved, NotSavedIsNot, GoodIsGood, IsBackup, GoodIsBackup, WellIsWell, NoneIsNone, StrayFollower, StrayCollector, StrayTally, CollectorsCount, FilesCount, FollowersFit, FilesFit, YardsFit}
+use Rattle.sentences.specs.Values.{wordText, strangeText, serialText, amountText, readingText, wordsText, shownText}
 use Rattle.sentences.specs.Worked.{LinesRead}
 use Rattle.sentences.specs.declared.Kept.{Kept}
 use Rattle.sentences.proofs.Ending.{isKnown, followed-good, followed-stray, progress-good, progress-stray, stands-known, within-list, done-list, equal-list, equal-none, arrived, goes}
@@ -217,7 +225,7 @@ not-saved-is-not c kept = (
 )
 
 pub good-is-good : GoodIsGood
-unfolding goodText refusedText betweenText
+unfolding goodText refusalText refusedText betweenText
 good-is-good verdict = (
   λ e. by verdict (says-text [] (checkedText verdict) "good: " e),
   λ is. text-says (checkedText verdict) "good: " (omega arith) (ap (λ (v : Checked). take 6 (checkedText v)) is),
@@ -225,7 +233,9 @@ good-is-good verdict = (
   where
     by : (v : Checked) → take 6 (checkedText v) ≡ chars "good: " → v ≡ Checked.Accepted
     by Checked.Accepted e = refl
-    by (Checked.Refused number line) e = let z : _≡_ {A = ℕ} 0x72 0x67 = first e in absurd (omega arith)
+    by (Checked.Refused number row) e =
+        let z : _≡_ {A = ℕ} 0x72 0x67 = sym (pick (λ (l : List ℕ). getD (take 6 l) 0 0 ≡ 0x72) (eqb row 0) refl refl) ∙ first e in
+        absurd (omega arith)
 
 -- a text that is accepted is read as some table, which it is the text of
 read-as : (text : List ℕ) (s : Judgement) → textSays text ≡ s → readAs s .verdict ≡ Checked.Accepted → IsBackup text
@@ -351,5 +361,5 @@ pub yards-fit : YardsFit
 yards-fit = yards-uncut
 
 pub lines-read : LinesRead
-unfolding decimalFrom betweenText ofText refusedText stoppedText goodText atText countsText summedText tallyAllowed
+unfolding digit decimalFrom pointed betweenText ofText refusedText stoppedText goodText refusalText countsText summedText tallyAllowed signed serialFits serialReads isUnderstood allowed-viewer wordText strangeText serialText amountText readingText wordsText shownText
 lines-read = refl

@@ -18,7 +18,7 @@ use Rattle.tally.proofs.Counting.{within-of}
 use Rattle.lines.specs.Lines.{chars}
 use Rattle.lines.specs.Numbers.{decimal}
 use Rattle.lines.proofs.Digits.{digits-few, digits-under}
-use Rattle.sentences.specs.Texts.{betweenText, ofText, refusedText, stoppedText, endText, followedText, progressText, readText, own, collectedText, keptText, fileText, savedText, goodText, atText, checkedText, countsText, summedText}
+use Rattle.sentences.specs.Texts.{betweenText, ofText, refusedText, stoppedText, endText, followedText, progressText, readText, own, collectedText, keptText, fileText, savedText, goodText, refusalText, checkedText, countsText, summedText}
 use Rattle.sentences.specs.Laws.{Fits, FollowersFit, FilesFit, YardsFit}
 use Rattle.sentences.specs.declared.Kept.{Kept}
 
@@ -89,9 +89,12 @@ file-fits (collects.Outcome.Stopped setting) answered kept = omega arith
 file-fits (collects.Outcome.Waiting setting) answered kept = omega arith
 file-fits (collects.Outcome.Refused number) answered kept = refused-fits _
 
-at-long : (line : ℕ) → length (atText line) ≤ 27
-unfolding atText
-at-long line = pick (λ (l : List ℕ). length l ≤ 27) (eqb line 0) (omega arith) (between-long (chars ", line ") [] line 20 (digits-few 19 line))
+refusal-fits : (number row : ℕ) → Fits (refusalText number row)
+unfolding refusalText
+refusal-fits number row =
+    let at : List ℕ = betweenText (chars ", line ") row [] in
+    let all : length (refusedText number ++ at) ≤ 55 = joined (refusedText number) at 28 27 (refused-long number) (between-long (chars ", line ") [] row 20 (digits-few 19 row)) in
+    pick Fits (eqb row 0) (refused-fits number) (omega arith)
 
 good-fits : (settings : ℕ) → Fits (goodText settings)
 unfolding goodText
@@ -99,7 +102,7 @@ good-fits settings = fits-between _ _ _ (omega arith)
 
 checked-fits : (verdict : Checked) → Fits (checkedText verdict)
 checked-fits Checked.Accepted = good-fits _
-checked-fits (Checked.Refused number line) = let all : length (refusedText number ++ atText line) ≤ 55 = joined (refusedText number) (atText line) 28 27 (refused-long number) (at-long line) in omega arith
+checked-fits (Checked.Refused number row) = refusal-fits number row
 
 pub files-uncut : FilesFit
 unfolding collectedText savedText

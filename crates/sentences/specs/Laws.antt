@@ -146,8 +146,8 @@ StrayCollector =
 abbrev pub StrayTally : Type 0
 StrayTally = (t : Tally) → Says (lineOf (summedText t)) 0 "refused 12" ↔ (tallyAllowed t ≡ false)
 
--- 7. The number of settings printed is the collector's own, which is all of them where all are read (the numbers of a collector are 26 in
--- every value of the type, which `length` says);
+-- 7. The number of settings printed is the collector's own, which is all of them where all are read (the numbers of a collector are
+-- as many as the settings in every value of the type, which `length` says);
 pub record CollectorSays (c : Collector) : Type 0 where
   pub read-is : allowed c ≡ true → collectedText c ≡ readText (outcomeOf (c .phase) (c .len)) (c .len) (length (c .numbers))
   pub saved-is : (kept : Kept) → Complete c → savedText c kept ≡ keptText kept (c .len)

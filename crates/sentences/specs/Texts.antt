@@ -86,17 +86,17 @@ fileText (collects.Outcome.Refused number) answered kept = refusedText number
 unfoldable pub savedText : Collector → Kept → List ℕ
 savedText c kept = fileText (own c .outcome) (own c .answered) kept
 
--- A backup checked. The refusals' numbers are document 01's, "Backup text"; 17 and 18 have no line.
+-- A backup checked. The refusals' numbers are document 01's, "Backup text"; 17 and 18 are about no row of it.
 
 unfoldable pub goodText : ℕ → List ℕ
 goodText settings = betweenText (chars "good: ") settings (chars " settings, every number in range, every pair agrees")
 
-unfoldable pub atText : ℕ → List ℕ
-atText line = cond (eqb line 0) [] (betweenText (chars ", line ") line [])
+unfoldable pub refusalText : ℕ → ℕ → List ℕ
+refusalText number row = cond (eqb row 0) (refusedText number) (refusedText number ++ betweenText (chars ", line ") row [])
 
 abbrev pub checkedText : Checked → List ℕ
 checkedText Checked.Accepted = goodText count
-checkedText (Checked.Refused number line) = refusedText number ++ atText line
+checkedText (Checked.Refused number row) = refusalText number row
 
 -- A yard's night.
 

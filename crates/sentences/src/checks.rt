@@ -1,23 +1,24 @@
 // A backup that was checked, in words.
 ghost use mathlib.Core.Path.{_≡_};
 ghost use Rattle.lines.specs.Lines.{adding};
-ghost use Rattle.sentences.specs.Texts.{goodText, atText, checkedText};
+ghost use Rattle.sentences.specs.Texts.{refusalText, goodText, checkedText};
 use crate::parts;
 use backup::Checked;
 use lines::Line;
 use settings::COUNT;
 
-// The line of a backup, where there is one.
-fn put_at(line: Line, place: usize) -> Line
-    ensures { λ r. ⌜ r ≡ adding line (atText place) ⌝ }
+// Puts the number of a refusal, and the row of the text that it is about where there is one.
+fn put_refusal(line: Line, number: u8, row: usize) -> Line
+    ensures { λ r. ⌜ r ≡ adding line (refusalText number row) ⌝ }
 {
-    if place == 0 {
-        return line.put(b"");
+    let refused = parts::put_refused(line, number);
+    if row == 0 {
+        return refused;
     }
-    parts::put_between(line, b", line ", place, b"")
+    parts::put_between(refused, b", line ", row, b"")
 }
 
-// A good backup.
+// Puts a good backup.
 fn put_good(line: Line, count: usize) -> Line
     ensures { λ r. ⌜ r ≡ adding line (goodText count) ⌝ }
 {
@@ -29,15 +30,12 @@ fn put_good(line: Line, count: usize) -> Line
     )
 }
 
-// A verdict in words.
+// Puts a verdict.
 pub(crate) fn put_verdict(line: Line, verdict: Checked) -> Line
     ensures { λ r. ⌜ r ≡ adding line (checkedText verdict) ⌝ }
 {
     match verdict {
         Checked::Accepted => put_good(line, COUNT),
-        Checked::Refused {
-            number,
-            line: place,
-        } => put_at(parts::put_refused(line, number), place),
+        Checked::Refused { number, line: row } => put_refusal(line, number, row),
     }
 }

@@ -1,20 +1,25 @@
-// The sentences that claim something: how a restore, the reading of a board, a file and a yard's night ended. Each is said from the states of
-// the machines that followed it and from nothing else; a state that no calls of its machine give is told as refused 12. Every call takes
-// anything, and its promise fixes its answer (specs/Texts.antt).
+// The sentences that claim something: how a restore, the reading of a board, a file and a yard's night ended, and what a board's values are.
+// Each is said from the states of the machines that followed it and from nothing else; a state that no calls of its machine give is told as
+// refused 12. Every call takes anything, and its promise fixes its answer (specs/Texts.antt, specs/Values.antt).
 ghost use mathlib.Core.Path.{_≡_};
 ghost use Rattle.lines.specs.Lines.{lineOf};
 ghost use Rattle.sentences.specs.Texts.{followedText, progressText, collectedText, savedText, checkedText, summedText};
+ghost use Rattle.sentences.specs.Values.{seenText, shownText};
 use backup::Checked;
 use collect::Collector;
 use follow::Follower;
 use lines::Line;
 use tally::Tally;
+use view::Sight;
+use view::Viewer;
 
 mod checks;
 mod ends;
+mod number;
 mod parts;
 mod reads;
 mod sums;
+mod values;
 
 // What became of the file that was to hold a board's settings, by the caller's word: it is as it was; it has the new text, but a power cut
 // may undo that; or it has the new text on the disk.
@@ -64,4 +69,33 @@ pub fn summed(tally: Tally) -> Line
     ensures { λ r. ⌜ r ≡ lineOf (summedText tally) ⌝ }
 {
     sums::put_sums(Line::start(), tally)
+}
+
+// What a frame that comes to a viewer says of the value that is due, in its unit; an empty line where it says nothing of it.
+pub fn seen(viewer: Viewer, command: u8, bytes: &[u8]) -> Line
+    ensures { λ r. ⌜ r ≡ lineOf (seenText viewer command (now (bytes .entry))) ⌝ }
+{
+    let viewed = viewer.reply(command, bytes);
+    let sight = viewed.sight;
+    match sight {
+        Sight::Nothing => Line::start(),
+        Sight::Understood(id) => values::put_words(Line::start(), id, &bytes[paper::FRONT..]),
+        Sight::Strange(id) => values::put_strange(Line::start(), id),
+    }
+}
+
+// How many values were shown, by the viewer's own count.
+pub fn shown(viewer: Viewer) -> Line
+    ensures { λ r. ⌜ r ≡ lineOf (shownText viewer) ⌝ }
+{
+    if !viewer.is_allowed() {
+        return parts::put_stray(Line::start());
+    }
+    parts::put_of(
+        Line::start(),
+        b"shown: ",
+        viewer.understood,
+        view::COUNT,
+        b" values",
+    )
 }

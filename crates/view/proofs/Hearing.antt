@@ -1,107 +1,131 @@
 -- What a frame says of the due id. Assumes nothing.
-use mathlib.Core.Path.{_≡_, refl, sym, ap, _∙_}
-use mathlib.Core.Bool.{Bool, true, false, cond, _&&_}
-use mathlib.Core.List.{List, []}
-use Prim.Native.Nat.{ℕ, _≤_, _<_}
+use mathlib.Core.Path.{_≡_, refl, sym, ap, ap₂, _∙_}
+use mathlib.Core.Logic.{_≢_}
+use mathlib.Core.Bool.{Bool, true, false, cond}
+use mathlib.Core.List.{List}
+use Prim.Native.Nat.{ℕ, _≤_}
 use native.Mathlib.Omega.{arith}
-use borrow.Author.Tests.{lt-ltb, le-ltb}
+use borrow.Author.Tests.{eq-eqb, eqb-true}
 use lib.ListN.{length}
 use lib.Dec.{ltb, eqb}
 use Rattle.reply.specs.Replies.{rest}
 use Rattle.reply.specs.Calls.{reading}
 use Rattle.reply.specs.Laws.{isTold}
-use Rattle.reply.proofs.Theorems.{told-is-long}
 use Rattle.reply.specs.declared.Status.{Status}
 use Rattle.reply.specs.declared.Reply.{Reply}
-use Rattle.lines.specs.Lines.{lineOf}
-use Rattle.view.specs.Values.{count, idAt, strangeText, isUnderstood, wordsText}
-use Rattle.view.specs.Viewing.{other, strange, onValue, onStatus, onGet, onReply, onFrame, heardBy, Few}
-use Rattle.view.specs.Laws.{Frame, isAnswer, isGood, answers, wellAnswers, one}
+use Rattle.reply.proofs.Theorems.{told-is-long}
+use Rattle.view.specs.Values.{count, idAt, isUnderstood}
+use Rattle.view.specs.Calls.{onStatus, onReply, sightAt, sightOf, moved, allowed, told, stray, viewing}
+use Rattle.view.specs.Laws.{SightIsSeen}
 use Rattle.view.specs.declared.Viewer.{Viewer}
-use Rattle.view.specs.declared.heard.Heard.{Heard}
+use Rattle.view.specs.declared.Sight.{Sight}
 
--- the counts and the line of a thing heard, by two tests
-pub record Tells (id : ℕ) (value : List ℕ) (answer well : Bool) (h : Heard) : Type 0 where
-  pub answered-is : h .answered ≡ one answer
-  pub understood-is : h .understood ≡ one (answer && well)
-  pub line-is : h .line ≡ lineOf (cond answer (cond well (wordsText id value) (strangeText id)) [])
-
-module _ (id : ℕ) (value : List ℕ) where
-  tells-other : (well : Bool) → Tells id value false well other
-  unfolding other
-  tells-other well = record { answered-is = refl; understood-is = refl; line-is = refl }
-
-  tells-strange : Tells id value true false (strange id)
-  unfolding strange
-  tells-strange = record { answered-is = refl; understood-is = refl; line-is = refl }
-
-  tells-value : Tells id value true (isUnderstood id value) (onValue id value)
-  unfolding onValue
-  tells-value = by (isUnderstood id value)
-    where
-      by : (t : Bool) → Tells id value true t (cond t (record { answered = 1; understood = 1; line = lineOf (wordsText id value) }) (strange id))
-      by true = record { answered-is = refl; understood-is = refl; line-is = refl }
-      by false = tells-strange
-
-  tells-status : (status : Status) (got : ℕ) → Tells id value true (isGood (Reply.Get status got) && isUnderstood id value) (onStatus id value status)
-  tells-status Status.Good got = tells-value
-  tells-status Status.UnknownId got = tells-strange
-  tells-status Status.NotSupported got = tells-strange
-  tells-status Status.ParameterError got = tells-strange
-
-  tells-get : (status : Status) (got : ℕ) → Tells id value (eqb got id) (isGood (Reply.Get status got) && isUnderstood id value) (onGet id value status got)
-  unfolding onGet
-  tells-get status got = by (eqb got id)
-    where
-      by : (t : Bool) → Tells id value t (isGood (Reply.Get status got) && isUnderstood id value) (cond t (onStatus id value status) other)
-      by true = tells-status status got
-      by false = tells-other (isGood (Reply.Get status got) && isUnderstood id value)
-
-  tells-reply : (r : Reply) → Tells id value (isAnswer id r) (isGood r && isUnderstood id value) (onReply id value r)
-  tells-reply (Reply.Get status got) = tells-get status got
-  tells-reply Reply.Done = tells-other false
-  tells-reply (Reply.Unknown command) = tells-other false
-  tells-reply (Reply.Error code) = tells-other false
-  tells-reply (Reply.Ping version) = tells-other false
-  tells-reply (Reply.Set status got) = tells-other false
-  tells-reply (Reply.Async status got) = tells-other false
-  tells-reply (Reply.Refused number) = tells-other false
-
-  -- what is heard, by the reply that is read
-  pub on-read : (command : ℕ) (bytes : List ℕ) (r : Reply) → reading command bytes ≡ r → value ≡ rest bytes → onReply id value r ≡ onFrame id command bytes
-  unfolding onFrame
-  on-read command bytes r is e = ap (λ (l : List ℕ). onReply id l r) e ∙ ap (onReply id (rest bytes)) (sym is)
+-- what is seen, by the reply that is read
+pub on-read : (id : ℕ) (value : List ℕ) (command : ℕ) (bytes : List ℕ) (r : Reply) → reading command bytes ≡ r → value ≡ rest bytes → onReply id value r ≡ sightAt id command bytes
+unfolding sightAt
+on-read id value command bytes r is e = ap₂ (onReply id) e (sym is)
 
 -- a Get reply has its first three bytes
 pub get-long : (command : ℕ) (bytes : List ℕ) (status : Status) (got : ℕ) → reading command bytes ≡ Reply.Get status got → 3 ≤ length bytes
 get-long command bytes status got e = told-is-long command bytes (ap isTold e)
 
-pub tells-frame : (id : ℕ) (f : Frame) → Tells id (rest (f .bytes)) (answers id f) (wellAnswers id f) (onFrame id (f .command) (f .bytes))
-unfolding onFrame
-tells-frame id f = tells-reply id (rest (f .bytes)) (reading (f .command) (f .bytes))
+-- a reply says nothing of an id, or it is a Get reply of it
+module _ (id : ℕ) (value : List ℕ) where
+  data Shape (r : Reply) : Type 0 where
+    says-none : onReply id value r ≡ Sight.Nothing → Shape r
+    says-get : (status : Status) → r ≡ Reply.Get status id → onReply id value r ≡ onStatus id value status → Shape r
 
--- what a viewer hears
-module _ (v : Viewer) (command : ℕ) (bytes : List ℕ) where
-  pub heard-due : v .asked < count → onFrame (idAt (v .asked)) command bytes ≡ heardBy v command bytes
-  unfolding heardBy
-  heard-due h = rw (lt-ltb (v .asked) count h)
+  shape-get : (status : Status) (got : ℕ) (b : Bool) → eqb got id ≡ b → Shape (Reply.Get status got)
+  shape-get status got true e = says-get status (ap (Reply.Get status) (eqb-true got id e)) (rw e)
+  shape-get status got false e = says-none (rw e)
 
-  pub heard-none : count ≤ v .asked → other ≡ heardBy v command bytes
-  unfolding heardBy
-  heard-none h = rw (le-ltb (v .asked) count h)
+  shape : (r : Reply) → Shape r
+  shape (Reply.Get status got) = shape-get status got (eqb got id) refl
+  shape Reply.Done = says-none refl
+  shape (Reply.Unknown command) = says-none refl
+  shape (Reply.Error code) = says-none refl
+  shape (Reply.Ping version) = says-none refl
+  shape (Reply.Set status got) = says-none refl
+  shape (Reply.Async status got) = says-none refl
+  shape (Reply.Refused number) = says-none refl
 
-  one-small : (t : Bool) → one t ≤ 1
-  one-small true = omega arith
-  one-small false = omega arith
+  get-seen : (status : Status) → onReply id value (Reply.Get status id) ≡ onStatus id value status
+  get-seen status = rw (eq-eqb id id refl)
 
-  few-of : {id : ℕ} {value : List ℕ} {a g : Bool} {h : Heard} → Tells id value a g h → Few h
-  few-of {a = a} {g = g} t =
-      record { one-answered = rw (t .answered-is) (one-small a); one-understood = rw (t .understood-is) (one-small (a && g)) }
+  -- a value that is understood comes with flag 00
+  record Good (status : Status) (due : ℕ) : Type 0 where
+    pub same-id : id ≡ due
+    pub is-good : status ≡ Status.Good
+    pub has-value : isUnderstood id value ≡ true
 
-  pub few-heard : Few (heardBy v command bytes)
-  unfolding heardBy
-  few-heard = by (ltb (v .asked) count)
+  good-value : (u : Bool) (due : ℕ) → isUnderstood id value ≡ u → cond u (Sight.Understood id) (Sight.Strange id) ≡ Sight.Understood due → Good Status.Good due
+  good-value true due is e = record { same-id = cc; is-good = refl; has-value = is }
+  good-value false due is e = let z : _≡_ {A = ℕ} 0 1 = cc in absurd (omega arith)
+
+  good : (status : Status) (due : ℕ) → onStatus id value status ≡ Sight.Understood due → Good status due
+  good Status.Good due e = good-value (isUnderstood id value) due refl e
+  good Status.UnknownId due e = let z : _≡_ {A = ℕ} 0 1 = cc in absurd (omega arith)
+  good Status.NotSupported due e = let z : _≡_ {A = ℕ} 0 1 = cc in absurd (omega arith)
+  good Status.ParameterError due e = let z : _≡_ {A = ℕ} 0 1 = cc in absurd (omega arith)
+
+  said-value : (u : Bool) → cond u (Sight.Understood id) (Sight.Strange id) ≢ Sight.Nothing
+  said-value true e = let z : _≡_ {A = ℕ} 0 1 = cc in omega arith
+  said-value false e = let z : _≡_ {A = ℕ} 0 1 = cc in omega arith
+
+  said : (status : Status) → onStatus id value status ≢ Sight.Nothing
+  said Status.Good e = said-value (isUnderstood id value) e
+  said Status.UnknownId e = let z : _≡_ {A = ℕ} 0 1 = cc in omega arith
+  said Status.NotSupported e = let z : _≡_ {A = ℕ} 0 1 = cc in omega arith
+  said Status.ParameterError e = let z : _≡_ {A = ℕ} 0 1 = cc in omega arith
+
+  understood-reply : (r : Reply) (due : ℕ) → onReply id value r ≡ Sight.Understood due → (status : Status) × ((r ≡ Reply.Get status id) × Good status due)
+  understood-reply r due e = by (shape r)
     where
-      by : (t : Bool) → Few (cond t (onFrame (idAt (v .asked)) command bytes) other)
-      by true = few-of (tells-frame (idAt (v .asked)) (record { command = command; bytes = bytes }))
-      by false = few-of (tells-other 0 [] false)
+      by : Shape r → (status : Status) × ((r ≡ Reply.Get status id) × Good status due)
+      by (says-none n) = let z : _≡_ {A = ℕ} 0 1 = cc in absurd (omega arith)
+      by (says-get status is o) = (status, (is, good status due (sym o ∙ e)))
+
+  nothing-reply : (r : Reply) → ((status : Status) → r ≢ Reply.Get status id) → onReply id value r ≡ Sight.Nothing
+  nothing-reply r none = by (shape r)
+    where
+      by : Shape r → onReply id value r ≡ Sight.Nothing
+      by (says-none n) = n
+      by (says-get status is o) = absurd (none status is)
+
+pub sight-is-seen : SightIsSeen
+unfolding sightAt
+sight-is-seen id command bytes =
+    let r = reading command bytes in
+    record {
+      nothing-when = (
+        λ e status is. said id (rest bytes) status (sym (ap (onReply id (rest bytes)) is ∙ get-seen id (rest bytes) status) ∙ e),
+        λ none. nothing-reply id (rest bytes) r none,
+      );
+      understood-when = (
+        λ e. let s = understood-reply id (rest bytes) r id e in (s .1 .0 ∙ ap (λ (k : Status). Reply.Get k id) (s .1 .1 .is-good), s .1 .1 .has-value),
+        λ all. ap (onReply id (rest bytes)) (all .0) ∙ get-seen id (rest bytes) Status.Good ∙ rw (all .1),
+      );
+    }
+
+-- a value that is understood is the rest of the data, after the first three bytes
+pub record Valued (id : ℕ) (bytes : List ℕ) : Type 0 where
+  pub is-long : 3 ≤ length bytes
+  pub is-understood : isUnderstood id (rest bytes) ≡ true
+
+sight-valued : (due id command : ℕ) (bytes : List ℕ) → sightAt due command bytes ≡ Sight.Understood id → Valued id bytes
+unfolding sightAt
+sight-valued due id command bytes e =
+    let s = understood-reply due (rest bytes) (reading command bytes) id e in
+    record {
+      is-long = get-long command bytes (s .0) due (s .1 .0);
+      is-understood = rw (s .1 .1 .same-id) at (s .1 .1 .has-value);
+    }
+
+pub understood-valued : (v : Viewer) (command : ℕ) (bytes : List ℕ) (id : ℕ) → viewing v command bytes .sight ≡ Sight.Understood id → Valued id bytes
+unfolding viewing sightOf
+understood-valued v command bytes id e = by (allowed v) (ltb (v .asked) count) e
+  where
+    by : (a b : Bool) → cond a (told (moved v (cond b (sightAt (idAt (v .asked)) command bytes) Sight.Nothing)) (cond b (sightAt (idAt (v .asked)) command bytes) Sight.Nothing)) (stray v) .sight ≡ Sight.Understood id → Valued id bytes
+    by true true e = sight-valued (idAt (v .asked)) id command bytes e
+    by true false e = let z : _≡_ {A = ℕ} 0 1 = cc in absurd (omega arith)
+    by false b e = let z : _≡_ {A = ℕ} 0 1 = cc in absurd (omega arith)

@@ -2,12 +2,13 @@
 use mathlib.Core.Path.{_≡_, refl, sym, ap, ap₂, _∙_}
 use mathlib.Core.Bool.{Bool, true, false, cond}
 use mathlib.Core.List.{List, [], _∷_, _++_}
-use Prim.Native.Nat.{ℕ, suc, _+_, _≤_, _<_}
+use Prim.Native.Nat.{ℕ, zero, suc, _+_, _≤_, _<_}
 use native.Mathlib.Omega.{arith}
 use borrow.Author.Tests.{leb-true, eqb-true, eq-eqb, ne-eqb}
 use lib.ListN.{length, getD, take, drop, length-append, take-append-drop, drop-of-length-le}
-use lib.Seq.{length-take-le, take-append-seam}
+use lib.Seq.{length-take-le, take-all, take-append-seam}
 use lib.Dec.{ltb, leb, eqb}
+use Rattle.bytes.specs.Bytes.{indexAfter, indexOf, slice}
 use Rattle.laws.specs.Lists.{every, before}
 use Rattle.laws.proofs.Bools.{and-left, and-right, both}
 use Rattle.laws.proofs.Lists.{drop-turn, before-first}
@@ -16,7 +17,7 @@ use Rattle.who.specs.Calls.{naming}
 use Rattle.who.specs.declared.Verdict.{Verdict}
 use Rattle.who.specs.declared.Named.{Named}
 use Rattle.who.proofs.Identities.{named-refused, named-accepted}
-use Rattle.view.specs.Values.{serialIn, serialWidth, serialReads, isUnderstood, serialText, wordsText}
+use Rattle.view.specs.Values.{serialIn, serialWidth, serialReads, isUnderstood}
 use Rattle.view.specs.Laws.{IsSerial, SerialIsRead}
 
 abbrev isAccepted : Verdict → Bool
@@ -30,6 +31,17 @@ named-fits {n} serial verdict e is = by (serialFits serial) refl
     by : (t : Bool) → serialFits serial ≡ t → isAccepted verdict ≡ serialFits serial
     by true fit = ap isAccepted (sym is ∙ ap (λ (m : Named). m .verdict) (e ∙ named-accepted 0 0 serial fit)) ∙ sym fit
     by false fit = ap isAccepted (sym is ∙ ap (λ (m : Named). m .verdict) (e ∙ named-refused 0 0 serial fit)) ∙ sym fit
+
+-- the library's place of the first zero byte
+index-before : (l : List ℕ) → indexOf 0 l ≡ before (eqb 0) l
+unfolding indexOf indexAfter
+index-before [] = refl
+index-before (zero ∷ l) = refl
+index-before (suc x ∷ l) = rw (ne-eqb (suc x) 0 (λ e. absurd (omega arith)), ne-eqb 0 (suc x) (λ e. absurd (omega arith))) (ap suc (index-before l))
+
+pub zero-found : (value : List ℕ) → 0 + indexOf 0 (slice 0 (length value) value) ≡ before (eqb 0) value
+unfolding slice
+zero-found value = rw (take-all (length value) value (omega arith)) (omega (arith, index-before value))
 
 -- the bytes of a serial are no zero bytes
 not-zero : (b : ℕ) → printed b ≡ true → eqb 0 b ≡ false
@@ -69,7 +81,7 @@ module _ (value : List ℕ) where
           drop-of-length-le value {i = end} (omega arith) ∙ sym (ap (λ (b : Bool). cond b (0 ∷ []) []) h)
 
   reads-serial : serialReads value ≡ true → IsSerial value (serialIn value)
-  unfolding serialReads wordsText serialText
+  unfolding serialReads
   reads-serial ok =
       let long : length value ≡ serialWidth end = eqb-true (length value) (serialWidth end) (and-right (serialFits (serialIn value)) _ ok) in
       record {
@@ -77,12 +89,11 @@ module _ (value : List ℕ) where
         is-value = sym (take-append-drop end value)
             ∙ ap (λ (l : List ℕ). serialIn value ++ l) (after-serial long)
             ∙ ap (λ (n : ℕ). serialIn value ++ cond (ltb n 32) (0 ∷ []) []) (sym serial-long);
-        is-told = refl;
       }
 
 -- a serial and what comes after it
 module _ (serial : List ℕ) (fit : serialFits serial ≡ true) where
-  abbrev rest : List ℕ
+  abbrev pub rest : List ℕ
   rest = cond (ltb (length serial) 32) (0 ∷ []) []
 
   all-printed : every printed serial ≡ true
@@ -96,7 +107,7 @@ module _ (serial : List ℕ) (fit : serialFits serial ≡ true) where
       first true = refl
       first false = refl
 
-  same-serial : serialIn (serial ++ rest) ≡ serial
+  pub same-serial : serialIn (serial ++ rest) ≡ serial
   same-serial = ap (λ (n : ℕ). take n (serial ++ rest)) ends-there ∙ take-append-seam serial rest
 
   same-width : length (serial ++ rest) ≡ serialWidth (before (eqb 0) (serial ++ rest))
@@ -110,9 +121,9 @@ module _ (serial : List ℕ) (fit : serialFits serial ≡ true) where
   unfolding serialReads
   serial-reads = both _ _ (ap serialFits same-serial ∙ fit) (eq-eqb _ _ same-width)
 
-pub serial-read : SerialIsRead
+pub serial-is-read : SerialIsRead
 unfolding isUnderstood
-serial-read value = (
+serial-is-read value = (
   λ ok. (serialIn value, reads-serial value ok),
   λ some. ap serialReads (some .1 .is-value) ∙ serial-reads (some .0) (some .1 .is-fit),
 )

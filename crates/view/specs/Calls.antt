@@ -1,41 +1,78 @@
--- What each public call answers, for every input. Assumes nothing.
-use Prim.Native.Nat.{ℕ}
-use mathlib.Core.Bool.{cond}
-use mathlib.Core.List.{List, [], _++_}
-use lib.Dec.{ltb}
+-- What each public call answers, for every input. All of it is ours. Assumes nothing.
+use Prim.Native.Nat.{ℕ, _+_}
+use mathlib.Core.Bool.{Bool, cond, _&&_}
+use mathlib.Core.List.{List}
+use lib.Dec.{ltb, leb, eqb}
 use Rattle.paper.specs.Numbers.{notAllowed}
-use Rattle.lines.specs.Lines.{chars, lineOf}
-use Rattle.lines.specs.Numbers.{decimal}
-use Rattle.lines.specs.declared.Line.{Line}
-use Rattle.view.specs.Values.{count, idAt}
-use Rattle.view.specs.Viewing.{heardBy, moved, begun, allowed}
+use Rattle.reply.specs.Replies.{rest}
+use Rattle.reply.specs.Calls.{reading}
+use Rattle.reply.specs.declared.Status.{Status}
+use Rattle.reply.specs.declared.Reply.{Reply}
+use Rattle.view.specs.Values.{count, idAt, isUnderstood}
 use Rattle.view.specs.declared.Viewer.{Viewer}
-use Rattle.view.specs.declared.Outcome.{Outcome}
+use Rattle.view.specs.declared.Next.{Next}
+use Rattle.view.specs.declared.Sight.{Sight}
 use Rattle.view.specs.declared.Viewed.{Viewed}
 
--- the id that is due, or all were answered
-unfoldable pub outcomeOf : Viewer → Outcome
-outcomeOf v = cond (ltb (v .asked) count) (Outcome.Waiting (idAt (v .asked))) Outcome.Done
+-- What a frame comes to while an id is due: only with flag 00 there is a value to understand;
+abbrev pub onStatus : ℕ → List ℕ → Status → Sight
+onStatus id value Status.Good = cond (isUnderstood id value) (Sight.Understood id) (Sight.Strange id)
+onStatus id value Status.UnknownId = Sight.Strange id
+onStatus id value Status.NotSupported = Sight.Strange id
+onStatus id value Status.ParameterError = Sight.Strange id
 
-unfoldable pub told : Viewer → Line → Viewed
-told v line = record { viewer = v; outcome = outcomeOf v; line = line }
+-- every reply but a Get reply of that id, and every frame that is none, says nothing of it.
+abbrev pub onReply : ℕ → List ℕ → Reply → Sight
+onReply id value (Reply.Get status got) = cond (eqb got id) (onStatus id value status) Sight.Nothing
+onReply id value Reply.Done = Sight.Nothing
+onReply id value (Reply.Unknown command) = Sight.Nothing
+onReply id value (Reply.Error code) = Sight.Nothing
+onReply id value (Reply.Ping version) = Sight.Nothing
+onReply id value (Reply.Set status got) = Sight.Nothing
+onReply id value (Reply.Async status got) = Sight.Nothing
+onReply id value (Reply.Refused number) = Sight.Nothing
+
+unfoldable pub sightAt : ℕ → ℕ → List ℕ → Sight
+sightAt id command bytes = onReply id (rest bytes) (reading command bytes)
+
+-- after the last id nothing is due
+unfoldable pub sightOf : Viewer → ℕ → List ℕ → Sight
+sightOf v command bytes = cond (ltb (v .asked) count) (sightAt (idAt (v .asked)) command bytes) Sight.Nothing
+
+-- how many ids a frame answers, and how many of them with a value that is understood
+abbrev pub answers : Sight → ℕ
+answers Sight.Nothing = 0
+answers (Sight.Understood id) = 1
+answers (Sight.Strange id) = 1
+
+abbrev pub shows : Sight → ℕ
+shows Sight.Nothing = 0
+shows (Sight.Understood id) = 1
+shows (Sight.Strange id) = 0
+
+abbrev pub moved : Viewer → Sight → Viewer
+moved v s = record { asked = v .asked + answers s; understood = v .understood + shows s }
+
+abbrev pub begun : Viewer
+begun = record { asked = 0; understood = 0 }
+
+-- The viewers that a start and replies give (the law AllowedIsReached says so, both ways).
+unfoldable pub allowed : Viewer → Bool
+allowed v = leb (v .understood) (v .asked) && leb (v .asked) count
+
+-- the id that is due, or all were answered
+abbrev pub nextOf : Viewer → Next
+nextOf v = cond (ltb (v .asked) count) (Next.Waiting (idAt (v .asked))) Next.Done
+
+abbrev pub told : Viewer → Sight → Viewed
+told v s = record { viewer = v; next = nextOf v; sight = s }
 
 -- "a state handed in comes back as it was"
-unfoldable pub stray : Viewer → Viewed
-stray v = record { viewer = v; outcome = Outcome.Refused notAllowed; line = lineOf [] }
+abbrev pub stray : Viewer → Viewed
+stray v = record { viewer = v; next = Next.Refused notAllowed; sight = Sight.Nothing }
 
-unfoldable pub starting : Viewed
-starting = told begun (lineOf [])
+abbrev pub starting : Viewed
+starting = told begun Sight.Nothing
 
 unfoldable pub viewing : Viewer → ℕ → List ℕ → Viewed
-viewing v command bytes = cond (allowed v) (told (moved v (heardBy v command bytes)) (heardBy v command bytes .line)) (stray v)
-
--- `shown: 5 of 8 values`
-unfoldable pub countText : ℕ → ℕ → List ℕ
-countText understood due = chars "shown: " ++ decimal understood ++ chars " of " ++ decimal due ++ chars " values"
-
-unfoldable pub refusedText : List ℕ
-refusedText = chars "refused " ++ decimal notAllowed
-
-unfoldable pub shownText : Viewer → List ℕ
-shownText v = cond (allowed v) (countText (v .understood) count) refusedText
+viewing v command bytes = cond (allowed v) (told (moved v (sightOf v command bytes)) (sightOf v command bytes)) (stray v)

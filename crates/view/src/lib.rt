@@ -1,12 +1,9 @@
-// A board's eight read-only values, asked for one after the other and told in words: who the board is, and its five readings. Every call takes
-// anything, and its promise fixes its answer (specs/Calls.antt).
+// A board's eight read-only values, asked for one after the other: who the board is, and its five readings. Every call takes anything, and
+// its promise fixes its answer (specs/Calls.antt). The words of the values are in `sentences`.
 ghost use mathlib.Core.Path.{_≡_};
-ghost use Rattle.lines.specs.Lines.{lineOf};
-ghost use Rattle.view.specs.Calls.{starting, viewing, shownText};
-use lines::Line;
+ghost use Rattle.view.specs.Calls.{allowed, starting, viewing};
 
 mod heard;
-mod number;
 mod serial;
 mod state;
 mod values;
@@ -20,26 +17,40 @@ pub struct Viewer {
     pub understood: usize,
 }
 
-// What a call comes to: the id that is due; all were answered; or document 01's number of the refusal.
-pub enum Outcome {
+// What is next: the id that is due; nothing, all were answered; or document 01's number of the refusal.
+pub enum Next {
     Waiting(u16),
     Done,
     Refused(u8),
 }
 
-// The advanced viewer, its outcome, and what the frame said of the id that was due: an empty line where it said nothing.
+// What a frame came to: it said nothing of the id that was due; or it answered that id, with a value that is understood or with none.
+pub enum Sight {
+    Nothing,
+    Understood(u16),
+    Strange(u16),
+}
+
+// The advanced viewer, what is next, and what the frame came to.
 pub struct Viewed {
     pub viewer: Viewer,
-    pub outcome: Outcome,
-    pub line: Line,
+    pub next: Next,
+    pub sight: Sight,
 }
 
 impl Viewer {
-    // A viewer that asks for the first value.
+    // Returns a viewer that asks for the first value.
     pub fn start() -> Viewed
         ensures { λ r. ⌜ r ≡ starting ⌝ }
     {
-        state::told(state::begun(), Line::start())
+        state::told(state::begun(), Sight::Nothing)
+    }
+
+    // Whether a start and replies give the viewer.
+    pub fn is_allowed(self) -> bool
+        ensures { λ r. ⌜ r ≡ allowed self ⌝ }
+    {
+        (self.understood <= self.asked) & (self.asked <= COUNT)
     }
 
     // A frame was read, of this command and these data. A Get reply of the due id moves on, any other frame keeps waiting. Refuses 12 for a
@@ -47,16 +58,10 @@ impl Viewer {
     pub fn reply(self, command: u8, bytes: &[u8]) -> Viewed
         ensures { λ r. ⌜ r ≡ viewing self command (now (bytes .entry)) ⌝ }
     {
-        if !state::is_allowed(self) {
+        if !self.is_allowed() {
             return state::stray(self);
         }
-        state::after(self, heard::by(self, command, bytes))
+        let sight = heard::by(self, command, bytes);
+        state::told(state::moved(self, sight), sight)
     }
-}
-
-// How many values were shown in words, by the viewer's own count.
-pub fn shown(viewer: Viewer) -> Line
-    ensures { λ r. ⌜ r ≡ lineOf (shownText viewer) ⌝ }
-{
-    state::put_shown(Line::start(), viewer)
 }

@@ -4,14 +4,8 @@ use borrow.Author.Needs.{needs}
 use Rattle.sentences.proofs.collected.Statement.{statement}
 use Rattle.sentences.proofs.collected.Tie as tie
 
-start-requires : tie.Need-start-requires
-start-requires c κs = search needs
-
-put-collector-requires : tie.Need-put-collector-requires
-put-collector-requires c κs = search needs
-
 returns : tie.Need-returns
 returns c = from-start _ (c .before .start .ensures) (c .put-collector .ensures)
 
 pub collected-spec : {M : Type 1} → statement M
-collected-spec = tie.close (tie.spec start-requires put-collector-requires returns)
+collected-spec = tie.close (tie.spec (λ c κs. search needs) (λ c κs. search needs) returns)

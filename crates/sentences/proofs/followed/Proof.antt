@@ -4,14 +4,8 @@ use borrow.Author.Needs.{needs}
 use Rattle.sentences.proofs.followed.Statement.{statement}
 use Rattle.sentences.proofs.followed.Tie as tie
 
-start-requires : tie.Need-start-requires
-start-requires c κs = search needs
-
-put-follower-requires : tie.Need-put-follower-requires
-put-follower-requires c κs = search needs
-
 returns : tie.Need-returns
 returns c = from-start _ (c .before .start .ensures) (c .put-follower .ensures)
 
 pub followed-spec : {M : Type 1} → statement M
-followed-spec = tie.close (tie.spec start-requires put-follower-requires returns)
+followed-spec = tie.close (tie.spec (λ c κs. search needs) (λ c κs. search needs) returns)

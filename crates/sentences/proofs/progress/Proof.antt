@@ -4,14 +4,8 @@ use borrow.Author.Needs.{needs}
 use Rattle.sentences.proofs.progress.Statement.{statement}
 use Rattle.sentences.proofs.progress.Tie as tie
 
-start-requires : tie.Need-start-requires
-start-requires c κs = search needs
-
-put-confirmed-requires : tie.Need-put-confirmed-requires
-put-confirmed-requires c κs = search needs
-
 returns : tie.Need-returns
 returns c = from-start _ (c .before .start .ensures) (c .put-confirmed .ensures)
 
 pub progress-spec : {M : Type 1} → statement M
-progress-spec = tie.close (tie.spec start-requires put-confirmed-requires returns)
+progress-spec = tie.close (tie.spec (λ c κs. search needs) (λ c κs. search needs) returns)

@@ -19,9 +19,6 @@ few c = tidy-few _ (c .pre)
 sub-least : tie.Need-sub-least
 sub-least c = few (c .before .before)
 
-least-requires : tie.Need-least-requires
-least-requires c κs = search needs
-
 slice-aggregate-copy : tie.Need-slice-aggregate-copy
 slice-aggregate-copy c = rw length-take (omega (arith, c .before .least .ensures))
 
@@ -57,4 +54,4 @@ pub joined-spec : {M : Type 1} → statement M
 joined-spec =
     tie.close
     (tie.spec
-    sub-least least-requires slice-aggregate-copy sub-copy part-chars-start part-chars-end copy-requires add-t6 returns)
+    sub-least (λ c κs. search needs) slice-aggregate-copy sub-copy part-chars-start part-chars-end copy-requires add-t6 returns)

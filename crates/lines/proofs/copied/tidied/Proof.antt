@@ -12,17 +12,11 @@ use Rattle.lines.proofs.copied.tidied.Tie as tie
 long : (c : tie.Start) → length (c .args .line .chars) ≡ most
 long c = search needs
 
-least-requires : tie.Need-least-requires
-least-requires c κs = search needs
-
 array-share-prefix-held : tie.Need-array-share-prefix-held
 array-share-prefix-held c = omega (arith, c .least .ensures, long (c .before .before))
 
 slice-aggregate-copy : tie.Need-slice-aggregate-copy
 slice-aggregate-copy c = sym (kept-length _ (long (c .before .before .before)) _ (c .before .least .ensures))
-
-slice-aggregate-copy-2 : tie.Need-slice-aggregate-copy-2
-slice-aggregate-copy-2 c = search needs
 
 copy-requires : tie.Need-copy-requires
 copy-requires c κs =
@@ -39,4 +33,4 @@ pub tidied-spec : {M : Type 1} → statement M
 tidied-spec =
     tie.close
     (tie.spec
-    least-requires array-share-prefix-held slice-aggregate-copy slice-aggregate-copy-2 copy-requires returns)
+    (λ c κs. search needs) array-share-prefix-held slice-aggregate-copy (λ c. search needs) copy-requires returns)

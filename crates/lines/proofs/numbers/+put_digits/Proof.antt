@@ -24,14 +24,6 @@ abbrev put-digits-below : ℕ → In 0 put-digits-kinds.ps
 put-digits-below t =
     and 0 put-digits-kinds.ps (falls 0 put-digits-kinds.ps _<_ μ-put-digits t) put-digits.Pre
 
-put-digits-put-digit-requires : (t : ℕ) → put-digits-lts.Need-put-digit-requires (
-  put-digit-reads.Asked,
-  put-digit-reads.Learnt,
-  put-digits-below t,
-  put-digits.Post,
-) (put-digits-at t) put-digits.Post
-put-digits-put-digit-requires t c κs = tt
-
 put-digits-returns : (t : ℕ) → put-digits-lts.Need-returns (
   put-digit-reads.Asked,
   put-digit-reads.Learnt,
@@ -39,14 +31,6 @@ put-digits-returns : (t : ℕ) → put-digits-lts.Need-returns (
   put-digits.Post,
 ) (put-digits-at t) put-digits.Post
 put-digits-returns t c = rw (one-digit _ _ (c .before .if1 .taken)) (c .put-digit .ensures)
-
-put-digits-put-digit-requires-2 : (t : ℕ) → put-digits-lts.Need-put-digit-requires-2 (
-  put-digit-reads.Asked,
-  put-digit-reads.Learnt,
-  put-digits-below t,
-  put-digits.Post,
-) (put-digits-at t) put-digits.Post
-put-digits-put-digit-requires-2 t c κs = tt
 
 put-digits-returns-2 : (t : ℕ) → put-digits-lts.Need-returns-2 (
   put-digit-reads.Asked,
@@ -74,14 +58,6 @@ put-digits-put-digits-requires t c κs =
     let some : 1 ≤ c .before .before .args .more = pos-of-ne-zero (c .if2 .left) in
     (omega (arith, c .before .before .pre .0), tt)
 
-put-digits-put-digit-requires-3 : (t : ℕ) → put-digits-lts.Need-put-digit-requires-3 (
-  put-digit-reads.Asked,
-  put-digit-reads.Learnt,
-  put-digits-below t,
-  put-digits.Post,
-) (put-digits-at t) put-digits.Post
-put-digits-put-digit-requires-3 t c κs = tt
-
 put-digits-returns-3 : (t : ℕ) → put-digits-lts.Need-returns-3 (
   put-digit-reads.Asked,
   put-digit-reads.Learnt,
@@ -101,11 +77,11 @@ pub +put-digits-spec : {M : Type 1} → statement M
 )
     (put-digits-at t)
     put-digits.Post
-    (put-digits-put-digit-requires t)
+    (λ c κs. tt)
     (put-digits-returns t)
-    (put-digits-put-digit-requires-2 t)
+    (λ c κs. tt)
     (put-digits-returns-2 t)
     (put-digits-sub-put-digits t)
     (put-digits-put-digits-requires t)
-    (put-digits-put-digit-requires-3 t)
+    (λ c κs. tt)
     (put-digits-returns-3 t)

@@ -5,18 +5,6 @@ use borrow.Author.Needs.{needs}
 use Rattle.sentences.proofs.ends.due_of.Statement.{statement}
 use Rattle.sentences.proofs.ends.due_of.Tie as tie
 
-slice-aggregate-list : tie.Need-slice-aggregate-list
-slice-aggregate-list c = search needs
-
-list-requires : tie.Need-list-requires
-list-requires c κs = search needs
-
-enum-known-listed : tie.Need-enum-known-listed
-enum-known-listed c = search needs
-
-enum-told : tie.Need-enum-told
-enum-told c = search needs
-
 returns : tie.Need-returns
 returns c =
     let c4 = c .before .before .before .before in
@@ -28,4 +16,4 @@ returns-2 c = list-sets _ _ (c .before .before .before .before .before .pre) (se
 pub due-of-spec : {M : Type 1} → statement M
 due-of-spec =
     tie.close
-    (tie.spec slice-aggregate-list list-requires enum-known-listed enum-told returns returns-2)
+    (tie.spec (λ c. search needs) (λ c κs. search needs) (λ c. search needs) (λ c. search needs) returns returns-2)

@@ -4,24 +4,6 @@ use borrow.Author.Needs.{needs}
 use Rattle.sentences.proofs.ends.is_allowed.Statement.{statement}
 use Rattle.sentences.proofs.ends.is_allowed.Tie as tie
 
-refused-frame-requires : tie.Need-refused-frame-requires
-refused-frame-requires c κs = search needs
-
-enum-told : tie.Need-enum-told
-enum-told c = search needs
-
-enum-told-2 : tie.Need-enum-told-2
-enum-told-2 c = search needs
-
-enum-told-3 : tie.Need-enum-told-3
-enum-told-3 c = search needs
-
-enum-told-4 : tie.Need-enum-told-4
-enum-told-4 c = search needs
-
-enum-told-5 : tie.Need-enum-told-5
-enum-told-5 c = search needs
-
 returns : tie.Need-returns
 returns c = known-allowed _ _ (c .before .before .refused-frame .ensures) (c .enum-told .given .1)
 
@@ -41,12 +23,12 @@ pub is-allowed-spec : {M : Type 1} → statement M
 is-allowed-spec =
     tie.close
     (tie.spec
-    refused-frame-requires
-    enum-told
-    enum-told-2
-    enum-told-3
-    enum-told-4
-    enum-told-5
+    (λ c κs. search needs)
+    (λ c. search needs)
+    (λ c. search needs)
+    (λ c. search needs)
+    (λ c. search needs)
+    (λ c. search needs)
     returns
     returns-2
     returns-3

@@ -7,26 +7,11 @@ use borrow.Author.Needs.{needs}
 use Rattle.sentences.proofs.ends.put_confirmed.Statement.{statement}
 use Rattle.sentences.proofs.ends.put_confirmed.Tie as tie
 
-is-allowed-requires : tie.Need-is-allowed-requires
-is-allowed-requires c κs = search needs
-
-put-stray-requires : tie.Need-put-stray-requires
-put-stray-requires c κs = search needs
-
 returns : tie.Need-returns
 returns c = c .put-stray .ensures ∙ ap (adding _) (progress-stray _ (sym (c .before .before .is-allowed .ensures) ∙ not-true _ (c .before .if1 .taken)))
 
 due-of-requires : tie.Need-due-of-requires
 due-of-requires c κs = sym (c .before .is-allowed .ensures) ∙ not-false _ (c .if1 .left)
-
-slice-aggregate-put-of : tie.Need-slice-aggregate-put-of
-slice-aggregate-put-of c = search needs
-
-slice-aggregate-put-of-2 : tie.Need-slice-aggregate-put-of-2
-slice-aggregate-put-of-2 c = search needs
-
-put-of-requires : tie.Need-put-of-requires
-put-of-requires c κs = search needs
 
 returns-2 : tie.Need-returns-2
 returns-2 c =
@@ -37,11 +22,11 @@ pub put-confirmed-spec : {M : Type 1} → statement M
 put-confirmed-spec =
     tie.close
     (tie.spec
-    is-allowed-requires
-    put-stray-requires
+    (λ c κs. search needs)
+    (λ c κs. search needs)
     returns
     due-of-requires
-    slice-aggregate-put-of
-    slice-aggregate-put-of-2
-    put-of-requires
+    (λ c. search needs)
+    (λ c. search needs)
+    (λ c κs. search needs)
     returns-2)

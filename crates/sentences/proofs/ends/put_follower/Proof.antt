@@ -7,23 +7,11 @@ use borrow.Author.Needs.{needs}
 use Rattle.sentences.proofs.ends.put_follower.Statement.{statement}
 use Rattle.sentences.proofs.ends.put_follower.Tie as tie
 
-is-allowed-requires : tie.Need-is-allowed-requires
-is-allowed-requires c κs = search needs
-
-put-stray-requires : tie.Need-put-stray-requires
-put-stray-requires c κs = search needs
-
 returns : tie.Need-returns
 returns c = c .put-stray .ensures ∙ ap (adding _) (followed-stray _ (sym (c .before .before .is-allowed .ensures) ∙ not-true _ (c .before .if1 .taken)))
 
-refused-frame-requires : tie.Need-refused-frame-requires
-refused-frame-requires c κs = search needs
-
 due-of-requires : tie.Need-due-of-requires
 due-of-requires c κs = sym (c .before .before .is-allowed .ensures) ∙ not-false _ (c .before .if1 .left)
-
-put-end-requires : tie.Need-put-end-requires
-put-end-requires c κs = search needs
 
 returns-2 : tie.Need-returns-2
 returns-2 c =
@@ -34,10 +22,10 @@ pub put-follower-spec : {M : Type 1} → statement M
 put-follower-spec =
     tie.close
     (tie.spec
-    is-allowed-requires
-    put-stray-requires
+    (λ c κs. search needs)
+    (λ c κs. search needs)
     returns
-    refused-frame-requires
+    (λ c κs. search needs)
     due-of-requires
-    put-end-requires
+    (λ c κs. search needs)
     returns-2)

@@ -5,18 +5,9 @@ use borrow.Author.Needs.{needs}
 use Rattle.sentences.proofs.parts.put_between.Statement.{statement}
 use Rattle.sentences.proofs.parts.put_between.Tie as tie
 
-put-requires : tie.Need-put-requires
-put-requires c κs = search needs
-
-put-number-requires : tie.Need-put-number-requires
-put-number-requires c κs = search needs
-
-put-requires-2 : tie.Need-put-requires-2
-put-requires-2 c κs = search needs
-
 returns : tie.Need-returns
 unfolding betweenText
 returns c = further _ _ _ (further _ _ _ (c .before .before .put .ensures) (c .before .put-number .ensures)) (c .put2 .ensures)
 
 pub put-between-spec : {M : Type 1} → statement M
-put-between-spec = tie.close (tie.spec put-requires put-number-requires put-requires-2 returns)
+put-between-spec = tie.close (tie.spec (λ c κs. search needs) (λ c κs. search needs) (λ c κs. search needs) returns)

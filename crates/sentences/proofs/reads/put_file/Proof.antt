@@ -3,30 +3,6 @@ use borrow.Author.Needs.{needs}
 use Rattle.sentences.proofs.reads.put_file.Statement.{statement}
 use Rattle.sentences.proofs.reads.put_file.Tie as tie
 
-enum-told : tie.Need-enum-told
-enum-told c = search needs
-
-put-unread-requires : tie.Need-put-unread-requires
-put-unread-requires c κs = search needs
-
-enum-told-2 : tie.Need-enum-told-2
-enum-told-2 c = search needs
-
-put-kept-requires : tie.Need-put-kept-requires
-put-kept-requires c κs = search needs
-
-enum-told-3 : tie.Need-enum-told-3
-enum-told-3 c = search needs
-
-put-unread-requires-2 : tie.Need-put-unread-requires-2
-put-unread-requires-2 c κs = search needs
-
-enum-known-outcome : tie.Need-enum-known-outcome
-enum-known-outcome c = search needs
-
-put-refused-requires : tie.Need-put-refused-requires
-put-refused-requires c κs = search needs
-
 returns : tie.Need-returns
 returns c = rw (c .before .enum-told .given .1) (c .put-unread .ensures)
 
@@ -43,14 +19,14 @@ pub put-file-spec : {M : Type 1} → statement M
 put-file-spec =
     tie.close
     (tie.spec
-    enum-told
-    put-unread-requires
-    enum-told-2
-    put-kept-requires
-    enum-told-3
-    put-unread-requires-2
-    enum-known-outcome
-    put-refused-requires
+    (λ c. search needs)
+    (λ c κs. search needs)
+    (λ c. search needs)
+    (λ c κs. search needs)
+    (λ c. search needs)
+    (λ c κs. search needs)
+    (λ c. search needs)
+    (λ c κs. search needs)
     returns
     returns-2
     returns-3

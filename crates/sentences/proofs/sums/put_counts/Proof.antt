@@ -5,60 +5,6 @@ use borrow.Author.Needs.{needs}
 use Rattle.sentences.proofs.sums.put_counts.Statement.{statement}
 use Rattle.sentences.proofs.sums.put_counts.Tie as tie
 
-slice-aggregate-put-between : tie.Need-slice-aggregate-put-between
-slice-aggregate-put-between c = search needs
-
-slice-aggregate-put-between-2 : tie.Need-slice-aggregate-put-between-2
-slice-aggregate-put-between-2 c = search needs
-
-put-between-requires : tie.Need-put-between-requires
-put-between-requires c κs = search needs
-
-slice-aggregate-put-between-3 : tie.Need-slice-aggregate-put-between-3
-slice-aggregate-put-between-3 c = search needs
-
-slice-aggregate-put-between-4 : tie.Need-slice-aggregate-put-between-4
-slice-aggregate-put-between-4 c = search needs
-
-put-between-requires-2 : tie.Need-put-between-requires-2
-put-between-requires-2 c κs = search needs
-
-slice-aggregate-put-between-5 : tie.Need-slice-aggregate-put-between-5
-slice-aggregate-put-between-5 c = search needs
-
-slice-aggregate-put-between-6 : tie.Need-slice-aggregate-put-between-6
-slice-aggregate-put-between-6 c = search needs
-
-put-between-requires-3 : tie.Need-put-between-requires-3
-put-between-requires-3 c κs = search needs
-
-slice-aggregate-put-between-7 : tie.Need-slice-aggregate-put-between-7
-slice-aggregate-put-between-7 c = search needs
-
-slice-aggregate-put-between-8 : tie.Need-slice-aggregate-put-between-8
-slice-aggregate-put-between-8 c = search needs
-
-put-between-requires-4 : tie.Need-put-between-requires-4
-put-between-requires-4 c κs = search needs
-
-slice-aggregate-put-between-9 : tie.Need-slice-aggregate-put-between-9
-slice-aggregate-put-between-9 c = search needs
-
-slice-aggregate-put-between-10 : tie.Need-slice-aggregate-put-between-10
-slice-aggregate-put-between-10 c = search needs
-
-put-between-requires-5 : tie.Need-put-between-requires-5
-put-between-requires-5 c κs = search needs
-
-slice-aggregate-put-of : tie.Need-slice-aggregate-put-of
-slice-aggregate-put-of c = search needs
-
-slice-aggregate-put-of-2 : tie.Need-slice-aggregate-put-of-2
-slice-aggregate-put-of-2 c = search needs
-
-put-of-requires : tie.Need-put-of-requires
-put-of-requires c κs = search needs
-
 returns : tie.Need-returns
 unfolding countsText
 returns c =
@@ -71,22 +17,22 @@ pub put-counts-spec : {M : Type 1} → statement M
 put-counts-spec =
     tie.close
     (tie.spec
-    slice-aggregate-put-between
-    slice-aggregate-put-between-2
-    put-between-requires
-    slice-aggregate-put-between-3
-    slice-aggregate-put-between-4
-    put-between-requires-2
-    slice-aggregate-put-between-5
-    slice-aggregate-put-between-6
-    put-between-requires-3
-    slice-aggregate-put-between-7
-    slice-aggregate-put-between-8
-    put-between-requires-4
-    slice-aggregate-put-between-9
-    slice-aggregate-put-between-10
-    put-between-requires-5
-    slice-aggregate-put-of
-    slice-aggregate-put-of-2
-    put-of-requires
+    (λ c. search needs)
+    (λ c. search needs)
+    (λ c κs. search needs)
+    (λ c. search needs)
+    (λ c. search needs)
+    (λ c κs. search needs)
+    (λ c. search needs)
+    (λ c. search needs)
+    (λ c κs. search needs)
+    (λ c. search needs)
+    (λ c. search needs)
+    (λ c κs. search needs)
+    (λ c. search needs)
+    (λ c. search needs)
+    (λ c κs. search needs)
+    (λ c. search needs)
+    (λ c. search needs)
+    (λ c κs. search needs)
     returns)

@@ -7,17 +7,8 @@ use borrow.Author.Needs.{needs}
 use Rattle.sentences.proofs.sums.put_sums.Statement.{statement}
 use Rattle.sentences.proofs.sums.put_sums.Tie as tie
 
-is-allowed-requires : tie.Need-is-allowed-requires
-is-allowed-requires c κs = search needs
-
-put-stray-requires : tie.Need-put-stray-requires
-put-stray-requires c κs = search needs
-
 returns : tie.Need-returns
 returns c = c .put-stray .ensures ∙ ap (adding _) (summed-stray _ (sym (c .before .before .is-allowed .ensures) ∙ not-true _ (c .before .if1 .taken)))
-
-put-counts-requires : tie.Need-put-counts-requires
-put-counts-requires c κs = search needs
 
 returns-2 : tie.Need-returns-2
 returns-2 c = c .put-counts .ensures ∙ ap (adding _) (summed-good _ (sym (c .before .before .is-allowed .ensures) ∙ not-false _ (c .before .if1 .left)))
@@ -25,4 +16,4 @@ returns-2 c = c .put-counts .ensures ∙ ap (adding _) (summed-good _ (sym (c .b
 pub put-sums-spec : {M : Type 1} → statement M
 put-sums-spec =
     tie.close
-    (tie.spec is-allowed-requires put-stray-requires returns put-counts-requires returns-2)
+    (tie.spec (λ c κs. search needs) (λ c κs. search needs) returns (λ c κs. search needs) returns-2)

@@ -4,15 +4,6 @@ use Rattle.view.proofs.Serials.{named-fits}
 use Rattle.view.proofs.serial.fits.Statement.{statement}
 use Rattle.view.proofs.serial.fits.Tie as tie
 
-named-requires : tie.Need-named-requires
-named-requires c κs = search needs
-
-enum-told : tie.Need-enum-told
-enum-told c = search needs
-
-enum-told-2 : tie.Need-enum-told-2
-enum-told-2 c = search needs
-
 returns : tie.Need-returns
 returns c = named-fits _ _ (c .before .before .named .ensures) (c .enum-told .given .1)
 
@@ -20,4 +11,4 @@ returns-2 : tie.Need-returns-2
 returns-2 c = named-fits _ _ (c .before .before .named .ensures) (c .enum-told2 .given .1)
 
 pub fits-spec : {M : Type 1} → statement M
-fits-spec = tie.close (tie.spec named-requires enum-told enum-told-2 returns returns-2)
+fits-spec = tie.close (tie.spec (λ c κs. search needs) (λ c. search needs) (λ c. search needs) returns returns-2)

@@ -5,9 +5,6 @@ use borrow.Author.Tests.{lt-ltb, le-ltb}
 use Rattle.view.proofs.serial.width_of.Statement.{statement}
 use Rattle.view.proofs.serial.width_of.Tie as tie
 
-add-result : tie.Need-add-result
-add-result c = search needs
-
 returns : tie.Need-returns
 returns c = rw (lt-ltb _ 32 (c .if1 .taken)) (omega arith)
 
@@ -15,4 +12,4 @@ returns-2 : tie.Need-returns-2
 returns-2 c = rw (le-ltb _ 32 (c .if1 .left))
 
 pub width-of-spec : {M : Type 1} → statement M
-width-of-spec = tie.close (tie.spec add-result returns returns-2)
+width-of-spec = tie.close (tie.spec (λ c. search needs) returns returns-2)

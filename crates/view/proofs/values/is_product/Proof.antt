@@ -9,16 +9,10 @@ returns : tie.Need-returns
 unfolding productFits
 returns c = rw (ne-eqb _ 4 (c .if1 .taken))
 
-shared-slice-read-result : tie.Need-shared-slice-read-result
-shared-slice-read-result c = search needs
-
-shared-slice-read-result-2 : tie.Need-shared-slice-read-result-2
-shared-slice-read-result-2 c = search needs
-
 returns-2 : tie.Need-returns-2
 unfolding productFits
 returns-2 c = rw (eq-eqb _ 4 (c .before .before .if1 .left))
 
 pub is-product-spec : {M : Type 1} → statement M
 is-product-spec =
-    tie.close (tie.spec returns shared-slice-read-result shared-slice-read-result-2 returns-2)
+    tie.close (tie.spec returns (λ c. search needs) (λ c. search needs) returns-2)

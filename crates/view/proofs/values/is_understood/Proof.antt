@@ -5,22 +5,13 @@ use borrow.Author.Needs.{needs}
 use Rattle.view.proofs.values.is_understood.Statement.{statement}
 use Rattle.view.proofs.values.is_understood.Tie as tie
 
-is-product-requires : tie.Need-is-product-requires
-is-product-requires c κs = search needs
-
 returns : tie.Need-returns
 unfolding isUnderstood
 returns c = rw (eq-eqb _ 0x0100 (c .before .if1 .taken)) (c .is-product .ensures)
 
-is-serial-requires : tie.Need-is-serial-requires
-is-serial-requires c κs = search needs
-
 returns-2 : tie.Need-returns-2
 unfolding isUnderstood
 returns-2 c = rw (ne-eqb _ 0x0100 (c .before .before .if1 .left), eq-eqb _ 0x010A (c .before .if2 .taken)) (c .is-serial .ensures)
-
-width-of-requires : tie.Need-width-of-requires
-width-of-requires c κs = search needs
 
 returns-3 : tie.Need-returns-3
 unfolding isUnderstood
@@ -29,4 +20,4 @@ returns-3 c = rw (ne-eqb _ 0x0100 (c .before .before .if1 .left), ne-eqb _ 0x010
 pub is-understood-spec : {M : Type 1} → statement M
 is-understood-spec =
     tie.close
-    (tie.spec is-product-requires returns is-serial-requires returns-2 width-of-requires returns-3)
+    (tie.spec (λ c κs. search needs) returns (λ c κs. search needs) returns-2 (λ c κs. search needs) returns-3)

@@ -1,0 +1,100 @@
+// A board's read-only values in words.
+ghost use Prim.Native.Nat.{_*_, _-_, _≤_, _<_, suc};
+ghost use mathlib.Core.Path.{_≡_};
+ghost use mathlib.Core.Bool.{true, cond};
+ghost use lib.ListN.{length};
+ghost use lib.Dec.{ltb};
+ghost use lib.IntN.{pos, negsuc};
+ghost use Rattle.view.specs.Values.{widthOf, isUnderstood};
+ghost use Rattle.lines.specs.Lines.{adding};
+ghost use Rattle.sentences.specs.Values.{wordText, strangeText, serialText, amountText, readingText, wordsText};
+use crate::number;
+use lines::Line;
+
+// How many numbers there are in two bytes and in four, for two's complement; and twice as many, of which no number of two bytes is negative.
+const ALL_16: usize = 65536;
+
+const ALL_32: usize = 4294967296;
+
+const UNSIGNED_16: usize = 131072;
+
+// Puts two bytes in four digits, between words.
+fn put_word(line: Line, before: &[u8], high: u8, low: u8, after: &[u8]) -> Line
+    ensures { λ r. ⌜ r ≡ adding line (wordText (now (before .entry)) high low (now (after .entry))) ⌝ }
+{
+    let h = wire::pair_of(high);
+    let l = wire::pair_of(low);
+    line.put(before)
+        .put(&[h.high, h.low, l.high, l.low])
+        .put(after)
+}
+
+// Puts an id whose answer is not understood.
+pub(crate) fn put_strange(line: Line, id: u16) -> Line
+    ensures { λ r. ⌜ r ≡ adding line (strangeText id) ⌝ }
+{
+    put_word(
+        line,
+        b"",
+        (id / 256) as u8,
+        (id % 256) as u8,
+        b": not understood",
+    )
+}
+
+// 010A: the serial ends at the first zero byte.
+fn put_serial(line: Line, value: &[u8]) -> Line
+    ensures { λ r. ⌜ r ≡ adding line (serialText (now (value .entry))) ⌝ }
+{
+    let end = bytes::scan::find(value, 0, value.len(), 0);
+    line.put(b"serial ").put(&value[..end])
+}
+
+// Puts a number of steps between words; from half of `all` on it is negative, counted back from there.
+fn put_amount(line: Line, before: &[u8], all: usize, n: usize, decimals: u8, after: &[u8]) -> Line
+    requires { ⌜ (n < all) × (all ≤ 4294967296) ⌝ }
+    ensures { λ r. ⌜ r ≡ adding line (amountText (now (before .entry)) (cond (ltb (2 * n) all) (pos n) (negsuc (all - suc n))) decimals (now (after .entry))) ⌝ }
+{
+    let begun = line.put(before);
+    if 2 * n < all {
+        return begun.put_pointed(n, decimals).put(after);
+    }
+    begun.put(b"-").put_pointed(all - n, decimals).put(after)
+}
+
+// Puts a reading in its unit.
+fn put_reading(line: Line, id: u16, value: &[u8]) -> Line
+    requires { ⌜ length (now value) ≡ widthOf id ⌝ }
+    ensures { λ r. ⌜ r ≡ adding line (readingText id (now (value .entry))) ⌝ }
+{
+    if id == paper::VOLTAGE {
+        return put_amount(line, b"voltage ", ALL_16, number::two(value), 2, b" V");
+    }
+    if id == paper::CURRENT {
+        return put_amount(line, b"current ", ALL_16, number::two(value), 1, b" A");
+    }
+    if id == paper::FINE {
+        return put_amount(line, b"current ", ALL_32, number::four(value), 3, b" A");
+    }
+    if id == paper::CONSUMED {
+        return put_amount(line, b"consumed ", ALL_32, number::four(value), 1, b" Ah");
+    }
+    put_amount(line, b"charge ", UNSIGNED_16, number::two(value), 2, b" %")
+}
+
+// Puts a value that is understood, by its id. A product and a version have their low bytes first.
+pub(crate) fn put_words(line: Line, id: u16, value: &[u8]) -> Line
+    requires { ⌜ isUnderstood id (now value) ≡ true ⌝ }
+    ensures { λ r. ⌜ r ≡ adding line (wordsText id (now (value .entry))) ⌝ }
+{
+    if id == paper::PRODUCT {
+        return put_word(line, b"product ", value[2], value[1], b"");
+    }
+    if id == paper::SERIAL {
+        return put_serial(line, value);
+    }
+    if id == paper::VERSION {
+        return put_word(line, b"version ", value[1], value[0], b"");
+    }
+    put_reading(line, id, value)
+}
