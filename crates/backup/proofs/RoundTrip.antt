@@ -106,7 +106,7 @@ end-built : (s t : Table) (text : List ℕ) → endSays s (length text) ≡ good
 unfolding endSays filled
 end-built s t text = by (eqb (length text) 0) (allowed s) refl refl
   where
-    by : (a b : Bool) → eqb (length text) 0 ≡ a → allowed s ≡ b → cond a (cond b (good s) (refused 17 0)) (refused 18 0) ≡ good t → Built [] s t text
+    by : (a b : Bool) → eqb (length text) 0 ≡ a → allowed s ≡ b → cond a (cond b (good s) (refused paper.pairDisagrees 0)) (refused paper.moreBytes 0) ≡ good t → Built [] s t text
     by false b p q e = let z : _≡_ {A = ℕ} 0 1 = cc in absurd (omega arith)
     by true false p q e = let z : _≡_ {A = ℕ} 0 1 = cc in absurd (omega arith)
     by true true p q e =
@@ -150,7 +150,7 @@ unfolding textFor
 text-built header ks t text are = by (same (take (length header) text) header) refl
   where
     by : (b : Bool) → same (take (length header) text) header ≡ b → saysFor header ks text ≡ good t → IsText header ks t text
-    by false p e = let f : saysFor header ks text ≡ refused 13 1 = says-other header ks text p in let z : _≡_ {A = ℕ} 0 1 = cc in absurd (omega arith)
+    by false p e = let f : saysFor header ks text ≡ refused paper.otherHeader 1 = says-other header ks text p in let z : _≡_ {A = ℕ} 0 1 = cc in absurd (omega arith)
     by true p e =
         let b : Built ks factory t (drop (length header) text) = lines-built ks 2 factory t (drop (length header) text) are refl (sym (says-rest header ks text p) ∙ e) in
         record {
@@ -166,7 +166,7 @@ read-exactly header ks t text are =
 pub other-refused : OtherHeaderIsRefused
 other-refused header ks text differs = by (same (take (length header) text) header) refl
   where
-    by : (b : Bool) → same (take (length header) text) header ≡ b → saysFor header ks text ≡ refused 13 1
+    by : (b : Bool) → same (take (length header) text) header ≡ b → saysFor header ks text ≡ refused paper.otherHeader 1
     by false p = says-other header ks text p
     by true p =
         absurd

@@ -9,6 +9,7 @@ use borrow.Author.Tests.{lt-ltb, eqb-true, eqb-false, eq-eqb, ne-eqb}
 use lib.ListN.{length, drop}
 use lib.Seq.{drop-at}
 use lib.Dec.{eqb}
+use Rattle.paper.specs.Numbers as paper
 use Rattle.settings.specs.Columns.{count, idAt}
 use Rattle.settings.specs.Rules.{inRange}
 use Rattle.rows.specs.Row.{rowOf}
@@ -29,7 +30,7 @@ module _ (k : ℕ) (text : List ℕ) where
   judges-row id n {rest} b = by (eqb id (idAt k)) (inRange k n) refl refl
     where
       by : (s t : Bool) → eqb id (idAt k) ≡ s → inRange k n ≡ t
-          → Judges k text (cond s (cond t (Judged.Number n (length (rowOf id n))) (Judged.Refused 16)) (Judged.Refused 15))
+          → Judges k text (cond s (cond t (Judged.Number n (length (rowOf id n))) (Judged.Refused paper.outOfRange)) (Judged.Refused paper.otherId))
       by false t e f = other b (eqb-false id (idAt k) e)
       by true false e f = outside (subst (λ (i : ℕ). Begins text i n rest) (eqb-true id (idAt k) e) b) f
       by true true e f =
@@ -43,7 +44,7 @@ module _ (k : ℕ) (text : List ℕ) where
   given : (x : Judged) → Judges k text x → judgedAs k (reading text) ≡ x
   unfolding judgedAs
   given (Judged.Number n len) (number b f) = ap (judgedAs k) (begun text b) ∙ rw (eq-eqb (idAt k) (idAt k) refl, f)
-  given (Judged.Refused m) (laws.none f) = ap (judgedAs k) (read-exactly text (Row.Refused 14) .1 (laws.none f))
+  given (Judged.Refused m) (laws.none f) = ap (judgedAs k) (read-exactly text (Row.Refused paper.badLine) .1 (laws.none f))
   given (Judged.Refused m) (other b d) = ap (judgedAs k) (begun text b) ∙ rw (ne-eqb _ (idAt k) d)
   given (Judged.Refused m) (outside b f) = ap (judgedAs k) (begun text b) ∙ rw (eq-eqb (idAt k) (idAt k) refl, f)
 

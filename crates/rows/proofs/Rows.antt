@@ -231,7 +231,7 @@ module _ (text : List ℕ) where
   pub begun : {id n : ℕ} {rest : List ℕ} → Begins text id n rest → reading text ≡ Row.Is id n (length (rowOf id n))
   begun {id} {n} {rest} b = ap reading (b .text-is) ∙ row-read id n rest (b .id-holds) (b .number-holds)
 
-  reads-none : reading text ≡ Row.Refused 14 → Reads text (Row.Refused 14)
+  reads-none : reading text ≡ Row.Refused paper.badLine → Reads text (Row.Refused paper.badLine)
   reads-none e = none (λ id n rest b. let f : reading text ≡ Row.Is id n (length (rowOf id n)) = begun b in let z : _≡_ {A = ℕ} 0 1 = cc in omega arith)
 
   pub reads : Reads text (reading text)
@@ -239,7 +239,7 @@ module _ (text : List ℕ) where
   reads = by (ltb (lineLength text) (length text)) (isRow line) refl refl
     where
       by : (a b : Bool) → ltb (lineLength text) (length text) ≡ a → isRow line ≡ b
-          → Reads text (cond (a && b) (Row.Is (idIn line) (numberIn line) (suc (lineLength text))) (Row.Refused 14))
+          → Reads text (cond (a && b) (Row.Is (idIn line) (numberIn line) (suc (lineLength text))) (Row.Refused paper.badLine))
       by true true e f = reads-row e f
       by true false e f = reads-none (rw (e, f))
       by false b e f = reads-none (rw e)
@@ -251,6 +251,6 @@ read-exactly text answer = (λ e. subst (Reads text) e (reads text), back answer
     back (Row.Is id n len) (row b) = begun text b
     back (Row.Refused number) (none f) = other (reading text) refl (reads text)
       where
-        other : (y : Row) → reading text ≡ y → Reads text y → reading text ≡ Row.Refused 14
+        other : (y : Row) → reading text ≡ y → Reads text y → reading text ≡ Row.Refused paper.badLine
         other (Row.Is id n len) e (row b) = absurd (f _ _ _ b)
         other (Row.Refused m) e (none g) = e

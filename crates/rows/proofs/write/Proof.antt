@@ -8,7 +8,7 @@ use lib.ListN.{length}
 use denote.Ref.{now}
 use Rattle.laws.specs.Promise.{overlaid}
 use Rattle.laws.proofs.Promise.{gives-none, gives-bytes}
-use Rattle.lines.proofs.Adding.{copied}
+use Rattle.laws.proofs.Promise.{copied}
 use Rattle.rows.proofs.Rows.{write-short, write-made, row-short, line-text, line-len, line-room}
 use Rattle.rows.proofs.write.Statement.{statement}
 use Rattle.rows.proofs.write.Tie as tie
