@@ -1,10 +1,10 @@
--- `answers::replies::number` meets its contract. Assumes nothing.
+-- `answers::messages::number` meets its contract. Assumes nothing.
 use mathlib.Core.Path.{refl}
 use borrow.Author.Needs.{needs}
 use Rattle.laws.specs.Promise.{overlaid}
-use Rattle.answers.specs.AsHeld.{replyOf, noData}
-use Rattle.answers.proofs.replies.number.Statement.{statement}
-use Rattle.answers.proofs.replies.number.Tie as tie
+use Rattle.answers.specs.AsHeld.{messageOf, noData}
+use Rattle.answers.proofs.messages.number.Statement.{statement}
+use Rattle.answers.proofs.messages.number.Tie as tie
 
 cast-bytes : tie.Need-cast-bytes
 cast-bytes c = search needs
@@ -19,7 +19,7 @@ array-write-bytes-2 : tie.Need-array-write-bytes-2
 array-write-bytes-2 c = search needs
 
 returns : tie.Need-returns
-unfolding replyOf overlaid noData
+unfolding messageOf overlaid noData
 returns c = refl
 
 pub number-spec : {M : Type 1} → statement M

@@ -1,68 +1,67 @@
-// The data of a reply.
 ghost use mathlib.Core.Path.{_≡_};
 ghost use mathlib.Core.List.{[], _∷_, _++_};
 ghost use Prim.Native.Nat.{_≤_};
 ghost use lib.ListN.{take};
 ghost use Rattle.wire.specs.Numbers.{little};
 ghost use Rattle.answers.specs.Answers.{said};
-ghost use Rattle.answers.specs.AsHeld.{replyOf, saidOf};
-use crate::Reply;
+ghost use Rattle.answers.specs.AsHeld.{messageOf, saidOf};
+use crate::Message;
 use who::Value;
 
-// No reply.
-pub(crate) fn none() -> Reply
-    ensures { λ r. ⌜ r ≡ replyOf 0 [] ⌝ }
+// Returns an empty message, for where none is sent.
+pub(crate) fn none() -> Message
+    ensures { λ r. ⌜ r ≡ messageOf 0 [] ⌝ }
 {
-    Reply {
+    Message {
         command: 0,
         len: 0,
         bytes: [0u8; paper::MOST_DATA],
     }
 }
 
-// A reply of one byte: the command that is not known.
-pub(crate) fn one(command: u8, byte: u8) -> Reply
-    ensures { λ r. ⌜ r ≡ replyOf command (byte ∷ []) ⌝ }
+// Returns a message of one byte: the command that is not known.
+pub(crate) fn one(command: u8, byte: u8) -> Message
+    ensures { λ r. ⌜ r ≡ messageOf command (byte ∷ []) ⌝ }
 {
     let mut bytes = [0u8; paper::MOST_DATA];
     bytes[0] = byte;
-    Reply {
+    Message {
         command,
         len: 1,
         bytes,
     }
 }
 
-// A reply of one number: a version or a product.
-pub(crate) fn number(command: u8, n: u16) -> Reply
-    ensures { λ r. ⌜ r ≡ replyOf command (little 2 n) ⌝ }
+// Returns a message of one number: a version or a product.
+pub(crate) fn number(command: u8, n: u16) -> Message
+    ensures { λ r. ⌜ r ≡ messageOf command (little 2 n) ⌝ }
 {
     let mut bytes = [0u8; paper::MOST_DATA];
     bytes[0] = (n % 256) as u8;
     bytes[1] = (n / 256 % 256) as u8;
-    Reply {
+    Message {
         command,
         len: 2,
         bytes,
     }
 }
 
-// A reply of an id and a flag, with no value.
-pub(crate) fn bare(command: u8, id: u16, flag: u8) -> Reply
-    ensures { λ r. ⌜ r ≡ replyOf command (said id flag []) ⌝ }
+// Returns a message of an id and a flag, with no value.
+pub(crate) fn bare(command: u8, id: u16, flag: u8) -> Message
+    ensures { λ r. ⌜ r ≡ messageOf command (said id flag []) ⌝ }
 {
     let mut bytes = [0u8; paper::MOST_DATA];
     bytes[0] = (id % 256) as u8;
     bytes[1] = (id / 256 % 256) as u8;
     bytes[2] = flag;
-    Reply {
+    Message {
         command,
         len: 3,
         bytes,
     }
 }
 
-// Three bytes at the front, and 32 after them.
+// Returns the first three bytes of `front`, and 32 after them.
 fn joined(front: [u8; paper::MOST_DATA], rest: [u8; paper::MOST_SERIAL]) -> [u8; paper::MOST_DATA]
     ensures { λ r. ⌜ r ≡ take 3 front ++ rest ⌝ }
 {
@@ -75,8 +74,8 @@ fn joined(front: [u8; paper::MOST_DATA], rest: [u8; paper::MOST_SERIAL]) -> [u8;
     bytes
 }
 
-// A reply of an id, a flag and a value.
-pub(crate) fn saying(command: u8, id: u16, flag: u8, value: Value) -> Reply
+// Returns a message of an id, a flag and a value.
+pub(crate) fn saying(command: u8, id: u16, flag: u8, value: Value) -> Message
     requires { ⌜ value .len ≤ 32 ⌝ }
     ensures { λ r. ⌜ r ≡ saidOf command id flag value ⌝ }
 {
@@ -86,7 +85,7 @@ pub(crate) fn saying(command: u8, id: u16, flag: u8, value: Value) -> Reply
     front[2] = flag;
     let len = value.len;
     let rest = value.bytes;
-    Reply {
+    Message {
         command,
         len: len + 3,
         bytes: joined(front, rest),

@@ -1,8 +1,8 @@
--- `answers::replies::saying` meets its contract. Assumes nothing.
+-- `answers::messages::saying` meets its contract. Assumes nothing.
 use borrow.Author.Needs.{needs}
 use Rattle.answers.specs.AsHeld.{saidOf}
-use Rattle.answers.proofs.replies.saying.Statement.{statement}
-use Rattle.answers.proofs.replies.saying.Tie as tie
+use Rattle.answers.proofs.messages.saying.Statement.{statement}
+use Rattle.answers.proofs.messages.saying.Tie as tie
 
 cast-front : tie.Need-cast-front
 cast-front c = search needs

@@ -1,10 +1,10 @@
--- `answers::replies::bare` meets its contract. Assumes nothing.
+-- `answers::messages::bare` meets its contract. Assumes nothing.
 use mathlib.Core.Path.{refl}
 use borrow.Author.Needs.{needs}
 use Rattle.laws.specs.Promise.{overlaid}
-use Rattle.answers.specs.AsHeld.{replyOf, noData}
-use Rattle.answers.proofs.replies.bare.Statement.{statement}
-use Rattle.answers.proofs.replies.bare.Tie as tie
+use Rattle.answers.specs.AsHeld.{messageOf, noData}
+use Rattle.answers.proofs.messages.bare.Statement.{statement}
+use Rattle.answers.proofs.messages.bare.Tie as tie
 
 cast-bytes : tie.Need-cast-bytes
 cast-bytes c = search needs
@@ -22,7 +22,7 @@ array-write-bytes-3 : tie.Need-array-write-bytes-3
 array-write-bytes-3 c = search needs
 
 returns : tie.Need-returns
-unfolding replyOf overlaid noData
+unfolding messageOf overlaid noData
 returns c = refl
 
 pub bare-spec : {M : Type 1} → statement M

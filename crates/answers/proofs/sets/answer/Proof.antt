@@ -1,4 +1,4 @@
--- `answers::sets::sets` meets its contract. Assumes nothing.
+-- `answers::sets::answer` meets its contract. Assumes nothing.
 use mathlib.Core.Path.{refl, ap, sym, _∙_}
 use native.Mathlib.Omega.{arith}
 use borrow.Author.Needs.{needs}
@@ -7,14 +7,14 @@ use Rattle.laws.proofs.Lists.{part-to-end}
 use Rattle.answers.specs.AsHeld.{decidedOf}
 use Rattle.answers.proofs.Found.{found-settled}
 use Rattle.answers.proofs.Deciding.{sets-short, sets-flagged, sets-is}
-use Rattle.answers.proofs.sets.sets.Statement.{statement}
-use Rattle.answers.proofs.sets.sets.Tie as tie
+use Rattle.answers.proofs.sets.answer.Statement.{statement}
+use Rattle.answers.proofs.sets.answer.Tie as tie
 
 malformed-requires : tie.Need-malformed-requires
 malformed-requires c κs = tt
 
 returns : tie.Need-returns
-returns c = c .malformed .ensures ∙ ap decidedOf (sets-short _ _ _ _ (c .before .if1 .taken))
+returns c = c .malformed .ensures ∙ ap decidedOf (sets-short _ _ (c .before .if1 .taken))
 
 shared-slice-read-if2 : tie.Need-shared-slice-read-if2
 shared-slice-read-if2 c = search needs
@@ -23,7 +23,7 @@ malformed-requires-2 : tie.Need-malformed-requires-2
 malformed-requires-2 c κs = tt
 
 returns-2 : tie.Need-returns-2
-returns-2 c = c .malformed2 .ensures ∙ ap decidedOf (sets-flagged _ _ _ _ (c .before .before .before .if1 .left) (c .before .if2 .taken))
+returns-2 c = c .malformed2 .ensures ∙ ap decidedOf (sets-flagged _ _ (c .before .before .before .if1 .left) (c .before .if2 .taken))
 
 slice-aggregate-number-of : tie.Need-slice-aggregate-number-of
 slice-aggregate-number-of c = rw length-take (omega (arith, c .before .before .before .if1 .left))
@@ -60,17 +60,17 @@ returns-3 c =
     let c5 = c .before .before .before .before .before in
     let c8 = c5 .before .before .before in
     let found = sym (c5 .find .ensures) ∙ c .before .before .before .found .given .1 in
-    c .set-setting .ensures ∙ rw (part-to-end _ _ 3 refl) (ap decidedOf (sets-is _ _ _ _ (c8 .before .before .if1 .left) (c8 .if2 .left) (c5 .before .number-of .ensures) found))
+    c .set-setting .ensures ∙ rw (part-to-end _ _ 3 refl) (ap decidedOf (sets-is _ _ (c8 .before .before .if1 .left) (c8 .if2 .left) (c5 .before .number-of .ensures) found))
 
 returns-4 : tie.Need-returns-4
 returns-4 c =
     let c3 = c .before .before .before in
     let c6 = c3 .before .before .before in
     let found = sym (c3 .find .ensures) ∙ c .before .enum-told .given .1 in
-    c .set-other .ensures ∙ ap decidedOf (sets-is _ _ _ _ (c6 .before .before .if1 .left) (c6 .if2 .left) (c3 .before .number-of .ensures) found)
+    c .set-other .ensures ∙ ap decidedOf (sets-is _ _ (c6 .before .before .if1 .left) (c6 .if2 .left) (c3 .before .number-of .ensures) found)
 
-pub sets-spec : {M : Type 1} → statement M
-sets-spec =
+pub answer-spec : {M : Type 1} → statement M
+answer-spec =
     tie.close
     (tie.spec
     malformed-requires

@@ -1,12 +1,12 @@
--- `answers::replies::joined` meets its contract. Assumes nothing.
+-- `answers::messages::joined` meets its contract. Assumes nothing.
 use Prim.Native.Nat.{_-_}
 use mathlib.Core.Path.{_≡_}
 use native.Mathlib.Omega.{arith}
 use borrow.Author.Needs.{needs}
 use lib.ListN.{length}
 use Rattle.answers.proofs.Fronts.{Joining, joining-start, joining-turn, joining-end}
-use Rattle.answers.proofs.replies.joined.Statement.{statement}
-use Rattle.answers.proofs.replies.joined.Tie as tie
+use Rattle.answers.proofs.messages.joined.Statement.{statement}
+use Rattle.answers.proofs.messages.joined.Tie as tie
 
 abbrev Inv-loop : tie.InvT-loop
 Inv-loop rest bytes₀ i₀ bytes i = Joining bytes₀ rest bytes i

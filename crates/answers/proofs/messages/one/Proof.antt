@@ -1,16 +1,16 @@
--- `answers::replies::one` meets its contract. Assumes nothing.
+-- `answers::messages::one` meets its contract. Assumes nothing.
 use mathlib.Core.Path.{refl}
 use borrow.Author.Needs.{needs}
 use Rattle.laws.specs.Promise.{overlaid}
-use Rattle.answers.specs.AsHeld.{replyOf, noData}
-use Rattle.answers.proofs.replies.one.Statement.{statement}
-use Rattle.answers.proofs.replies.one.Tie as tie
+use Rattle.answers.specs.AsHeld.{messageOf, noData}
+use Rattle.answers.proofs.messages.one.Statement.{statement}
+use Rattle.answers.proofs.messages.one.Tie as tie
 
 array-write-bytes : tie.Need-array-write-bytes
 array-write-bytes c = search needs
 
 returns : tie.Need-returns
-unfolding replyOf overlaid noData
+unfolding messageOf overlaid noData
 returns c = refl
 
 pub one-spec : {M : Type 1} → statement M
