@@ -3,7 +3,7 @@ pub mod Signs
 pub mod Unfinished
 pub mod Starts
 pub mod Sending
-pub mod Lines
+pub mod Pieces
 pub mod Keeping
 pub mod Replying
 pub mod Giving

@@ -1,4 +1,4 @@
--- `board::line::put_reply` meets its contract. Assumes nothing.
+-- `board::hearing::put_reply` meets its contract. Assumes nothing.
 use mathlib.Core.Path.{_≡_}
 use Prim.Native.Nat.{_≤_}
 use native.Mathlib.Omega.{arith}
@@ -6,8 +6,8 @@ use borrow.Author.Needs.{needs}
 use lib.ListN.{length, length-take, take}
 use Rattle.board.specs.AsHeld.{sentBy}
 use Rattle.board.proofs.Sending.{put-made, put-unmade}
-use Rattle.board.proofs.line.put_reply.Statement.{statement}
-use Rattle.board.proofs.line.put_reply.Tie as tie
+use Rattle.board.proofs.hearing.put_reply.Statement.{statement}
+use Rattle.board.proofs.hearing.put_reply.Tie as tie
 
 long : (s : tie.Start) → length (s .args .reply .bytes) ≡ 35
 long s = search needs

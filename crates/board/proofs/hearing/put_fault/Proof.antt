@@ -1,10 +1,10 @@
--- `board::line::put_fault` meets its contract. Assumes nothing.
+-- `board::hearing::put_fault` meets its contract. Assumes nothing.
 use borrow.Author.Needs.{needs}
 use borrow.Author.Tests.{eq-eqb, ne-eqb}
 use Rattle.laws.proofs.Promise.{gives-none}
 use Rattle.board.specs.AsHeld.{faultBytes}
-use Rattle.board.proofs.line.put_fault.Statement.{statement}
-use Rattle.board.proofs.line.put_fault.Tie as tie
+use Rattle.board.proofs.hearing.put_fault.Statement.{statement}
+use Rattle.board.proofs.hearing.put_fault.Tie as tie
 
 returns : tie.Need-returns
 unfolding faultBytes

@@ -1,6 +1,6 @@
 -- A piece of input heard by a board, by what happened on its line. Assumes nothing.
 use mathlib.Core.Path.{_≡_, refl, sym, ap, subst, _∙_}
-use mathlib.Core.Bool.{Bool, true, false, _&&_, false≢true}
+use mathlib.Core.Bool.{Bool, true, false, false≢true}
 use mathlib.Core.List.{List, [], _∷_}
 use Prim.Native.Nat.{ℕ, _≤_, _<_}
 use native.Mathlib.Omega.{arith}
@@ -19,9 +19,8 @@ use Rattle.stream.specs.declared.Held.{Held}
 use Rattle.stream.specs.declared.Heard.{Heard}
 use Rattle.stream.proofs.Answers.{hearing-stray, hearing-heard}
 use Rattle.stream.proofs.Theorems.{heard-is-writable, refused-is-small}
-use Rattle.tables.specs.Rules.{allowed}
-use Rattle.who.specs.Parts.{identityAllowed}
-use Rattle.answers.specs.Answers.{silent, error, staying, frameAnswer}
+use Rattle.answers.specs.Answers.{coreAllowed, silent, error, staying, frameAnswer}
+use Rattle.answers.specs.declared.Core.{Core}
 use Rattle.answers.specs.declared.Outcome.{Outcome}
 use Rattle.board.specs.Parts.{boardAllowed}
 use Rattle.board.specs.Calls.{errorFrame, endedIn, deciding, decidedBy, heardBy, answering, unanswered}
@@ -32,42 +31,32 @@ use Rattle.board.proofs.Sending.{front-back}
 
 -- the parts of an allowed board
 module _ (board : Board) (ok : boardAllowed board ≡ true) where
-  two-allowed : (identityAllowed (board .identity) && allowed (board .table)) ≡ true
+  pub core-allowed : coreAllowed (board .core) ≡ true
   unfolding boardAllowed
-  two-allowed = and-left (identityAllowed (board .identity) && allowed (board .table)) _ ok
-
-  pub identity-allowed : identityAllowed (board .identity) ≡ true
-  identity-allowed = and-left (identityAllowed (board .identity)) _ two-allowed
-
-  pub table-allowed : allowed (board .table) ≡ true
-  table-allowed = and-right (identityAllowed (board .identity)) _ two-allowed
+  core-allowed = and-left (coreAllowed (board .core)) _ ok
 
   pub held-allowed : stream.allowed (board .held) ≡ true
   unfolding boardAllowed
-  held-allowed = and-right (identityAllowed (board .identity) && allowed (board .table)) _ ok
+  held-allowed = and-right (coreAllowed (board .core)) _ ok
 
--- a board whose line has moved on
-abbrev pub moved : Board → Held → Board
-moved board held = record { identity = board .identity; table = board .table; readings = board .readings; held = held }
-
--- what a board decides, by what happened
-module _ (board : Board) where
-  event-nothing : (fs : List Ended) → stream.eventOf fs ≡ Event.Nothing → deciding board fs ≡ staying (board .readings) (board .table) Outcome.Nothing silent
+-- what is decided, by what happened
+module _ (core : Core) where
+  event-nothing : (fs : List Ended) → stream.eventOf fs ≡ Event.Nothing → deciding core fs ≡ staying core Outcome.Nothing silent
   unfolding deciding
   event-nothing [] e = refl
   event-nothing (good command bytes ∷ rest) e = let z : _≡_ {A = ℕ} 0 1 = cc in absurd (omega arith)
   event-nothing (refused number ∷ rest) e = let z : _≡_ {A = ℕ} 0 1 = cc in absurd (omega arith)
 
   event-refused : (fs : List Ended) (n : ℕ) → stream.eventOf fs ≡ Event.Refused n
-      → deciding board fs ≡ staying (board .readings) (board .table) (Outcome.Refused n) error
+      → deciding core fs ≡ staying core (Outcome.Refused n) error
   unfolding deciding
   event-refused [] n e = let z : _≡_ {A = ℕ} 0 1 = cc in absurd (omega arith)
   event-refused (good command bytes ∷ rest) n e = let z : _≡_ {A = ℕ} 0 1 = cc in absurd (omega arith)
   event-refused (refused number ∷ rest) n e =
-      let is : number ≡ n = cc in ap (λ (m : ℕ). staying (board .readings) (board .table) (Outcome.Refused m) error) is
+      let is : number ≡ n = cc in ap (λ (m : ℕ). staying core (Outcome.Refused m) error) is
 
   record Whole (fs : List Ended) (command len : ℕ) : Type 0 where
-    decides : deciding board fs ≡ frameAnswer (board .readings) (board .table) (board .identity) command (stream.dataOfFirst fs)
+    decides : deciding core fs ≡ frameAnswer core command (stream.dataOfFirst fs)
     count : length (stream.dataOfFirst fs) ≡ len
     few : len ≤ 35
 
@@ -79,7 +68,7 @@ module _ (board : Board) where
       let is : c ≡ command = cc in
       let many : length bytes ≡ len = cc in
       record {
-        decides = ap (λ (n : ℕ). frameAnswer (board .readings) (board .table) (board .identity) n bytes) is;
+        decides = ap (λ (n : ℕ). frameAnswer core n bytes) is;
         count = many;
         few = rw (sym many) (w .few);
       }
@@ -89,45 +78,45 @@ module _ (board : Board) (piece : List ℕ) (ok : boardAllowed board ≡ true) {
   heard-as : stream.hearing (board .held) piece 35 ≡ stream.heardOf (stream.unfinished (board .held)) piece
   heard-as = hearing-heard (board .held) piece 35 (leb-true 35 35 refl) (held-allowed board ok)
 
-  heard-by : heardBy board piece ≡ decidedBy board (h .held) (deciding board (endedIn board piece)) (h .taken)
+  heard-by : heardBy board piece ≡ decidedBy (h .held) (deciding (board .core) (endedIn (board .held) piece)) (h .taken)
   unfolding heardBy
   heard-by = rw (is, heard-as)
 
-  event-is : stream.eventOf (endedIn board piece) ≡ h .event
+  event-is : stream.eventOf (endedIn (board .held) piece) ≡ h .event
   event-is = rw (is, heard-as)
 
   pub heard-nothing : h .event ≡ Event.Nothing → {buffer : List ℕ}
-      → Gives Answered (heardBy board piece) buffer (record { board = moved board (h .held); outcome = Outcome.Nothing; len = 0; taken = h .taken }) buffer
+      → Gives Answered (heardBy board piece) buffer (record { board = record { core = board .core; held = h .held }; outcome = Outcome.Nothing; len = 0; taken = h .taken }) buffer
   unfolding decidedBy
-  heard-nothing e = gives-none _ (heard-by ∙ rw (event-nothing board (endedIn board piece) (event-is ∙ e)))
+  heard-nothing e = gives-none _ (heard-by ∙ rw (event-nothing (board .core) (endedIn (board .held) piece) (event-is ∙ e)))
 
   pub heard-refused : (n : ℕ) → h .event ≡ Event.Refused n → {buffer after : List ℕ} {len : ℕ} → Gives ℕ (held.whole errorFrame) buffer len after
-      → Gives Answered (heardBy board piece) buffer (record { board = moved board (h .held); outcome = Outcome.Refused n; len = len; taken = h .taken }) after
+      → Gives Answered (heardBy board piece) buffer (record { board = record { core = board .core; held = h .held }; outcome = Outcome.Refused n; len = len; taken = h .taken }) after
   unfolding decidedBy
   heard-refused n e g =
-      let decides = event-refused board (endedIn board piece) n (event-is ∙ e) in
+      let decides = event-refused (board .core) (endedIn (board .held) piece) n (event-is ∙ e) in
       rw (heard-by, decides) (record { answered = rw (g .answered); left = g .left })
 
   module _ (command len : ℕ) (e : h .event ≡ Event.Frame command len) where
-    framed-whole : Whole board (endedIn board piece) command len
-    framed-whole = event-frame board (endedIn board piece) (heard-is-writable (stream.unfinished (board .held)) (take (taken (stream.unfinished (board .held)) piece) piece)) command len (event-is ∙ e)
+    framed-whole : Whole (board .core) (endedIn (board .held) piece) command len
+    framed-whole = event-frame (board .core) (endedIn (board .held) piece) (heard-is-writable (stream.unfinished (board .held)) (take (taken (stream.unfinished (board .held)) piece) piece)) command len (event-is ∙ e)
 
     pub framed-few : len ≤ 35
     framed-few = framed-whole .few
 
     frame-is : (buffer : List ℕ) {bytes : List ℕ} → bytes ≡ overlaid (stream.hearing (board .held) piece 35 .written) buffer
-        → decidedBy (moved board (h .held)) (h .held) (frameAnswer (board .readings) (board .table) (board .identity) command (take len bytes)) (h .taken)
+        → decidedBy (h .held) (frameAnswer (board .core) command (take len bytes)) (h .taken)
         ≡ heardBy board piece
     unfolding decidedBy
     frame-is buffer {bytes} filled =
-        let written : stream.hearing (board .held) piece 35 .written ≡ stream.dataOfFirst (endedIn board piece) = rw heard-as in
-        let front : take len bytes ≡ stream.dataOfFirst (endedIn board piece) =
-        rw (filled, written, sym (framed-whole .count)) (front-back (stream.dataOfFirst (endedIn board piece)) buffer) in
+        let written : stream.hearing (board .held) piece 35 .written ≡ stream.dataOfFirst (endedIn (board .held) piece) = rw heard-as in
+        let front : take len bytes ≡ stream.dataOfFirst (endedIn (board .held) piece) =
+        rw (filled, written, sym (framed-whole .count)) (front-back (stream.dataOfFirst (endedIn (board .held) piece)) buffer) in
         sym (heard-by ∙ rw (framed-whole .decides, front))
 
     pub heard-frame : (buffer : List ℕ) {bytes : List ℕ} → bytes ≡ overlaid (stream.hearing (board .held) piece 35 .written) buffer → {out after : List ℕ} {r : Answered}
         → Gives Answered
-        (decidedBy (moved board (h .held)) (h .held) (frameAnswer (board .readings) (board .table) (board .identity) command (take len bytes)) (h .taken))
+        (decidedBy (h .held) (frameAnswer (board .core) command (take len bytes)) (h .taken))
         out r after
         → Gives Answered (heardBy board piece) out r after
     heard-frame buffer filled {out} {after} {r} g = subst (λ (given : Given Answered). Gives Answered given out r after) (frame-is buffer filled) g
@@ -138,7 +127,7 @@ strays Event.Nothing = false
 strays (Event.Frame command len) = false
 strays (Event.Refused number) = eqb number 12
 
-module _ (board : Board) (piece : List ℕ) (fit : (identityAllowed (board .identity) && allowed (board .table)) ≡ true)
+module _ (board : Board) (piece : List ℕ) (fit : coreAllowed (board .core) ≡ true)
     {h : Heard} (is : h ≡ stream.hearing (board .held) piece 35 .answer) where
   stray-is : stream.allowed (board .held) ≡ false → h ≡ stream.unheard (board .held) 12 .answer
   stray-is e = is ∙ ap (λ (g : Given Heard). g .answer) (hearing-stray (board .held) piece 35 (leb-true 35 35 refl) e)
@@ -171,11 +160,11 @@ module _ (board : Board) (piece : List ℕ) (fit : (identityAllowed (board .iden
     if-heard g = rw (not-stray e) (g all-allowed)
 
   pub if-refused : (n : ℕ) → h .event ≡ Event.Refused n → {buffer after : List ℕ} {len : ℕ} → Gives ℕ (held.whole (held.faultBytes n)) buffer len after
-      → Gives Answered (held.heardIfHeld board piece) buffer (record { board = moved board (h .held); outcome = Outcome.Refused n; len = len; taken = h .taken }) after
+      → Gives Answered (held.heardIfHeld board piece) buffer (record { board = record { core = board .core; held = h .held }; outcome = Outcome.Refused n; len = len; taken = h .taken }) after
   unfolding held.heardIfHeld held.faultBytes
   if-refused n e {buffer} {after} {len} g = by (eqb n 12) refl
     where
-      by : (t : Bool) → eqb n 12 ≡ t → Gives Answered (held.heardIfHeld board piece) buffer (record { board = moved board (h .held); outcome = Outcome.Refused n; len = len; taken = h .taken }) after
+      by : (t : Bool) → eqb n 12 ≡ t → Gives Answered (held.heardIfHeld board piece) buffer (record { board = record { core = board .core; held = h .held }; outcome = Outcome.Refused n; len = len; taken = h .taken }) after
       by true p =
           let twelve : n ≡ 12 = eqb-true n 12 p in
           let stray = is-stray n e twelve in
@@ -197,11 +186,11 @@ module _ (board : Board) (piece : List ℕ) (room : ℕ) where
   unfolding answering
   answering-heard h e = rw (le-ltb room 75 h, e)
 
-  pub answering-unfit : 75 ≤ room → (identityAllowed (board .identity) && allowed (board .table)) ≡ false → answering board piece room ≡ unanswered board 12
+  pub answering-unfit : 75 ≤ room → coreAllowed (board .core) ≡ false → answering board piece room ≡ unanswered board 12
   unfolding boardAllowed
   answering-unfit h e = answering-stray h (rw e)
 
-  pub answering-fit : 75 ≤ room → (identityAllowed (board .identity) && allowed (board .table)) ≡ true → answering board piece room ≡ held.heardIfHeld board piece
+  pub answering-fit : 75 ≤ room → coreAllowed (board .core) ≡ true → answering board piece room ≡ held.heardIfHeld board piece
   unfolding boardAllowed held.heardIfHeld
   answering-fit h e = by (stream.allowed (board .held)) refl
     where

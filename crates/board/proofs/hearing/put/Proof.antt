@@ -1,10 +1,10 @@
--- `board::line::put` meets its contract. Assumes nothing.
+-- `board::hearing::put` meets its contract. Assumes nothing.
 use mathlib.Core.Path.{refl}
 use borrow.Author.Needs.{needs}
 use Rattle.laws.proofs.Promise.{gives-none}
 use Rattle.board.specs.AsHeld.{sentBy}
-use Rattle.board.proofs.line.put.Statement.{statement}
-use Rattle.board.proofs.line.put.Tie as tie
+use Rattle.board.proofs.hearing.put.Statement.{statement}
+use Rattle.board.proofs.hearing.put.Tie as tie
 
 enum-told : tie.Need-enum-told
 enum-told c = search needs

@@ -1,8 +1,8 @@
--- `board::line::put_error` meets its contract. Assumes nothing.
+-- `board::hearing::put_error` meets its contract. Assumes nothing.
 use borrow.Author.Needs.{needs}
 use Rattle.laws.specs.Promise.{overlaid}
-use Rattle.board.proofs.line.put_error.Statement.{statement}
-use Rattle.board.proofs.line.put_error.Tie as tie
+use Rattle.board.proofs.hearing.put_error.Statement.{statement}
+use Rattle.board.proofs.hearing.put_error.Tie as tie
 
 slice-aggregate-copy : tie.Need-slice-aggregate-copy
 slice-aggregate-copy c = search needs

@@ -1,25 +1,24 @@
-// The line: a piece of input heard, the frame that ended answered, the reply written.
 ghost use mathlib.Core.Path.{_≡_};
-ghost use mathlib.Core.Bool.{true, _&&_};
+ghost use mathlib.Core.Bool.{true};
 ghost use Prim.Native.Nat.{ℕ, _≤_};
 ghost use lib.ListN.{length};
 ghost use Rattle.laws.specs.Promise.{Gives};
-ghost use Rattle.tables.specs.Rules.{allowed};
-ghost use Rattle.who.specs.Parts.{identityAllowed};
-ghost use Rattle.answers.specs.Answers.{frameAnswer};
+ghost use Rattle.answers.specs.Answers.{coreAllowed, frameAnswer};
 ghost use Rattle.board.specs.Calls.{errorFrame, decidedBy};
 ghost use Rattle.board.specs.AsHeld.{whole, sentBy, faultBytes, heardIfHeld};
 ghost use Rattle.answers.specs.declared.Sends.{Sends};
 ghost use Rattle.board.specs.declared.Answered.{Answered};
 use crate::Answered;
 use crate::Board;
+use answers::Core;
+use answers::Message;
 use answers::Outcome;
-use answers::Reply;
 use answers::Sends;
 use stream::Event;
+use stream::Held;
 use wire::Written;
 
-// The error frame at the buffer's front, as it is.
+// Writes the error frame at the buffer's front.
 fn put_error(out: &mut [u8]) -> usize
     requires { ⌜ 75 ≤ length (now out) ⌝ }
     ensures { λ r. ⌜ Gives ℕ (whole errorFrame) (now (out .entry)) r (now (out .exit)) ⌝ }
@@ -27,7 +26,8 @@ fn put_error(out: &mut [u8]) -> usize
     bytes::copy(b":4AAAAFD\n", out)
 }
 
-// What the board sends where the line refuses: the error frame for a frame (1 to 4), and nothing for a held frame that is not allowed.
+// Writes what the board sends where the line refuses: the error frame for a frame (1 to 4), and nothing for a held frame that is not
+// allowed.
 fn put_fault(number: u8, out: &mut [u8]) -> usize
     requires { ⌜ 75 ≤ length (now out) ⌝ }
     ensures { λ r. ⌜ Gives ℕ (whole (faultBytes number)) (now (out .entry)) r (now (out .exit)) ⌝ }
@@ -38,8 +38,8 @@ fn put_fault(number: u8, out: &mut [u8]) -> usize
     put_error(out)
 }
 
-// The frame of a reply at the buffer's front.
-fn put_reply(reply: Reply, out: &mut [u8]) -> usize
+// Writes the frame of a reply at the buffer's front.
+fn put_reply(reply: Message, out: &mut [u8]) -> usize
     requires { ⌜ (75 ≤ length (now out)) × (reply .command ≤ 15) × (reply .len ≤ 35) ⌝ }
     ensures { λ r. ⌜ Gives ℕ (sentBy Sends.Frame reply) (now (out .entry)) r (now (out .exit)) ⌝ }
 {
@@ -52,8 +52,8 @@ fn put_reply(reply: Reply, out: &mut [u8]) -> usize
     }
 }
 
-// What is sent, at the buffer's front, and its length.
-fn put(sends: Sends, reply: Reply, out: &mut [u8]) -> usize
+// Writes what is sent at the buffer's front, and returns its length.
+fn put(sends: Sends, reply: Message, out: &mut [u8]) -> usize
     requires { ⌜ (75 ≤ length (now out)) × (reply .command ≤ 15) × (reply .len ≤ 35) ⌝ }
     ensures { λ r. ⌜ Gives ℕ (sentBy sends reply) (now (out .entry)) r (now (out .exit)) ⌝ }
 {
@@ -64,63 +64,54 @@ fn put(sends: Sends, reply: Reply, out: &mut [u8]) -> usize
     }
 }
 
-// A whole frame answered.
-fn framed(board: Board, command: u8, bytes: &[u8], taken: usize, out: &mut [u8]) -> Answered
-    requires { ⌜ (75 ≤ length (now out)) × ((identityAllowed (board .identity) && allowed (board .table)) ≡ true) ⌝ }
-    ensures { λ r. ⌜ Gives Answered (decidedBy board (board .held) (frameAnswer (board .readings) (board .table) (board .identity) command (now (bytes .entry))) taken) (now (out .entry)) r (now (out .exit)) ⌝ }
+// Answers a whole frame, on a line that now holds `held`.
+fn framed(
+    core: Core,
+    held: Held,
+    command: u8,
+    bytes: &[u8],
+    taken: usize,
+    out: &mut [u8],
+) -> Answered
+    requires { ⌜ (75 ≤ length (now out)) × (coreAllowed core ≡ true) ⌝ }
+    ensures { λ r. ⌜ Gives Answered (decidedBy held (frameAnswer core command (now (bytes .entry))) taken) (now (out .entry)) r (now (out .exit)) ⌝ }
 {
-    let identity = board.identity;
-    let held = board.held;
-    let decided = answers::answer(identity, board.readings, board.table, command, bytes);
+    let decided = answers::answer(core, command, bytes);
     let sends = decided.sends;
     let reply = decided.reply;
-    let table = decided.table;
-    let readings = decided.readings;
+    let after = decided.core;
     let outcome = decided.outcome;
     Answered {
-        board: Board {
-            identity,
-            table,
-            readings,
-            held,
-        },
+        board: Board { core: after, held },
         outcome,
         len: put(sends, reply, out),
         taken,
     }
 }
 
-// A piece of input heard by a board whose identity and settings are allowed. 12 of its held frame is the line's own: it hands that frame
+// Hears a piece of input at a board whose identity and settings are allowed. 12 of its held frame is the line's own: it hands that frame
 // back as it was, and has taken nothing.
 pub(crate) fn heard(board: Board, piece: &[u8], out: &mut [u8]) -> Answered
-    requires { ⌜ (75 ≤ length (now out)) × ((identityAllowed (board .identity) && allowed (board .table)) ≡ true) ⌝ }
+    requires { ⌜ (75 ≤ length (now out)) × (coreAllowed (board .core) ≡ true) ⌝ }
     ensures { λ r. ⌜ Gives Answered (heardIfHeld board (now (piece .entry))) (now (out .entry)) r (now (out .exit)) ⌝ }
 {
-    let identity = board.identity;
-    let table = board.table;
-    let readings = board.readings;
+    let core = board.core;
     let before = board.held;
     let mut bytes = [0u8; paper::MOST_DATA];
     let heard = before.hear(piece, &mut bytes);
     let event = heard.event;
     let taken = heard.taken;
     let held = heard.held;
-    let after = Board {
-        identity,
-        table,
-        readings,
-        held,
-    };
     match event {
         Event::Nothing => Answered {
-            board: after,
+            board: Board { core, held },
             outcome: Outcome::Nothing,
             len: 0,
             taken,
         },
-        Event::Frame { command, len } => framed(after, command, &bytes[..len], taken, out),
+        Event::Frame { command, len } => framed(core, held, command, &bytes[..len], taken, out),
         Event::Refused(number) => Answered {
-            board: after,
+            board: Board { core, held },
             outcome: Outcome::Refused(number),
             len: put_fault(number, out),
             taken,
