@@ -51,7 +51,7 @@ heard-count : (board : Board) (piece : List ℕ) → length (board .core .table 
 unfolding heardBy decidedBy
 heard-count board piece long = decided-count (board .core) long (endedIn (board .held) piece)
 
-call-count : (board : Board) (piece : List ℕ) (room : ℕ) → length (board .core .table .numbers) ≡ count → length (answering board piece room .answer .board .core .table .numbers) ≡ count
+pub call-count : (board : Board) (piece : List ℕ) (room : ℕ) → length (board .core .table .numbers) ≡ count → length (answering board piece room .answer .board .core .table .numbers) ≡ count
 call-count board piece room long =
     cases board piece room (λ (g : Given Answered). length (g .answer .board .core .table .numbers) ≡ count)
     (λ h. rw (answering-short board piece room h) long)

@@ -7,6 +7,7 @@ use native.Mathlib.Omega.{arith}
 use borrow.Author.Tests.{leb-true}
 use lib.ListN.{length, take}
 use lib.Seq.{take-length}
+use Rattle.laws.specs.Promise.{Given}
 use Rattle.wire.specs.Digits.{digit}
 use Rattle.wire.specs.Frame.{check, body, frame}
 use Rattle.wire.specs.Reading.{Ended, good, refused}
@@ -16,6 +17,7 @@ use Rattle.wire.specs.Laws.{Writable}
 use Rattle.stream.specs.Laws.{Writables, nothing, whole}
 use Rattle.wire.proofs.Frames.{length-frame}
 use Rattle.stream.proofs.Reached.{unfinished-kept}
+use Rattle.stream.proofs.Streams.{taken-within}
 use Rattle.stream.proofs.Theorems.{written-is-heard, heard-is-writable}
 use Rattle.settings.specs.Columns.{count, idAt, widthAt}
 use Rattle.settings.proofs.Theorems.{rows-hold}
@@ -34,7 +36,9 @@ use Rattle.board.specs.Parts.{boardAllowed}
 use Rattle.board.specs.Calls.{errorFrame, replyBytes, endedIn, deciding, decidedBy, heardBy, answering}
 use Rattle.board.specs.Laws.{Readable, ReplyIsRead, atRest, WholeIsAnswered, GetAnswersHeld, SetStoresIt, SetRefusedNamesNearest}
 use Rattle.board.specs.declared.Board.{Board}
-use Rattle.board.proofs.Pieces.{core-allowed, answering-heard}
+use Rattle.board.specs.declared.Answered.{Answered}
+use Rattle.board.proofs.Pieces.{core-allowed, answering-short, answering-stray, answering-heard}
+use Rattle.board.proofs.Keeping.{cases}
 
 -- the bytes of a frame that the writer takes: that frame, and no other
 record Alone (command : ℕ) (bytes : List ℕ) : Type 0 where
@@ -83,6 +87,22 @@ heard-readable board piece ok =
 
 pub reply-read : ReplyIsRead
 reply-read board piece room ok h = rw (answering-heard board piece room h ok) (heard-readable board piece ok)
+
+-- the bounds of a call on any board with any room
+pub record Bounded (piece : List ℕ) (room : ℕ) (given : Given Answered) : Type 0 where
+  pub within : given .answer .taken ≤ length piece
+  pub len-is : given .answer .len ≡ length (given .written)
+  pub short : length (given .written) ≤ room
+
+pub bounded : (board : Board) (piece : List ℕ) (room : ℕ) → Bounded piece room (answering board piece room)
+unfolding heardBy decidedBy
+bounded board piece room =
+    cases board piece room (Bounded piece room)
+    (λ h. rw (answering-short board piece room h) (record { within = omega arith; len-is = refl; short = omega arith }))
+    (λ h e. rw (answering-stray board piece room h e) (record { within = omega arith; len-is = refl; short = omega arith }))
+    (λ h e.
+    let few : length (heardBy board piece .written) ≤ 75 = heard-readable board piece e .short in
+    rw (answering-heard board piece room h e) (record { within = taken-within (stream.unfinished (board .held)) piece; len-is = refl; short = omega arith }))
 
 -- a whole frame at a board that is at rest
 module _ (board : Board) (command : ℕ) (bytes : List ℕ) (rest : atRest board) (w : Writable command bytes) where

@@ -12,7 +12,7 @@ use Rattle.tables.specs.Rules.{allowed}
 use Rattle.settings.specs.Calls.{placing, placeOf, finding, partnerFits, nearing}
 use Rattle.tables.specs.Calls.{setTo}
 use Rattle.who.specs.Parts.{serialFits, noSerial, identityOf, serialOf, identityAllowed}
-use Rattle.answers.specs.Answers.{tells, restarts, getAnswer, setsSetting, setAnswer, frameAnswer}
+use Rattle.answers.specs.Answers.{coreAllowed, tells, restarts, getAnswer, setsSetting, setAnswer, frameAnswer}
 use Rattle.board.specs.Parts.{boardAllowed, freshBoard}
 use Rattle.board.specs.Calls.{starting, deciding, decidedBy, heardBy, answering}
 use Rattle.restore.specs.Order.{differs, higherFirst, exchanged, placed, turnsFrom, order}
@@ -22,5 +22,5 @@ pub thirteen-lines-hold : ThirteenHold
 unfolding overlaid digit nibble check body frame bodySays taken noChars heldOf unfinished stream.allowed
     inRange lowAgrees highAgrees agrees allowedFor allAllowed allowed nearestOf placing placeOf finding setTo partnerFits nearing
     serialFits noSerial identityOf serialOf identityAllowed tells restarts getAnswer setsSetting setAnswer frameAnswer
-    boardAllowed freshBoard starting deciding decidedBy heardBy answering differs higherFirst exchanged placed turnsFrom order
+    coreAllowed boardAllowed freshBoard starting deciding decidedBy heardBy answering differs higherFirst exchanged placed turnsFrom order
 thirteen-lines-hold = refl
