@@ -1,6 +1,5 @@
 -- Laws of the definitions of specs/, and what the proofs of the functions cite.
 pub mod Signs
-pub mod Unfinished
 pub mod Starts
 pub mod Sending
 pub mod Pieces

@@ -3,14 +3,12 @@
 ghost use mathlib.Core.Path.{_≡_};
 ghost use lib.ListN.{length};
 ghost use Rattle.laws.specs.Promise.{Gives};
-ghost use Rattle.stream.specs.Calls as stream;
 ghost use Rattle.tables.specs.Rules.{factory};
 ghost use Rattle.board.specs.Parts.{freshBoard, boardAllowed};
 ghost use Rattle.board.specs.Calls.{starting, refusedStart, storing, answering, unanswered};
 ghost use Rattle.board.specs.declared.Answered.{Answered};
 use answers::Core;
 use answers::Outcome;
-use stream::Event;
 use stream::Held;
 use tables::Table;
 use who::Identity;
@@ -117,7 +115,8 @@ impl Board {
         ensures { λ r. ⌜ r ≡ boardAllowed self ⌝ }
     {
         let core = self.core;
-        core.is_allowed() & is_held(self.held)
+        let held = self.held;
+        core.is_allowed() & held.is_allowed()
     }
 }
 
@@ -156,19 +155,5 @@ fn unanswered(board: Board, number: u8) -> Answered
         outcome: Outcome::Refused(number),
         len: 0,
         taken: 0,
-    }
-}
-
-// Returns whether an unfinished frame is one that bytes can leave: the stream refuses every other.
-fn is_held(held: Held) -> bool
-    ensures { λ r. ⌜ r ≡ stream.allowed held ⌝ }
-{
-    let mut room = [0u8; paper::MOST_DATA];
-    let heard = held.hear(&[], &mut room);
-    let event = heard.event;
-    match event {
-        Event::Nothing => true,
-        Event::Frame { .. } => true,
-        Event::Refused(_) => false,
     }
 }

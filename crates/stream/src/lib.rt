@@ -1,7 +1,7 @@
 // The stream of document 01, read piece by piece, for both ends of the line. Every call takes anything, and its promise fixes its answer
 // and every lent byte (specs/Calls.antt).
 ghost use Rattle.laws.specs.Promise.{Gives};
-ghost use Rattle.stream.specs.Calls.{hearing, heldOf};
+ghost use Rattle.stream.specs.Calls.{allowed, hearing, heldOf};
 ghost use Rattle.stream.specs.Stream.{outside};
 ghost use Rattle.stream.specs.declared.Heard.{Heard};
 ghost use mathlib.Core.Path.{_≡_};
@@ -45,6 +45,13 @@ impl Held {
         }
     }
 
+    // Returns whether this is a state that some bytes leave.
+    pub fn is_allowed(self) -> bool
+        ensures { λ r. ⌜ r ≡ allowed self ⌝ }
+    {
+        unfinished::is_allowed(self)
+    }
+
     // Reads on in the stream: stops after the first byte that ends a frame, or takes the whole piece. Refuses 11 under 35 bytes of
     // room, then 12 for a state that no bytes could have left.
     pub fn hear(self, piece: &[u8], into: &mut [u8]) -> Heard
@@ -53,7 +60,7 @@ impl Held {
         if into.len() < paper::MOST_DATA {
             return pieces::refused(self, paper::SHORT_BUFFER);
         }
-        if !unfinished::is_allowed(self) {
+        if !self.is_allowed() {
             return pieces::refused(self, paper::NOT_ALLOWED);
         }
         pieces::heard(self, piece, into)
