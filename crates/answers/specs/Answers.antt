@@ -55,8 +55,8 @@ module _ (core : Core) where
   staying outcome reply = record { outcome = outcome; reply = reply; core = core }
 
   -- the number that a setting holds, in its width
-  abbrev pub heldBytes : Setting → List ℕ
-  heldBytes s = little (s .width) (numberAt (core .table) (s .index))
+  abbrev pub nowHeld : Setting → List ℕ
+  nowHeld s = little (s .width) (numberAt (core .table) (s .index))
 
   -- 5: "response 3, one data byte: the command"
   abbrev pub unknownCommand : ℕ → Decision
@@ -76,7 +76,7 @@ module _ (core : Core) where
 
   -- 9: "Set, id, flag 04, value now held"
   abbrev pub wrongWidth : Setting → Decision
-  wrongWidth s = staying (Outcome.Refused paper.wrongWidth) (sent setCode (said (s .id) paper.parameterFlag (heldBytes s)))
+  wrongWidth s = staying (Outcome.Refused paper.wrongWidth) (sent setCode (said (s .id) paper.parameterFlag (nowHeld s)))
 
   -- 10: "Set, id, flag 04, nearest allowed number"
   abbrev pub refusedTo : Setting → ℕ → ℕ → Decision
@@ -97,7 +97,7 @@ module _ (core : Core) where
   getsOther id none = unknownId getCode id
 
   abbrev pub getsFound : ℕ → Found → Decision
-  getsFound id (Found.At s) = good getCode (s .id) (heldBytes s)
+  getsFound id (Found.At s) = good getCode (s .id) (nowHeld s)
   getsFound id Found.Nothing = getsOther id (readOnly (core .identity) (core .readings) id)
 
   -- 6: "Get with other than 3 data bytes; [..] request flags not 0"

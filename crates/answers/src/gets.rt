@@ -19,7 +19,7 @@ use who::Verdict;
 // Returns the number that a setting holds, in its width.
 pub(crate) fn now_held(core: Core, setting: Setting) -> Value
     requires { ⌜ Settled setting ⌝ }
-    ensures { λ r. ⌜ r ≡ valueOf (answers.heldBytes core setting) ⌝ }
+    ensures { λ r. ⌜ r ≡ valueOf (answers.nowHeld core setting) ⌝ }
 {
     let table = core.table;
     let numbers = table.numbers;
@@ -30,7 +30,7 @@ pub(crate) fn now_held(core: Core, setting: Setting) -> Value
 // Answers a Get of a setting.
 fn get_setting(core: Core, setting: Setting) -> Decided
     requires { ⌜ Settled setting ⌝ }
-    ensures { λ r. ⌜ r ≡ decidedOf (answers.good core paper.getCode (setting .id) (answers.heldBytes core setting)) ⌝ }
+    ensures { λ r. ⌜ r ≡ decidedOf (answers.good core paper.getCode (setting .id) (answers.nowHeld core setting)) ⌝ }
 {
     decisions::says(
         core,

@@ -115,35 +115,23 @@ oneCall = calls 15 75 ∷ []
 abbrev twoCalls : List Deed
 twoCalls = calls 15 75 ∷ calls 15 75 ∷ []
 
-first-set-alone : Decides firstSetAlone → ⊥
+-- demand 3's shams: after two calls, or one, they do not hold the number of the last Set
+decide-not : (Decides firstSetAlone → ⊥) × (Decides storesNothing → ⊥) × (Decides neverChanges → ⊥)
 unfolding overlaid digit nibble check body frame bodySays taken noChars heldOf unfinished stream.allowed
     inRange lowAgrees highAgrees agrees allowedFor allAllowed allowed placing placeOf finding setTo
     serialFits noSerial identityOf serialOf identityAllowed setsSetting setAnswer frameAnswer
     coreAllowed boardAllowed freshBoard starting deciding decidedBy heardBy answering isComplete isValid makes made
-first-set-alone h =
-    let d = h 0 0 [] factory refl refl refl twoSets twoCalls in
-    let e : _≡_ {A = Bool} false true = ap (λ (t : Table). eqb (numberAt t capacity) 600) (d .table-is) in
-    false≢true e
-
-stores-nothing-decides : Decides storesNothing → ⊥
-unfolding overlaid digit nibble check body frame bodySays taken noChars heldOf unfinished stream.allowed
-    inRange lowAgrees highAgrees agrees allowedFor allAllowed allowed placing placeOf finding setTo
-    serialFits noSerial identityOf serialOf identityAllowed setsSetting setAnswer frameAnswer
-    coreAllowed boardAllowed freshBoard starting deciding decidedBy heardBy answering isComplete isValid makes made
-stores-nothing-decides h =
-    let d = h 0 0 [] factory refl refl refl twoSets oneCall in
-    let e : _≡_ {A = Bool} false true = ap (λ (t : Table). eqb (numberAt t capacity) 500) (d .table-is) in
-    false≢true e
-
-never-changes : Decides neverChanges → ⊥
-unfolding overlaid digit nibble check body frame bodySays taken noChars heldOf unfinished stream.allowed
-    inRange lowAgrees highAgrees agrees allowedFor allAllowed allowed placing placeOf finding setTo
-    serialFits noSerial identityOf serialOf identityAllowed setsSetting setAnswer frameAnswer
-    coreAllowed boardAllowed freshBoard starting deciding decidedBy heardBy answering isComplete isValid makes made
-never-changes h =
-    let d = h 0 0 [] factory refl refl refl twoSets oneCall in
-    let e : _≡_ {A = Bool} false true = ap (λ (t : Table). eqb (numberAt t capacity) 500) (d .table-is) in
-    false≢true e
+decide-not = (
+  λ h.
+      let e : _≡_ {A = Bool} false true = ap (λ (t : Table). eqb (numberAt t capacity) 600) (h 0 0 [] factory refl refl refl twoSets twoCalls .table-is) in
+      false≢true e,
+  λ h.
+      let e : _≡_ {A = Bool} false true = ap (λ (t : Table). eqb (numberAt t capacity) 500) (h 0 0 [] factory refl refl refl twoSets oneCall .table-is) in
+      false≢true e,
+  λ h.
+      let e : _≡_ {A = Bool} false true = ap (λ (t : Table). eqb (numberAt t capacity) 500) (h 0 0 [] factory refl refl refl twoSets oneCall .table-is) in
+      false≢true e,
+)
 
 takes-all : TakesToTheEnd takesAll → ⊥
 unfolding placeOf starting serialFits allowed allAllowed allowedFor inRange agrees lowAgrees highAgrees freshBoard frame body check digit taken heldOf unfinished
@@ -172,9 +160,9 @@ shams-fall =
       refuses-all-falls = refuses-all;
       answers-alike-falls = answers-alike;
       stores-nothing-falls = stores-nothing;
-      stores-nothing-decides-not = stores-nothing-decides;
-      first-set-alone-falls = first-set-alone;
-      never-changes-falls = never-changes;
+      stores-nothing-decides-not = decide-not .1;
+      first-set-alone-falls = decide-not .0;
+      never-changes-falls = decide-not .2;
       takes-all-falls = takes-all;
       hears-all-falls = hears-all;
       sent-count-falls = sent-count;

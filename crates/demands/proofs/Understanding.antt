@@ -96,7 +96,7 @@ module _ (core : Core) where
   get-other id none h = get-says Status.UnknownId id [] h
 
   get-found : (id : ℕ) (f : Found) → finding id ≡ f → id < 256 ^ 2 → U (answers.getsFound core id f)
-  get-found id (Found.At s) e h = get-says Status.Good (s .id) (answers.heldBytes core s) (found-small id s e)
+  get-found id (Found.At s) e h = get-says Status.Good (s .id) (answers.nowHeld core s) (found-small id s e)
   get-found id Found.Nothing e h = get-other id (readOnly (core .identity) (core .readings) id) h
 
   get-read : (bytes : List ℕ) → Bytes bytes → U (answers.getAnswer core bytes)
@@ -109,7 +109,7 @@ module _ (core : Core) where
   set-setting s value small =
       let change = setTo (core .table) (s .index) (fromLittle value) in
       pick U (eqb (length value) (s .width)) {x = answers.stored (withTable core (change .table)) s (fromLittle value) (change .answer)} {y = answers.wrongWidth core s}
-      (set-stored (withTable core (change .table)) s (fromLittle value) (change .answer) small) (set-says Status.ParameterError (s .id) (answers.heldBytes core s) small)
+      (set-stored (withTable core (change .table)) s (fromLittle value) (change .answer) small) (set-says Status.ParameterError (s .id) (answers.nowHeld core s) small)
 
   set-other : (id : ℕ) (v : Option (List ℕ)) → id < 256 ^ 2 → U (answers.setsOther core id v)
   set-other id (some v) h = set-says Status.NotSupported id [] h
