@@ -1,6 +1,6 @@
 -- What a frame makes of a board's table, and what refusals leave. Assumes nothing.
 use mathlib.Core.Path.{_≡_, refl, ap, _∙_}
-use mathlib.Core.Bool.{Bool, true, false, cond, _&&_}
+use mathlib.Core.Bool.{Bool, true, false, _&&_}
 use mathlib.Core.List.{List}
 use mathlib.Core.Option.{Option, none, some}
 use Prim.Native.Nat.{ℕ}
@@ -12,7 +12,6 @@ use Rattle.laws.proofs.Bools.{pick}
 use Rattle.settings.specs.Columns.{count}
 use Rattle.tables.specs.Rules.{allowed}
 use Rattle.settings.specs.Calls.{finding}
-use Rattle.tables.specs.Calls.{setTo}
 use Rattle.tables.specs.declared.Table.{Table}
 use Rattle.settings.specs.declared.Setting.{Setting}
 use Rattle.settings.specs.declared.Found.{Found}

@@ -15,7 +15,6 @@ use Rattle.stream.specs.Stream.{taken}
 use Rattle.stream.specs.Calls as stream
 use Rattle.stream.specs.Laws.{Writables, whole}
 use Rattle.stream.specs.declared.Event.{Event}
-use Rattle.stream.specs.declared.Held.{Held}
 use Rattle.stream.specs.declared.Heard.{Heard}
 use Rattle.stream.proofs.Answers.{hearing-stray, hearing-heard}
 use Rattle.stream.proofs.Theorems.{heard-is-writable, refused-is-small}

@@ -7,7 +7,6 @@ use native.Mathlib.Omega.{arith}
 use lib.ListN.{length, take, drop, length-take, length-drop}
 use lib.Seq.{take-take, take-add}
 use Rattle.laws.proofs.Bools.{pick}
-use Rattle.laws.proofs.Cutting as cutting
 use Rattle.wire.specs.Reading.{Ended, good, refused}
 use Rattle.stream.specs.Stream.{Unfinished, outside, framesFrom, leftFrom, framesOf}
 use Rattle.stream.specs.Calls.{heldOf}
@@ -29,7 +28,7 @@ use Rattle.demands.specs.Sets.{anySetting, makes, made}
 use Rattle.demands.specs.Talk.{Deed, stores, calls, Talk, talk, afterOne, afterAll, boardAt}
 use Rattle.demands.specs.Demand3.{BoardDecides}
 use Rattle.demands.proofs.Making.{makes-same, made-append, decided-table}
-use Rattle.demands.proofs.Talking.{Line, call-reads}
+use Rattle.demands.proofs.Talking.{call-reads}
 
 -- a table that is allowed, with all its numbers
 pub record Sound (table : Table) : Type 0 where

@@ -1,11 +1,10 @@
 -- The list's frames at a board: each is answered as a Set accepted. Assumes nothing.
-use mathlib.Core.Path.{_≡_, refl, ap, ap₂, _∙_}
+use mathlib.Core.Path.{_≡_, refl, ap, _∙_}
 use mathlib.Core.Bool.{Bool, true, false, _&&_, false≢true}
 use mathlib.Core.List.{List, [], _∷_, _++_, map}
 use Prim.Native.Nat.{ℕ, _≤_, _<_}
 use native.Mathlib.Omega.{arith}
 use borrow.Author.Tests.{leb-true, ltb-true}
-use lib.ListN.{length}
 use lib.Dec.{ltb}
 use Rattle.laws.specs.Lists.{every}
 use Rattle.laws.proofs.Bools.{and-left, and-right}
@@ -16,7 +15,7 @@ use Rattle.wire.specs.Laws.{Writable}
 use Rattle.stream.proofs.Theorems.{written-is-heard}
 use Rattle.settings.specs.Columns.{count, idAt, widthAt}
 use Rattle.settings.specs.Rules.{allowedFor}
-use Rattle.tables.specs.Rules.{allowed, partnerNumber, changed}
+use Rattle.tables.specs.Rules.{allowed, partnerNumber}
 use Rattle.tables.specs.Calls.{setTo}
 use Rattle.tables.specs.declared.Table.{Table}
 use Rattle.settings.proofs.Theorems.{rows-hold}

@@ -7,7 +7,7 @@ use Prim.Native.Nat.{ℕ, _+_, _^_, _≤_, _<_}
 use native.Mathlib.Omega.{arith}
 use borrow.Author.Tests.{leb-true, ltb-true, lt-ltb, le-leb, eq-eqb, eqb-true}
 use lib.ListN.{length, take, drop, getD}
-use lib.Dec.{eqb, leb, ltb}
+use lib.Dec.{eqb, ltb}
 use Rattle.laws.specs.Lists.{every}
 use Rattle.laws.proofs.Bools.{pick, and-left, and-right, both}
 use Rattle.laws.proofs.Lists.{upTo-at}
