@@ -9,7 +9,6 @@ use Rattle.endian.proofs.Theorems.{little-is-read}
 use Rattle.settings.specs.Columns.{count, idAt, widthAt}
 use Rattle.tables.specs.Rules.{partnerNumber}
 use Rattle.settings.specs.Calls.{settingAt}
-use Rattle.tables.specs.declared.Table.{Table}
 use Rattle.settings.proofs.Theorems.{rows-hold, find-is-found, allowed-has-room}
 use Rattle.tables.proofs.Theorems.{refused-names-nearest}
 use Rattle.tables.proofs.Tables.{set-accepted}
@@ -17,8 +16,7 @@ use Rattle.endian.specs.Numbers.{little, fromLittle}
 use Rattle.paper.specs.Numbers.{setCode}
 use Rattle.answers.specs.Answers.{said, setsSetting, frameAnswer}
 use Rattle.answers.specs.Laws.{GetAnswersHeld, SetStoresIt, SetRefusedNamesNearest}
-use Rattle.who.specs.declared.Identity.{Identity}
-use Rattle.who.specs.declared.Readings.{Readings}
+use Rattle.answers.specs.declared.Core.{Core}
 use Rattle.answers.proofs.Deciding.{gets-is, sets-is, sets-right}
 
 id-back : (k : ℕ) → k < count → idAt k ≡ fromLittle (little 2 (idAt k))
@@ -26,34 +24,34 @@ id-back k h = sym (little-is-read 2 (idAt k) (rows-hold k h .id-holds))
 
 pub get-held : GetAnswersHeld
 unfolding frameAnswer
-get-held readings table identity k h = sym (gets-is readings table identity (said (idAt k) 0 []) refl refl (id-back k h) (find-is-found k h))
+get-held core k h = sym (gets-is core (said (idAt k) 0 []) refl refl (id-back k h) (find-is-found k h))
 
 -- a Set of a setting in its own width
-module _ (readings : Readings) (table : Table) (identity : Identity) (k n : ℕ) (h : k < count) where
-  set-is : frameAnswer readings table identity setCode (said (idAt k) 0 (little (widthAt k) n)) ≡ setsSetting readings table (settingAt k) (little (widthAt k) n)
+module _ (core : Core) (k n : ℕ) (h : k < count) where
+  set-is : frameAnswer core setCode (said (idAt k) 0 (little (widthAt k) n)) ≡ setsSetting core (settingAt k) (little (widthAt k) n)
   unfolding frameAnswer
   set-is =
       let many : 3 ≤ length (said (idAt k) 0 (little (widthAt k) n)) = omega arith in
-      sym (sets-is readings table identity (said (idAt k) 0 (little (widthAt k) n)) many refl (id-back k h) (find-is-found k h))
+      sym (sets-is core (said (idAt k) 0 (little (widthAt k) n)) many refl (id-back k h) (find-is-found k h))
 
   wide : length (little (widthAt k) n) ≡ widthAt k
   wide = length-little (widthAt k) n
 
 pub set-stores : SetStoresIt
-set-stores readings table identity k n ok h fits =
-    let is : n ≡ fromLittle (little (widthAt k) n) = sym (little-is-read (widthAt k) n (allowed-has-room k n (partnerNumber table k) h fits)) in
-    set-is readings table identity k n h
-    ∙ sym (sets-right readings (settingAt k) table (little (widthAt k) n) (wide readings table identity k n h) is (sym (set-accepted table k n ok h fits)))
+set-stores core k n ok h fits =
+    let is : n ≡ fromLittle (little (widthAt k) n) = sym (little-is-read (widthAt k) n (allowed-has-room k n (partnerNumber (core .table) k) h fits)) in
+    set-is core k n h
+    ∙ sym (sets-right core (settingAt k) (little (widthAt k) n) (wide core k n h) is (sym (set-accepted (core .table) k n ok h fits)))
 
 pub set-names : SetRefusedNamesNearest
-set-names readings table identity k n ok h small bad =
+set-names core k n ok h small bad =
     let is : n ≡ fromLittle (little (widthAt k) n) = sym (little-is-read (widthAt k) n small) in
     let narrow : widthAt k ≤ 2 = rows-hold k h .width-most in
-    let refused = refused-names-nearest table k n ok h (short (widthAt k) n narrow small) bad in (
+    let refused = refused-names-nearest (core .table) k n ok h (short (widthAt k) n narrow small) bad in (
       refused .0,
       refused .2,
-      set-is readings table identity k n h
-          ∙ sym (sets-right readings (settingAt k) table (little (widthAt k) n) (wide readings table identity k n h) is (sym (refused .1))),
+      set-is core k n h
+          ∙ sym (sets-right core (settingAt k) (little (widthAt k) n) (wide core k n h) is (sym (refused .1))),
     )
   where
     short : (w m : ℕ) → w ≤ 2 → m < 256 ^ w → m < 2 ^ 16

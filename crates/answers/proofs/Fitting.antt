@@ -13,7 +13,6 @@ use Rattle.laws.proofs.Bools.{both, pick}
 use Rattle.wire.specs.Laws.{Writable}
 use Rattle.settings.specs.Calls.{finding}
 use Rattle.tables.specs.Calls.{setTo}
-use Rattle.tables.specs.declared.Table.{Table}
 use Rattle.settings.specs.declared.Setting.{Setting}
 use Rattle.settings.specs.declared.Found.{Found}
 use Rattle.tables.specs.declared.Answer.{Answer}
@@ -27,8 +26,7 @@ use Rattle.paper.specs.Numbers.{getCode, setCode, pingCode, versionCode, produc
 use Rattle.answers.specs.Answers.{sent, Decision, said, tells, restarts, getsOther, getsFound, getAnswer, setsOther, stored, setsSetting, setsFound, setAnswer, frameAnswer}
 use Rattle.answers.specs.AsHeld.{Settled}
 use Rattle.answers.specs.Laws.{Fits, nothing, a-frame, an-error, RepliesFit}
-use Rattle.who.specs.declared.Identity.{Identity}
-use Rattle.who.specs.declared.Readings.{Readings}
+use Rattle.answers.specs.declared.Core.{Core}
 use Rattle.answers.proofs.Found.{found-settled}
 
 abbrev Replies : Decision → Type 0
@@ -67,62 +65,62 @@ eight : setCode ≤ 15
 eight = leb-true 8 15 refl
 
 -- command by command
-module _ (readings : Readings) (table : Table) where
-  fits-tells : (response number : ℕ) (bytes : List ℕ) → response ≤ 15 → Replies (tells readings table response number bytes)
+module _ (core : Core) where
+  fits-tells : (response number : ℕ) (bytes : List ℕ) → response ≤ 15 → Replies (tells core response number bytes)
   unfolding tells
   fits-tells response number bytes nibble =
       pick Replies (eqb (length bytes) 0) (fits response (little 2 number) nibble (leb-true 2 35 refl) (bytes-little 2 number)) an-error
 
-  fits-restarts : (bytes : List ℕ) → Replies (restarts readings table bytes)
+  fits-restarts : (bytes : List ℕ) → Replies (restarts core bytes)
   unfolding restarts
   fits-restarts bytes = pick Replies (eqb (length bytes) 0) nothing an-error
 
-  fits-gets-other : (id : ℕ) (o : Option (List ℕ)) → Small o → Replies (getsOther readings table id o)
+  fits-gets-other : (id : ℕ) (o : Option (List ℕ)) → Small o → Replies (getsOther core id o)
   fits-gets-other id none small = fits-none getCode id 1 seven (leb-true 2 256 refl)
   fits-gets-other id (some v) (small-some few small) = fits-said getCode id 0 v seven (leb-true 1 256 refl) few small
 
-  fits-sets-other : (id : ℕ) (o : Option (List ℕ)) → Replies (setsOther readings table id o)
+  fits-sets-other : (id : ℕ) (o : Option (List ℕ)) → Replies (setsOther core id o)
   fits-sets-other id none = fits-none setCode id 1 eight (leb-true 2 256 refl)
   fits-sets-other id (some v) = fits-none setCode id 2 eight (leb-true 3 256 refl)
 
-  fits-gets-found : (identity : Identity) → identityAllowed identity ≡ true → (id : ℕ) (f : Found) → finding id ≡ f → Replies (getsFound readings table identity id f)
-  fits-gets-found identity ok id (Found.At s) e = fits-number getCode s 0 _ (found-settled id s e) seven (leb-true 1 256 refl)
-  fits-gets-found identity ok id Found.Nothing e = fits-gets-other id (readOnly identity readings id) (values-fit identity readings id ok)
+  fits-gets-found : identityAllowed (core .identity) ≡ true → (id : ℕ) (f : Found) → finding id ≡ f → Replies (getsFound core id f)
+  fits-gets-found ok id (Found.At s) e = fits-number getCode s 0 _ (found-settled id s e) seven (leb-true 1 256 refl)
+  fits-gets-found ok id Found.Nothing e = fits-gets-other id (readOnly (core .identity) (core .readings) id) (values-fit (core .identity) (core .readings) id ok)
 
-  fits-gets : (identity : Identity) → identityAllowed identity ≡ true → (bytes : List ℕ) → Replies (getAnswer readings table identity bytes)
+  fits-gets : identityAllowed (core .identity) ≡ true → (bytes : List ℕ) → Replies (getAnswer core bytes)
   unfolding getAnswer
-  fits-gets identity ok bytes =
-      pick Replies (eqb (length bytes) 3) (pick Replies (eqb (getD bytes 2 0) 0) (fits-gets-found identity ok _ (finding (fromLittle (take 2 bytes))) refl) an-error) an-error
+  fits-gets ok bytes =
+      pick Replies (eqb (length bytes) 3) (pick Replies (eqb (getD bytes 2 0) 0) (fits-gets-found ok _ (finding (fromLittle (take 2 bytes))) refl) an-error) an-error
 
-fits-stored : (readings : Readings) (s : Setting) (n : ℕ) (table : Table) (a : Answer) → Settled s → Replies (stored readings s n table a)
-fits-stored readings s n table Answer.Accepted settled = fits-number setCode s 0 n settled eight (leb-true 1 256 refl)
-fits-stored readings s n table (Answer.Refused number nearest) settled = fits-number setCode s 4 nearest settled eight (leb-true 5 256 refl)
+fits-stored : (core : Core) (s : Setting) (n : ℕ) (a : Answer) → Settled s → Replies (stored core s n a)
+fits-stored core s n Answer.Accepted settled = fits-number setCode s 0 n settled eight (leb-true 1 256 refl)
+fits-stored core s n (Answer.Refused number nearest) settled = fits-number setCode s 4 nearest settled eight (leb-true 5 256 refl)
 
-fits-sets-setting : (readings : Readings) (table : Table) (s : Setting) (value : List ℕ) → Settled s → Replies (setsSetting readings table s value)
-unfolding setsSetting
-fits-sets-setting readings table s value settled =
-    pick Replies (eqb (length value) (s .width)) (fits-stored readings s _ _ (setTo table (s .index) (fromLittle value) .answer) settled)
-    (fits-number setCode s 4 _ settled eight (leb-true 5 256 refl))
+module _ (core : Core) where
+  fits-sets-setting : (s : Setting) (value : List ℕ) → Settled s → Replies (setsSetting core s value)
+  unfolding setsSetting
+  fits-sets-setting s value settled =
+      pick Replies (eqb (length value) (s .width)) (fits-stored _ s _ (setTo (core .table) (s .index) (fromLittle value) .answer) settled)
+      (fits-number setCode s 4 _ settled eight (leb-true 5 256 refl))
 
-module _ (readings : Readings) (table : Table) where
-  fits-sets-found : (identity : Identity) (id : ℕ) (value : List ℕ) (f : Found) → finding id ≡ f → Replies (setsFound readings table identity id value f)
-  fits-sets-found identity id value (Found.At s) e = fits-sets-setting readings table s value (found-settled id s e)
-  fits-sets-found identity id value Found.Nothing e = fits-sets-other readings table id (readOnly identity readings id)
+  fits-sets-found : (id : ℕ) (value : List ℕ) (f : Found) → finding id ≡ f → Replies (setsFound core id value f)
+  fits-sets-found id value (Found.At s) e = fits-sets-setting s value (found-settled id s e)
+  fits-sets-found id value Found.Nothing e = fits-sets-other core id (readOnly (core .identity) (core .readings) id)
 
-  fits-sets : (identity : Identity) (bytes : List ℕ) → Replies (setAnswer readings table identity bytes)
+  fits-sets : (bytes : List ℕ) → Replies (setAnswer core bytes)
   unfolding setAnswer
-  fits-sets identity bytes =
+  fits-sets bytes =
       pick Replies (ltb (length bytes) 3) an-error
-      (pick Replies (eqb (getD bytes 2 0) 0) (fits-sets-found identity _ (drop 3 bytes) (finding (fromLittle (take 2 bytes))) refl) an-error)
+      (pick Replies (eqb (getD bytes 2 0) 0) (fits-sets-found _ (drop 3 bytes) (finding (fromLittle (take 2 bytes))) refl) an-error)
 
 pub replies-fit : RepliesFit
 unfolding frameAnswer
-replies-fit readings table identity command bytes ok low =
-    pick Replies (eqb command pingCode) (fits-tells readings table 5 (identity .version) bytes (leb-true 5 15 refl))
-    (pick Replies (eqb command versionCode) (fits-tells readings table 1 (identity .version) bytes (leb-true 1 15 refl))
-    (pick Replies (eqb command productCode) (fits-tells readings table 1 (identity .product) bytes (leb-true 1 15 refl))
-    (pick Replies (eqb command restartCode) (fits-restarts readings table bytes)
-    (pick Replies (eqb command getCode) (fits-gets readings table identity ok bytes)
-    (pick Replies (eqb command setCode) (fits-sets readings table identity bytes)
+replies-fit core command bytes ok low =
+    pick Replies (eqb command pingCode) (fits-tells core 5 (core .identity .version) bytes (leb-true 5 15 refl))
+    (pick Replies (eqb command versionCode) (fits-tells core 1 (core .identity .version) bytes (leb-true 1 15 refl))
+    (pick Replies (eqb command productCode) (fits-tells core 1 (core .identity .product) bytes (leb-true 1 15 refl))
+    (pick Replies (eqb command restartCode) (fits-restarts core bytes)
+    (pick Replies (eqb command getCode) (fits-gets core ok bytes)
+    (pick Replies (eqb command setCode) (fits-sets core bytes)
     (pick Replies (eqb command asyncCode) nothing
     (fits 3 (command ∷ []) (leb-true 3 15 refl) (leb-true 1 35 refl) (both _ _ (lt-ltb command 256 low) refl))))))))

@@ -1,4 +1,4 @@
--- The data of a reply: a loop that copies 32 bytes after three, and what they are. Assumes nothing.
+-- The data of a message: a loop that copies 32 bytes after three, and what they are. Assumes nothing.
 use mathlib.Core.Path.{_≡_, refl, sym, ap, _∙_}
 use mathlib.Core.List.{List, _++_, append-nil}
 use Prim.Native.Nat.{ℕ, suc, _+_, _≤_, _<_}
@@ -9,7 +9,7 @@ use Rattle.laws.specs.Promise.{overlaid, frontOf}
 use Rattle.laws.proofs.Lists.{sets-turn, sets-end}
 use Rattle.who.specs.Calls.{valueOf}
 use Rattle.answers.specs.Answers.{said}
-use Rattle.answers.specs.AsHeld.{noData, replyOf, saidOf}
+use Rattle.answers.specs.AsHeld.{noData, messageOf, saidOf}
 
 pub record Joining (front rest bytes : List ℕ) (i : ℕ) : Type 0 where
   pub within : i ≤ 32
@@ -40,8 +40,8 @@ module _ {front rest : List ℕ} where
       ∙ ap (λ (t : List ℕ). take 3 front ++ rest ++ t) (drop-of-length-le front all) ∙ append-nil (take 3 front ++ rest)
 
 -- an id, a flag and a value as it is held are those of the bytes that the value stands for
-pub said-is : (command id flag : ℕ) (v : List ℕ) → saidOf command id flag (valueOf v) ≡ replyOf command (said id flag v)
-unfolding saidOf replyOf valueOf frontOf overlaid noData
+pub said-is : (command id flag : ℕ) (v : List ℕ) → saidOf command id flag (valueOf v) ≡ messageOf command (said id flag v)
+unfolding saidOf messageOf valueOf overlaid noData frontOf
 said-is command id flag v =
     let three : length v + 3 ≡ suc (suc (suc (length v))) = omega arith in
     λ i. record { command = command; len = three i; bytes = overlaid (said id flag v) noData }

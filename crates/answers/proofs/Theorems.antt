@@ -1,7 +1,7 @@
 -- The statements of specs/Laws.antt, proved. Assumes nothing.
-use Rattle.answers.specs.Laws.{RepliesFit, RefusedStays, AnswerMakes, MakesKeepsAllowed, GetAnswersHeld, SetStoresIt, SetRefusedNamesNearest}
+use Rattle.answers.specs.Laws.{RepliesFit, RefusedStays, AnswerMakes, IdentityStays, MakesKeepsAllowed, GetAnswersHeld, SetStoresIt, SetRefusedNamesNearest}
 use Rattle.answers.proofs.Fitting
-use Rattle.answers.proofs.Making.{refused-stays, answer-makes, makes-allowed}
+use Rattle.answers.proofs.Making.{refused-stays, answer-makes, identity-stays, makes-allowed}
 use Rattle.answers.proofs.Asking.{get-held, set-stores, set-names}
 
 pub replies-fit : RepliesFit
@@ -12,6 +12,9 @@ refused-stays-it = refused-stays
 
 pub answer-makes-it : AnswerMakes
 answer-makes-it = answer-makes
+
+pub identity-stays-it : IdentityStays
+identity-stays-it = identity-stays
 
 pub makes-keeps-allowed : MakesKeepsAllowed
 makes-keeps-allowed = makes-allowed

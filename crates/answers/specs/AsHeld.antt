@@ -5,25 +5,24 @@ use lib.ListN.{length, replicate}
 use Rattle.paper.specs.Numbers as paper
 use Rattle.laws.specs.Promise.{overlaid}
 use Rattle.settings.specs.Columns.{count}
-use Rattle.tables.specs.declared.Table.{Table}
 use Rattle.settings.specs.declared.Setting.{Setting}
 use Rattle.endian.specs.Numbers.{little}
 use Rattle.answers.specs.Answers.{Sent, silent, sent, error, Decision}
-use Rattle.who.specs.declared.Readings.{Readings}
 use Rattle.who.specs.declared.Value.{Value}
 use Rattle.answers.specs.declared.Outcome.{Outcome}
-use Rattle.answers.specs.declared.Reply.{Reply}
+use Rattle.answers.specs.declared.Core.{Core}
+use Rattle.answers.specs.declared.Message.{Message}
 use Rattle.answers.specs.declared.Sends.{Sends}
 use Rattle.answers.specs.declared.Decided.{Decided}
 
 unfoldable pub noData : List ℕ
 noData = replicate paper.mostData 0
 
-unfoldable pub replyOf : ℕ → List ℕ → Reply
-replyOf command bytes = record { command = command; len = length bytes; bytes = overlaid bytes noData }
+unfoldable pub messageOf : ℕ → List ℕ → Message
+messageOf command bytes = record { command = command; len = length bytes; bytes = overlaid bytes noData }
 
 -- an id, a flag and a value that is held
-unfoldable pub saidOf : ℕ → ℕ → ℕ → Value → Reply
+unfoldable pub saidOf : ℕ → ℕ → ℕ → Value → Message
 saidOf command id flag value =
     record { command = command; len = value .len + 3; bytes = little 2 id ++ flag ∷ value .bytes }
 
@@ -32,18 +31,16 @@ sendsOf silent = Sends.Nothing
 sendsOf (sent command bytes) = Sends.Frame
 sendsOf error = Sends.Error
 
-abbrev pub replyIn : Sent → Reply
-replyIn silent = replyOf 0 []
-replyIn (sent command bytes) = replyOf command bytes
-replyIn error = replyOf 0 []
+abbrev pub messageIn : Sent → Message
+messageIn silent = messageOf 0 []
+messageIn (sent command bytes) = messageOf command bytes
+messageIn error = messageOf 0 []
 
-unfoldable pub replying : Readings → Table → Outcome → Reply → Decided
-replying readings table outcome reply =
-    record { outcome = outcome; sends = Sends.Frame; reply = reply; table = table; readings = readings }
+unfoldable pub replying : Core → Outcome → Message → Decided
+replying core outcome reply = record { outcome = outcome; sends = Sends.Frame; reply = reply; core = core }
 
 unfoldable pub decidedOf : Decision → Decided
-decidedOf d =
-    record { outcome = d .outcome; sends = sendsOf (d .reply); reply = replyIn (d .reply); table = d .table; readings = d .readings }
+decidedOf d = record { outcome = d .outcome; sends = sendsOf (d .reply); reply = messageIn (d .reply); core = d .core }
 
 -- a setting that a look-up can find: within the table, one byte wide or two
 pub record Settled (s : Setting) : Type 0 where

@@ -14,9 +14,8 @@ use Rattle.tables.specs.declared.Table.{Table}
 use Rattle.who.specs.Parts.{identityAllowed}
 use Rattle.endian.specs.Numbers.{little}
 use Rattle.paper.specs.Numbers.{getCode, setCode}
-use Rattle.answers.specs.Answers.{Sent, silent, sent, error, Decision, staying, said, frameAnswer, makes}
-use Rattle.who.specs.declared.Identity.{Identity}
-use Rattle.who.specs.declared.Readings.{Readings}
+use Rattle.answers.specs.Answers.{withTable, Sent, silent, sent, error, staying, said, frameAnswer, makes}
+use Rattle.answers.specs.declared.Core.{Core}
 use Rattle.answers.specs.declared.Outcome.{Outcome}
 
 -- 1. Every reply fits a frame.
@@ -27,25 +26,21 @@ pub data Fits : Sent → Type 0 where
 
 abbrev pub RepliesFit : Type 0
 RepliesFit =
-    (readings : Readings) (table : Table) (identity : Identity) (command : ℕ) (bytes : List ℕ) → identityAllowed identity ≡ true → command < 256
-    → Fits (frameAnswer readings table identity command bytes .reply)
+    (core : Core) (command : ℕ) (bytes : List ℕ) → identityAllowed (core .identity) ≡ true → command < 256
+    → Fits (frameAnswer core command bytes .reply)
 
 -- 2. "On 1 to 10 the settings and readings stay."
-pub record Stays (readings : Readings) (table : Table) (d : Decision) : Type 0 where
-  pub table-stays : d .table ≡ table
-  pub readings-stay : d .readings ≡ readings
-
 abbrev pub RefusedStays : Type 0
 RefusedStays =
-    (readings : Readings) (table : Table) (identity : Identity) (command : ℕ) (bytes : List ℕ) (number : ℕ)
-    → frameAnswer readings table identity command bytes .outcome ≡ Outcome.Refused number
-    → Stays readings table (frameAnswer readings table identity command bytes)
+    (core : Core) (command : ℕ) (bytes : List ℕ) (number : ℕ)
+    → frameAnswer core command bytes .outcome ≡ Outcome.Refused number → frameAnswer core command bytes .core ≡ core
 
--- 3. The table afterwards is what a complete, valid Set makes of it, whatever else the frame is; and it stays allowed.
+-- 3. The table afterwards is what a complete, valid Set makes of it, whatever else the frame is; it stays allowed, and the board who it was.
 abbrev pub AnswerMakes : Type 0
-AnswerMakes =
-    (readings : Readings) (table : Table) (identity : Identity) (command : ℕ) (bytes : List ℕ)
-    → frameAnswer readings table identity command bytes .table ≡ makes table command bytes
+AnswerMakes = (core : Core) (command : ℕ) (bytes : List ℕ) → frameAnswer core command bytes .core .table ≡ makes (core .table) command bytes
+
+abbrev pub IdentityStays : Type 0
+IdentityStays = (core : Core) (command : ℕ) (bytes : List ℕ) → frameAnswer core command bytes .core .identity ≡ core .identity
 
 abbrev pub MakesKeepsAllowed : Type 0
 MakesKeepsAllowed =
@@ -55,19 +50,19 @@ MakesKeepsAllowed =
 -- 4. A good Get answers the number now held.
 abbrev pub GetAnswersHeld : Type 0
 GetAnswersHeld =
-    (readings : Readings) (table : Table) (identity : Identity) (k : ℕ) → k < count
-    → frameAnswer readings table identity getCode (said (idAt k) paper.goodFlag []) ≡ staying readings table Outcome.Answered (sent getCode (said (idAt k) paper.goodFlag (little (widthAt k) (numberAt table k))))
+    (core : Core) (k : ℕ) → k < count
+    → frameAnswer core getCode (said (idAt k) paper.goodFlag []) ≡ staying core Outcome.Answered (sent getCode (said (idAt k) paper.goodFlag (little (widthAt k) (numberAt (core .table) k))))
 
 -- 5. A good Set answers what it stored and stores what it answered, that setting alone; one that is not allowed stores nothing, and answers
 -- flag 04 and the nearest allowed number.
 abbrev pub SetStoresIt : Type 0
 SetStoresIt =
-    (readings : Readings) (table : Table) (identity : Identity) (k n : ℕ) → allowed table ≡ true → k < count → allowedFor k n (partnerNumber table k) ≡ true
-    → frameAnswer readings table identity setCode (said (idAt k) paper.goodFlag (little (widthAt k) n)) ≡ staying readings (changed table k n) Outcome.Answered (sent setCode (said (idAt k) paper.goodFlag (little (widthAt k) n)))
+    (core : Core) (k n : ℕ) → allowed (core .table) ≡ true → k < count → allowedFor k n (partnerNumber (core .table) k) ≡ true
+    → frameAnswer core setCode (said (idAt k) paper.goodFlag (little (widthAt k) n)) ≡ staying (withTable core (changed (core .table) k n)) Outcome.Answered (sent setCode (said (idAt k) paper.goodFlag (little (widthAt k) n)))
 
 abbrev pub SetRefusedNamesNearest : Type 0
 SetRefusedNamesNearest =
-    (readings : Readings) (table : Table) (identity : Identity) (k n : ℕ) → allowed table ≡ true → k < count → n < 256 ^ widthAt k
-    → allowedFor k n (partnerNumber table k) ≡ false
-    → (m : ℕ) × Nearest k n (partnerNumber table k) m
-    × (frameAnswer readings table identity setCode (said (idAt k) paper.goodFlag (little (widthAt k) n)) ≡ staying readings table (Outcome.Refused paper.numberNotAllowed) (sent setCode (said (idAt k) paper.parameterFlag (little (widthAt k) m))))
+    (core : Core) (k n : ℕ) → allowed (core .table) ≡ true → k < count → n < 256 ^ widthAt k
+    → allowedFor k n (partnerNumber (core .table) k) ≡ false
+    → (m : ℕ) × Nearest k n (partnerNumber (core .table) k) m
+    × (frameAnswer core setCode (said (idAt k) paper.goodFlag (little (widthAt k) n)) ≡ staying core (Outcome.Refused paper.numberNotAllowed) (sent setCode (said (idAt k) paper.parameterFlag (little (widthAt k) m))))

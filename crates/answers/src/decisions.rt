@@ -1,39 +1,35 @@
-// What a board decides about a frame, by its command.
 ghost use mathlib.Core.Path.{_≡_};
 ghost use mathlib.Core.Bool.{true};
 ghost use Prim.Native.Nat.{_≤_};
 ghost use Rattle.who.specs.Parts.{identityAllowed};
 ghost use Rattle.answers.specs.Answers as answers;
 ghost use Rattle.answers.specs.AsHeld.{decidedOf, replying, saidOf};
+use crate::Core;
 use crate::Decided;
+use crate::Message;
 use crate::Outcome;
-use crate::Reply;
 use crate::Sends;
 use crate::gets;
-use crate::replies;
+use crate::messages;
 use crate::sets;
-use tables::Table;
-use who::Identity;
 use who::Readings;
 use who::Value;
 
-// A reply is sent.
-pub(crate) fn sends(readings: Readings, table: Table, outcome: Outcome, reply: Reply) -> Decided
-    ensures { λ r. ⌜ r ≡ replying readings table outcome reply ⌝ }
+// Decides to send a reply.
+pub(crate) fn sends(core: Core, outcome: Outcome, reply: Message) -> Decided
+    ensures { λ r. ⌜ r ≡ replying core outcome reply ⌝ }
 {
     Decided {
         outcome,
         sends: Sends::Frame,
         reply,
-        table,
-        readings,
+        core,
     }
 }
 
-// A reply of an id, a flag and a value is sent.
+// Decides to send an id, a flag and a value.
 pub(crate) fn says(
-    readings: Readings,
-    table: Table,
+    core: Core,
     outcome: Outcome,
     command: u8,
     id: u16,
@@ -41,110 +37,93 @@ pub(crate) fn says(
     value: Value,
 ) -> Decided
     requires { ⌜ value .len ≤ 32 ⌝ }
-    ensures { λ r. ⌜ r ≡ replying readings table outcome (saidOf command id flag value) ⌝ }
+    ensures { λ r. ⌜ r ≡ replying core outcome (saidOf command id flag value) ⌝ }
 {
-    sends(
-        readings,
-        table,
-        outcome,
-        replies::saying(command, id, flag, value),
-    )
+    sends(core, outcome, messages::saying(command, id, flag, value))
 }
 
-// Nothing is sent.
-pub(crate) fn silent(readings: Readings, table: Table, outcome: Outcome) -> Decided
-    ensures { λ r. ⌜ r ≡ decidedOf (answers.staying readings table outcome answers.silent) ⌝ }
+// Decides to send nothing.
+pub(crate) fn silent(core: Core, outcome: Outcome) -> Decided
+    ensures { λ r. ⌜ r ≡ decidedOf (answers.staying core outcome answers.silent) ⌝ }
 {
     Decided {
         outcome,
         sends: Sends::Nothing,
-        reply: replies::none(),
-        table,
-        readings,
+        reply: messages::none(),
+        core,
     }
 }
 
-// 6: the error frame is sent.
-pub(crate) fn malformed(readings: Readings, table: Table) -> Decided
-    ensures { λ r. ⌜ r ≡ decidedOf (answers.malformed readings table) ⌝ }
+// Refuses by 6 and decides to send the error frame.
+pub(crate) fn malformed(core: Core) -> Decided
+    ensures { λ r. ⌜ r ≡ decidedOf (answers.malformed core) ⌝ }
 {
     Decided {
         outcome: Outcome::Refused(paper::MALFORMED),
         sends: Sends::Error,
-        reply: replies::none(),
-        table,
-        readings,
+        reply: messages::none(),
+        core,
     }
 }
 
-// 5: a command that the board does not know.
-fn unknown_command(readings: Readings, table: Table, command: u8) -> Decided
-    ensures { λ r. ⌜ r ≡ decidedOf (answers.unknownCommand readings table command) ⌝ }
+// Refuses a command that the board does not know, by 5.
+fn unknown_command(core: Core, command: u8) -> Decided
+    ensures { λ r. ⌜ r ≡ decidedOf (answers.unknownCommand core command) ⌝ }
 {
     sends(
-        readings,
-        table,
+        core,
         Outcome::Refused(paper::UNKNOWN_COMMAND),
-        replies::one(paper::UNKNOWN, command),
+        messages::one(paper::UNKNOWN, command),
     )
 }
 
-// 7: an id in neither table.
-pub(crate) fn unknown_id(readings: Readings, table: Table, command: u8, id: u16) -> Decided
-    ensures { λ r. ⌜ r ≡ decidedOf (answers.unknownId readings table command id) ⌝ }
+// Refuses an id in neither table, by 7.
+pub(crate) fn unknown_id(core: Core, command: u8, id: u16) -> Decided
+    ensures { λ r. ⌜ r ≡ decidedOf (answers.unknownId core command id) ⌝ }
 {
     sends(
-        readings,
-        table,
+        core,
         Outcome::Refused(paper::UNKNOWN_ID),
-        replies::bare(command, id, paper::FLAG_UNKNOWN_ID),
+        messages::bare(command, id, paper::FLAG_UNKNOWN_ID),
     )
 }
 
-// Ping, App version and Product id: a response with a number; 6 with data.
-fn tells(readings: Readings, table: Table, response: u8, number: u16, bytes: &[u8]) -> Decided
-    ensures { λ r. ⌜ r ≡ decidedOf (answers.tells readings table response number (now (bytes .entry))) ⌝ }
+// Answers Ping, App version and Product id by a response with a number; refuses data by 6.
+fn tells(core: Core, response: u8, number: u16, bytes: &[u8]) -> Decided
+    ensures { λ r. ⌜ r ≡ decidedOf (answers.tells core response number (now (bytes .entry))) ⌝ }
 {
     if bytes.len() != 0 {
-        return malformed(readings, table);
+        return malformed(core);
     }
-    sends(
-        readings,
-        table,
-        Outcome::Answered,
-        replies::number(response, number),
-    )
+    sends(core, Outcome::Answered, messages::number(response, number))
 }
 
-// Restart: readings 0, settings as they are; 6 with data.
-fn restarts(readings: Readings, table: Table, bytes: &[u8]) -> Decided
-    ensures { λ r. ⌜ r ≡ decidedOf (answers.restarts readings table (now (bytes .entry))) ⌝ }
+// Restarts: readings 0, settings as they are; refuses data by 6.
+fn restarts(mut core: Core, bytes: &[u8]) -> Decided
+    ensures { λ r. ⌜ r ≡ decidedOf (answers.restarts core (now (bytes .entry))) ⌝ }
 {
     if bytes.len() != 0 {
-        return malformed(readings, table);
+        return malformed(core);
     }
-    silent(Readings::nothing(), table, Outcome::Restarted)
+    core.readings = Readings::nothing();
+    silent(core, Outcome::Restarted)
 }
 
-// The answer to a whole frame, by its command.
-pub(crate) fn frame_answer(
-    identity: Identity,
-    readings: Readings,
-    table: Table,
-    command: u8,
-    bytes: &[u8],
-) -> Decided
-    requires { ⌜ identityAllowed identity ≡ true ⌝ }
-    ensures { λ r. ⌜ r ≡ decidedOf (answers.frameAnswer readings table identity command (now (bytes .entry))) ⌝ }
+// Answers a whole frame, by its command.
+pub(crate) fn frame_answer(core: Core, command: u8, bytes: &[u8]) -> Decided
+    requires { ⌜ identityAllowed (core .identity) ≡ true ⌝ }
+    ensures { λ r. ⌜ r ≡ decidedOf (answers.frameAnswer core command (now (bytes .entry))) ⌝ }
 {
+    let version = core.identity.version;
+    let product = core.identity.product;
     match command {
-        paper::PING => tells(readings, table, paper::PONG, identity.version, bytes),
-        paper::APP_VERSION => tells(readings, table, paper::DONE, identity.version, bytes),
-        paper::PRODUCT_ID => tells(readings, table, paper::DONE, identity.product, bytes),
-        paper::RESTART => restarts(readings, table, bytes),
-        paper::GET => gets::gets(identity, readings, table, bytes),
-        paper::SET => sets::sets(identity, readings, table, bytes),
-        paper::ASYNC => silent(readings, table, Outcome::Ignored),
-        _ => unknown_command(readings, table, command),
+        paper::PING => tells(core, paper::PONG, version, bytes),
+        paper::APP_VERSION => tells(core, paper::DONE, version, bytes),
+        paper::PRODUCT_ID => tells(core, paper::DONE, product, bytes),
+        paper::RESTART => restarts(core, bytes),
+        paper::GET => gets::answer(core, bytes),
+        paper::SET => sets::answer(core, bytes),
+        paper::ASYNC => silent(core, Outcome::Ignored),
+        _ => unknown_command(core, command),
     }
 }

@@ -1,4 +1,3 @@
-// A Get: the value that an id stands for.
 ghost use mathlib.Core.Path.{_≡_};
 ghost use mathlib.Core.Bool.{true};
 ghost use Rattle.who.specs.Parts.{identityAllowed};
@@ -7,81 +6,78 @@ ghost use Rattle.who.specs.Calls.{valueOf};
 ghost use Rattle.paper.specs.Numbers as paper;
 ghost use Rattle.answers.specs.Answers as answers;
 ghost use Rattle.answers.specs.AsHeld.{decidedOf, Settled};
+use crate::Core;
 use crate::Decided;
 use crate::Outcome;
 use crate::decisions;
 use crate::values;
 use settings::Found;
 use settings::Setting;
-use tables::Table;
-use who::Identity;
-use who::Readings;
 use who::Value;
 use who::Verdict;
 
-// The number that a setting holds, in its width.
-pub(crate) fn held(table: Table, setting: Setting) -> Value
+// Returns the number that a setting holds, in its width.
+pub(crate) fn now_held(core: Core, setting: Setting) -> Value
     requires { ⌜ Settled setting ⌝ }
-    ensures { λ r. ⌜ r ≡ valueOf (answers.heldBytes table setting) ⌝ }
+    ensures { λ r. ⌜ r ≡ valueOf (answers.nowHeld core setting) ⌝ }
 {
-    let held = table.numbers;
+    let table = core.table;
+    let numbers = table.numbers;
     let index = setting.index;
-    values::wide(setting.width, held[index])
+    values::wide(setting.width, numbers[index])
 }
 
-// A Get of a setting.
-fn get_setting(readings: Readings, table: Table, setting: Setting) -> Decided
+// Answers a Get of a setting.
+fn get_setting(core: Core, setting: Setting) -> Decided
     requires { ⌜ Settled setting ⌝ }
-    ensures { λ r. ⌜ r ≡ decidedOf (answers.good readings table paper.getCode (setting .id) (answers.heldBytes table setting)) ⌝ }
+    ensures { λ r. ⌜ r ≡ decidedOf (answers.good core paper.getCode (setting .id) (answers.nowHeld core setting)) ⌝ }
 {
     decisions::says(
-        readings,
-        table,
+        core,
         Outcome::Answered,
         paper::GET,
         setting.id,
         paper::GOOD,
-        held(table, setting),
+        now_held(core, setting),
     )
 }
 
-// A Get of any other id.
-fn get_other(identity: Identity, readings: Readings, table: Table, id: u16) -> Decided
-    requires { ⌜ identityAllowed identity ≡ true ⌝ }
-    ensures { λ r. ⌜ r ≡ decidedOf (answers.getsOther readings table id (readOnly identity readings id)) ⌝ }
+// Answers a Get of any other id: the value of a read-only one, else 7.
+fn get_other(core: Core, id: u16) -> Decided
+    requires { ⌜ identityAllowed (core .identity) ≡ true ⌝ }
+    ensures { λ r. ⌜ r ≡ decidedOf (answers.getsOther core id (readOnly (core .identity) (core .readings) id)) ⌝ }
 {
-    let looked = who::read_only(identity, readings, id);
+    let looked = who::read_only(core.identity, core.readings, id);
     let verdict = looked.verdict;
     let value = looked.value;
     match verdict {
         Verdict::Accepted => decisions::says(
-            readings,
-            table,
+            core,
             Outcome::Answered,
             paper::GET,
             id,
             paper::GOOD,
             value,
         ),
-        Verdict::Refused(_) => decisions::unknown_id(readings, table, paper::GET, id),
+        Verdict::Refused(_) => decisions::unknown_id(core, paper::GET, id),
     }
 }
 
-// A Get: an id and flags 0, and no more.
-pub(crate) fn gets(identity: Identity, readings: Readings, table: Table, bytes: &[u8]) -> Decided
-    requires { ⌜ identityAllowed identity ≡ true ⌝ }
-    ensures { λ r. ⌜ r ≡ decidedOf (answers.getAnswer readings table identity (now (bytes .entry))) ⌝ }
+// Answers a Get: an id and flags 0, and no more.
+pub(crate) fn answer(core: Core, bytes: &[u8]) -> Decided
+    requires { ⌜ identityAllowed (core .identity) ≡ true ⌝ }
+    ensures { λ r. ⌜ r ≡ decidedOf (answers.getAnswer core (now (bytes .entry))) ⌝ }
 {
     if bytes.len() != paper::FRONT {
-        return decisions::malformed(readings, table);
+        return decisions::malformed(core);
     }
     if bytes[2] != 0 {
-        return decisions::malformed(readings, table);
+        return decisions::malformed(core);
     }
     let id = values::number_of(&bytes[..2]);
     let found = settings::find(id);
     match found {
-        Found::At(setting) => get_setting(readings, table, setting),
-        Found::Nothing => get_other(identity, readings, table, id),
+        Found::At(setting) => get_setting(core, setting),
+        Found::Nothing => get_other(core, id),
     }
 }

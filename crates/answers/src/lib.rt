@@ -1,6 +1,7 @@
-// What a board answers to a whole frame, from who it is, its readings and its settings. The call takes anything, and its promise fixes
-// its answer (specs/Calls.antt).
+// What a board answers to a whole frame, from what it is and holds. Every call takes anything, and its promise fixes its answer
+// (specs/Calls.antt).
 ghost use mathlib.Core.Path.{_≡_};
+ghost use Rattle.answers.specs.Answers.{coreAllowed};
 ghost use Rattle.answers.specs.AsHeld.{decidedOf};
 ghost use Rattle.answers.specs.Calls.{answering};
 use tables::Table;
@@ -9,9 +10,16 @@ use who::Readings;
 
 mod decisions;
 mod gets;
-mod replies;
+mod messages;
 mod sets;
 mod values;
+
+// What a board is and holds, whatever its lines have heard: who it is, its settings and its readings.
+pub struct Core {
+    pub identity: Identity,
+    pub table: Table,
+    pub readings: Readings,
+}
 
 // What became of a piece of input: no frame ended, or what the board did about the one that did.
 pub enum Outcome {
@@ -22,41 +30,45 @@ pub enum Outcome {
     Refused(u8),
 }
 
-// What is sent in reply: nothing, the frame of a `Reply`, or the error frame.
+// What is sent in reply: nothing, the frame of a `Message`, or the error frame.
 pub enum Sends {
     Nothing,
     Frame,
     Error,
 }
 
-// A reply: its command, and its data at the front of the array, zeros after them.
-pub struct Reply {
+// A command, and its data at the front of the array, zeros after them.
+pub struct Message {
     pub command: u8,
     pub len: usize,
     pub bytes: [u8; paper::MOST_DATA],
 }
 
-// What a board decides: the outcome, what it sends, and its settings and readings afterwards.
+// What a board decides: the outcome, what it sends, and what it is and holds afterwards.
 pub struct Decided {
     pub outcome: Outcome,
     pub sends: Sends,
-    pub reply: Reply,
-    pub table: Table,
-    pub readings: Readings,
+    pub reply: Message,
+    pub core: Core,
 }
 
-// The answer to a whole frame: 12 for an identity or a table that is not allowed, then 5 to 10.
-pub fn answer(
-    identity: Identity,
-    readings: Readings,
-    table: Table,
-    command: u8,
-    bytes: &[u8],
-) -> Decided
-    ensures { λ r. ⌜ r ≡ decidedOf (answering identity readings table command (now (bytes .entry))) ⌝ }
-{
-    if !(identity.is_allowed() & table.is_allowed()) {
-        return decisions::silent(readings, table, Outcome::Refused(paper::NOT_ALLOWED));
+impl Core {
+    // Returns whether identity and settings are allowed; readings at their widths always are.
+    pub fn is_allowed(self) -> bool
+        ensures { λ r. ⌜ r ≡ coreAllowed self ⌝ }
+    {
+        let identity = self.identity;
+        let table = self.table;
+        identity.is_allowed() & table.is_allowed()
     }
-    decisions::frame_answer(identity, readings, table, command, bytes)
+}
+
+// Returns the answer to a whole frame: 12 for an identity or a table that is not allowed, then 5 to 10.
+pub fn answer(core: Core, command: u8, bytes: &[u8]) -> Decided
+    ensures { λ r. ⌜ r ≡ decidedOf (answering core command (now (bytes .entry))) ⌝ }
+{
+    if !core.is_allowed() {
+        return decisions::silent(core, Outcome::Refused(paper::NOT_ALLOWED));
+    }
+    decisions::frame_answer(core, command, bytes)
 }

@@ -1,39 +1,29 @@
-// A Set: the table decides.
 ghost use mathlib.Core.Path.{_≡_};
 ghost use mathlib.Core.Bool.{true};
 ghost use Rattle.who.specs.Parts.{identityAllowed};
 ghost use Rattle.who.specs.Values.{readOnly};
 ghost use Rattle.answers.specs.Answers as answers;
 ghost use Rattle.answers.specs.AsHeld.{decidedOf, Settled};
+use crate::Core;
 use crate::Decided;
 use crate::Outcome;
 use crate::decisions;
 use crate::gets;
-use crate::replies;
+use crate::messages;
 use crate::values;
 use settings::Found;
 use settings::Setting;
 use tables::Answer;
-use tables::Table;
-use who::Identity;
-use who::Readings;
 use who::Verdict;
 
-// What the table made of a number, answered.
-fn stored(
-    readings: Readings,
-    table: Table,
-    setting: Setting,
-    number: u16,
-    answer: Answer,
-) -> Decided
+// Answers by what the table made of a number; `core` has the table afterwards.
+fn stored(core: Core, setting: Setting, number: u16, answer: Answer) -> Decided
     requires { ⌜ Settled setting ⌝ }
-    ensures { λ r. ⌜ r ≡ decidedOf (answers.stored readings setting number table answer) ⌝ }
+    ensures { λ r. ⌜ r ≡ decidedOf (answers.stored core setting number answer) ⌝ }
 {
     match answer {
         Answer::Accepted => decisions::says(
-            readings,
-            table,
+            core,
             Outcome::Answered,
             paper::SET,
             setting.id,
@@ -44,8 +34,7 @@ fn stored(
             number: refusal,
             nearest,
         } => decisions::says(
-            readings,
-            table,
+            core,
             Outcome::Refused(refusal),
             paper::SET,
             setting.id,
@@ -55,62 +44,62 @@ fn stored(
     }
 }
 
-// A Set of a setting: 9 for another width than its own; else what the table makes of the number.
-fn set_setting(readings: Readings, table: Table, setting: Setting, value: &[u8]) -> Decided
+// Answers a Set of a setting: 9 for another width than its own; else what the table makes of the number.
+fn set_setting(mut core: Core, setting: Setting, value: &[u8]) -> Decided
     requires { ⌜ Settled setting ⌝ }
-    ensures { λ r. ⌜ r ≡ decidedOf (answers.setsSetting readings table setting (now (value .entry))) ⌝ }
+    ensures { λ r. ⌜ r ≡ decidedOf (answers.setsSetting core setting (now (value .entry))) ⌝ }
 {
     if value.len() != setting.width {
         return decisions::says(
-            readings,
-            table,
+            core,
             Outcome::Refused(paper::WRONG_WIDTH),
             paper::SET,
             setting.id,
             paper::FLAG_PARAMETER,
-            gets::held(table, setting),
+            gets::now_held(core, setting),
         );
     }
     let number = values::number_of(value);
+    let table = core.table;
     let change = table.set(setting.index, number);
     let after = change.table;
     let answer = change.answer;
-    stored(readings, after, setting, number, answer)
+    core.table = after;
+    stored(core, setting, number, answer)
 }
 
-// A Set of any other id: 8 for a read-only one, else 7.
-fn set_other(identity: Identity, readings: Readings, table: Table, id: u16) -> Decided
-    requires { ⌜ identityAllowed identity ≡ true ⌝ }
-    ensures { λ r. ⌜ r ≡ decidedOf (answers.setsOther readings table id (readOnly identity readings id)) ⌝ }
+// Refuses a Set of any other id: 8 for a read-only one, else 7.
+fn set_other(core: Core, id: u16) -> Decided
+    requires { ⌜ identityAllowed (core .identity) ≡ true ⌝ }
+    ensures { λ r. ⌜ r ≡ decidedOf (answers.setsOther core id (readOnly (core .identity) (core .readings) id)) ⌝ }
 {
-    let looked = who::read_only(identity, readings, id);
+    let looked = who::read_only(core.identity, core.readings, id);
     let verdict = looked.verdict;
     match verdict {
         Verdict::Accepted => decisions::sends(
-            readings,
-            table,
+            core,
             Outcome::Refused(paper::READ_ONLY),
-            replies::bare(paper::SET, id, paper::FLAG_NOT_SUPPORTED),
+            messages::bare(paper::SET, id, paper::FLAG_NOT_SUPPORTED),
         ),
-        Verdict::Refused(_) => decisions::unknown_id(readings, table, paper::SET, id),
+        Verdict::Refused(_) => decisions::unknown_id(core, paper::SET, id),
     }
 }
 
-// A Set: an id, flags 0 and a value.
-pub(crate) fn sets(identity: Identity, readings: Readings, table: Table, bytes: &[u8]) -> Decided
-    requires { ⌜ identityAllowed identity ≡ true ⌝ }
-    ensures { λ r. ⌜ r ≡ decidedOf (answers.setAnswer readings table identity (now (bytes .entry))) ⌝ }
+// Answers a Set: an id, flags 0 and a value.
+pub(crate) fn answer(core: Core, bytes: &[u8]) -> Decided
+    requires { ⌜ identityAllowed (core .identity) ≡ true ⌝ }
+    ensures { λ r. ⌜ r ≡ decidedOf (answers.setAnswer core (now (bytes .entry))) ⌝ }
 {
     if bytes.len() < paper::FRONT {
-        return decisions::malformed(readings, table);
+        return decisions::malformed(core);
     }
     if bytes[2] != 0 {
-        return decisions::malformed(readings, table);
+        return decisions::malformed(core);
     }
     let id = values::number_of(&bytes[..2]);
     let found = settings::find(id);
     match found {
-        Found::At(setting) => set_setting(readings, table, setting, &bytes[paper::FRONT..]),
-        Found::Nothing => set_other(identity, readings, table, id),
+        Found::At(setting) => set_setting(core, setting, &bytes[paper::FRONT..]),
+        Found::Nothing => set_other(core, id),
     }
 }

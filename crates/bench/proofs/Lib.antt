@@ -1,6 +1,4 @@
 -- Laws of the definitions of specs/, and what the proofs of the functions cite.
 pub mod Streaming
 pub mod Running
-pub mod Told
-pub mod Theorems
 pub mod Same

@@ -1,33 +1,26 @@
 -- The board, call by call. Assumes nothing.
 use mathlib.Core.Path.{_≡_, refl, sym, ap, ap₂, subst, _∙_}
-use mathlib.Core.Bool.{Bool, true, false}
 use mathlib.Core.List.{List, [], _∷_, _++_, append-nil, append-assoc}
 use Prim.Native.Nat.{ℕ, _+_, _-_, _≤_, _<_, min}
 use native.Mathlib.Omega.{arith}
 use native.Mathlib.Nat.{zero-add}
-use borrow.Author.Tests.{ltb-true, ltb-false}
 use lib.ListN.{length, take, drop, getD, length-take, length-drop, length-append, drop-of-length-le}
 use lib.Seq.{sets, sets-eq, length-sets, drop-drop}
-use lib.Dec.{ltb}
 use lib.IntN.{ℤ}
 use mir.Val.{SFits, toZ, ofZ}
 use mir.ValLaws.{toZ-ofZ}
 use mir.Syntax.{w64}
-use Rattle.laws.specs.Promise.{Given, Gives, overlaid}
+use Rattle.laws.specs.Promise.{Gives, overlaid}
 use Rattle.laws.proofs.Lists.{drop-turn, sets-append, part-to-end}
 use Rattle.laws.proofs.Promise.{overlaid-sets}
-use Rattle.stream.specs.Calls.{unfinished}
-use Rattle.stream.proofs.Streams.{taken-within}
 use Rattle.tables.specs.Rules.{factory}
-use Rattle.board.specs.Parts.{boardAllowed}
-use Rattle.board.specs.Calls.{starting, storing, decidedBy, heardBy, answering}
+use Rattle.board.specs.Calls.{starting, storing, answering}
 use Rattle.board.specs.AsHeld.{whole}
 use Rattle.board.specs.declared.Board.{Board}
 use Rattle.board.specs.declared.Sample.{Sample}
 use Rattle.board.specs.declared.Judged.{Judged}
 use Rattle.board.specs.declared.Answered.{Answered}
-use Rattle.board.proofs.Lines.{answering-short, answering-stray, answering-heard}
-use Rattle.board.proofs.Theorems.{reply-is-read}
+use Rattle.board.proofs.Replying.{bounded}
 use Rattle.bench.specs.Calls.{begunBoard, running}
 use Rattle.bench.proofs.Streaming.{piece-is}
 
@@ -47,37 +40,17 @@ given-kept voltage current fine consumed charge v i f a q =
 
 -- a row of calls, the first and the others
 module _ (board : Board) (bytes : List ℕ) (room : ℕ) where
-  pub running-none : running board bytes [] room ≡ []
+  running-none : running board bytes [] room ≡ []
   unfolding running
   running-none = refl
 
-  pub running-more : (size : ℕ) (more : List ℕ)
+  running-more : (size : ℕ) (more : List ℕ)
       → running board bytes (size ∷ more) room
       ≡ answering board (take size bytes) room .written
       ++ running (answering board (take size bytes) room .answer .board) (drop (answering board (take size bytes) room .answer .taken) bytes) more
       (room - length (answering board (take size bytes) room .written))
   unfolding running
   running-more size more = refl
-
--- the bounds of a call on any board with any room
-pub record Bounded (piece : List ℕ) (room : ℕ) (given : Given Answered) : Type 0 where
-  pub within : given .answer .taken ≤ length piece
-  pub len-is : given .answer .len ≡ length (given .written)
-  pub short : length (given .written) ≤ room
-
-pub bounded : (board : Board) (piece : List ℕ) (room : ℕ) → Bounded piece room (answering board piece room)
-unfolding heardBy decidedBy
-bounded board piece room = by (ltb room 75) (boardAllowed board) refl refl
-  where
-    by : (s t : Bool) → ltb room 75 ≡ s → boardAllowed board ≡ t → Bounded piece room (answering board piece room)
-    by true t e f = rw (answering-short board piece room (ltb-true room 75 e)) (record { within = omega arith; len-is = refl; short = omega arith })
-    by false false e f = rw (answering-stray board piece room (ltb-false room 75 e) f) (record { within = omega arith; len-is = refl; short = omega arith })
-    by false true e f =
-        let enough : 75 ≤ room = ltb-false room 75 e in
-        let short : length (answering board piece room .written) ≤ 75 = reply-is-read board piece room f enough .short in
-        let few : length (answering board piece room .written) ≤ room = omega arith in
-        let is = answering-heard board piece room enough f in
-        rw is (record { within = taken-within (unfinished (board .held)) piece; len-is = refl; short = rw is at few })
 
 -- bytes laid over the part of a buffer from a place on are stores from there on
 part-laid : (out w : List ℕ) (at : ℕ) → at ≤ length out → length w ≤ length out - at

@@ -1,3 +1,2 @@
--- The bench: what its two calls answer, and what is proved of it. Read them in this order.
+-- The bench: what its two calls answer.
 pub mod Calls
-pub mod Laws

@@ -14,7 +14,7 @@ use stream::Event;
 use stream::Held;
 
 // Reads `bytes` from outside a frame in as many calls as there are sizes, each handed at most that many of the bytes not taken yet; `into`
-// is lent to every call. Answers the number of frames read well.
+// is lent to every call. Returns the number of frames read well.
 #[no_mangle]
 pub extern "C" fn reedsatchel_bench_stream(bytes: &[u8], sizes: &[u32], into: &mut [u8]) -> u64
     ensures { λ r. ⌜ Streamed (streaming (heldOf outside) (now (bytes .entry)) (now (sizes .entry)) (length (now (into .entry)))) (now (into .entry)) r (now (into .exit)) ⌝ }
@@ -36,8 +36,8 @@ pub extern "C" fn reedsatchel_bench_stream(bytes: &[u8], sizes: &[u32], into: &m
     count
 }
 
-// A factory board of this identity and these readings, handed `bytes` in the same way; its replies stand end to end at the front of `out`,
-// each call being lent what is left of it. Answers their length together.
+// Hands `bytes` in the same way to a factory board of this identity and these readings; its replies stand end to end at the front of
+// `out`, each call being lent what is left of it. Returns their length together.
 #[no_mangle]
 pub extern "C" fn reedsatchel_bench_board(
     product: u16,
@@ -65,7 +65,7 @@ pub extern "C" fn reedsatchel_bench_board(
     run(board, bytes, sizes, out) as u64
 }
 
-// One call on a board for each size, its replies end to end.
+// Makes one call on a board for each size, its replies end to end.
 fn run(board: Board, bytes: &[u8], sizes: &[u32], out: &mut [u8]) -> usize
     ensures { λ r. ⌜ Gives ℕ (whole (running board (now (bytes .entry)) (now (sizes .entry)) (length (now (out .entry))))) (now (out .entry)) r (now (out .exit)) ⌝ }
 {
@@ -85,7 +85,7 @@ fn run(board: Board, bytes: &[u8], sizes: &[u32], out: &mut [u8]) -> usize
     len
 }
 
-// The smaller of a size and what is left.
+// Returns the smaller of a size and what is left.
 fn least(size: u32, left: usize) -> usize
     ensures { λ r. ⌜ r ≡ min size left ⌝ }
 {
@@ -93,7 +93,7 @@ fn least(size: u32, left: usize) -> usize
     if n < left { n } else { left }
 }
 
-// 1 for a frame that was read well.
+// Returns 1 for a frame that was read well, else 0.
 fn good_in(event: Event) -> u64
     ensures { λ r. ⌜ r ≡ goodIn event ⌝ }
 {
@@ -104,7 +104,7 @@ fn good_in(event: Event) -> u64
     }
 }
 
-// A factory board with its first readings, or what a refused start or store leaves.
+// Returns a factory board with its first readings, or what a refused start or store leaves.
 fn begun(product: u16, version: u16, serial: &[u8], given: Sample) -> Board
     ensures { λ r. ⌜ r ≡ begunBoard product version (now (serial .entry)) given ⌝ }
 {

@@ -19,6 +19,7 @@ use Rattle.tables.specs.declared.Table.{Table}
 use Rattle.who.specs.Parts.{serialFits, serialOf}
 use Rattle.who.specs.declared.Identity.{Identity}
 use Rattle.who.proofs.Serials.{identity-back, serial-fits-back}
+use Rattle.answers.proofs.Deciding.{identity-allowed, table-allowed}
 use Rattle.board.specs.Parts.{freshBoard, sampleFits, readingsOf, boardAllowed}
 use Rattle.board.specs.Calls.{refusedStart, starting, storing, endedIn, deciding, decidedBy, heardBy, answering}
 use Rattle.board.specs.Laws.{Given-by, a-start, a-store, a-call, Typed, AllowedIsGiven}
@@ -26,38 +27,38 @@ use Rattle.board.specs.declared.Board.{Board}
 use Rattle.board.specs.declared.Sample.{Sample}
 use Rattle.board.specs.declared.Answered.{Answered}
 use Rattle.board.proofs.Starts.{start-allowed, start-accepted, start-refused, store-accepted, store-refused, store-allowed}
-use Rattle.board.proofs.Lines.{identity-allowed, table-allowed, held-allowed, answering-short, answering-stray, answering-heard}
+use Rattle.board.proofs.Pieces.{core-allowed, held-allowed, answering-short, answering-stray, answering-heard}
 use Rattle.board.proofs.Keeping.{cases, decided-count, answer-allowed}
 
 -- what is given is allowed, and its table has its numbers
 start-count : (product version : ℕ) (serial : List ℕ) (table : Table) → length (table .numbers) ≡ count
-    → length (starting product version serial table .board .table .numbers) ≡ count
+    → length (starting product version serial table .board .core .table .numbers) ≡ count
 unfolding freshBoard refusedStart
 start-count product version serial table long = by (serialFits serial && allowed table) refl
   where
-    by : (b : Bool) → (serialFits serial && allowed table) ≡ b → length (starting product version serial table .board .table .numbers) ≡ count
+    by : (b : Bool) → (serialFits serial && allowed table) ≡ b → length (starting product version serial table .board .core .table .numbers) ≡ count
     by true e = rw (start-accepted product version serial table e) long
     by false e = rw (start-refused product version serial table e)
 
-store-count : (board : Board) (given : Sample) → storing board given .board .table ≡ board .table
+store-count : (board : Board) (given : Sample) → storing board given .board .core .table ≡ board .core .table
 store-count board given = by (boardAllowed board && sampleFits given) refl
   where
-    by : (b : Bool) → (boardAllowed board && sampleFits given) ≡ b → storing board given .board .table ≡ board .table
+    by : (b : Bool) → (boardAllowed board && sampleFits given) ≡ b → storing board given .board .core .table ≡ board .core .table
     by true e = rw (store-accepted board given e)
     by false e = rw (store-refused board given e)
 
-heard-count : (board : Board) (piece : List ℕ) → length (board .table .numbers) ≡ count → length (heardBy board piece .answer .board .table .numbers) ≡ count
+heard-count : (board : Board) (piece : List ℕ) → length (board .core .table .numbers) ≡ count → length (heardBy board piece .answer .board .core .table .numbers) ≡ count
 unfolding heardBy decidedBy
-heard-count board piece long = decided-count board long (endedIn board piece)
+heard-count board piece long = decided-count (board .core) long (endedIn (board .held) piece)
 
-call-count : (board : Board) (piece : List ℕ) (room : ℕ) → length (board .table .numbers) ≡ count → length (answering board piece room .answer .board .table .numbers) ≡ count
+pub call-count : (board : Board) (piece : List ℕ) (room : ℕ) → length (board .core .table .numbers) ≡ count → length (answering board piece room .answer .board .core .table .numbers) ≡ count
 call-count board piece room long =
-    cases board piece room (λ (g : Given Answered). length (g .answer .board .table .numbers) ≡ count)
+    cases board piece room (λ (g : Given Answered). length (g .answer .board .core .table .numbers) ≡ count)
     (λ h. rw (answering-short board piece room h) long)
     (λ h e. rw (answering-stray board piece room h e) long)
     (λ h e. rw (answering-heard board piece room h e) (heard-count board piece long))
 
-given-both : (board : Board) → Given-by board → (boardAllowed board ≡ true) × (length (board .table .numbers) ≡ count)
+given-both : (board : Board) → Given-by board → (boardAllowed board ≡ true) × (length (board .core .table .numbers) ≡ count)
 given-both _ (a-start product version serial table long) = (start-allowed product version serial table, start-count product version serial table long)
 given-both _ (a-store {board} given g) =
     let both-are = given-both board g in (store-allowed board given (both-are .0), ap (λ (t : Table). length (t .numbers)) (store-count board given) ∙ both-are .1)
@@ -68,38 +69,38 @@ given-both _ (a-call {board} piece room g) =
 abbrev sampleOf : Board → Sample
 sampleOf board =
     record {
-      voltage = board .readings .voltage;
-      current = board .readings .current;
-      fine = board .readings .fine;
-      consumed = board .readings .consumed;
-      charge = pos (board .readings .charge);
+      voltage = board .core .readings .voltage;
+      current = board .core .readings .current;
+      fine = board .core .readings .fine;
+      consumed = board .core .readings .consumed;
+      charge = pos (board .core .readings .charge);
     }
 
 -- a board at rest, but else the same
 abbrev resting : Board → Board
-resting board = record { identity = board .identity; table = board .table; readings = board .readings; held = stream.heldOf outside }
+resting board = record { core = board .core; held = stream.heldOf outside }
 
 module _ (board : Board) (typed : Typed board) (ok : boardAllowed board ≡ true) where
-  started-is : starting (board .identity .product) (board .identity .version) (serialOf (board .identity)) (board .table) .board ≡ freshBoard (board .identity) (board .table)
+  started-is : starting (board .core .identity .product) (board .core .identity .version) (serialOf (board .core .identity)) (board .core .table) .board ≡ freshBoard (board .core .identity) (board .core .table)
   started-is =
-      let fits : serialFits (serialOf (board .identity)) ≡ true = serial-fits-back (board .identity) (typed .serial-long) (identity-allowed board ok) in
-      rw (start-accepted (board .identity .product) (board .identity .version) (serialOf (board .identity)) (board .table) (both _ _ fits (table-allowed board ok)))
-      (ap (λ (i : Identity). freshBoard i (board .table)) (identity-back (board .identity) (typed .serial-long) (identity-allowed board ok)))
+      let fits : serialFits (serialOf (board .core .identity)) ≡ true = serial-fits-back (board .core .identity) (typed .serial-long) (identity-allowed (board .core) (core-allowed board ok)) in
+      rw (start-accepted (board .core .identity .product) (board .core .identity .version) (serialOf (board .core .identity)) (board .core .table) (both _ _ fits (table-allowed (board .core) (core-allowed board ok))))
+      (ap (λ (i : Identity). freshBoard i (board .core .table)) (identity-back (board .core .identity) (typed .serial-long) (identity-allowed (board .core) (core-allowed board ok))))
 
-  given-start : Given-by (freshBoard (board .identity) (board .table))
-  given-start = subst Given-by started-is (a-start _ _ _ (board .table) (typed .numbers-long))
+  given-start : Given-by (freshBoard (board .core .identity) (board .core .table))
+  given-start = subst Given-by started-is (a-start _ _ _ (board .core .table) (typed .numbers-long))
 
   sample-fits : sampleFits (sampleOf board) ≡ true
   unfolding sampleFits
   sample-fits =
       both _ _ (both _ _ (both _ _ (both _ _ (typed .voltage-fits) (typed .current-fits)) (typed .fine-fits)) (typed .consumed-fits)) (typed .charge-fits)
 
-  fresh-ok : boardAllowed (freshBoard (board .identity) (board .table)) ≡ true
+  fresh-ok : boardAllowed (freshBoard (board .core .identity) (board .core .table)) ≡ true
   fresh-ok = given-both _ given-start .0
 
-  stored-is : storing (freshBoard (board .identity) (board .table)) (sampleOf board) .board ≡ resting board
+  stored-is : storing (freshBoard (board .core .identity) (board .core .table)) (sampleOf board) .board ≡ resting board
   unfolding freshBoard readingsOf
-  stored-is = rw (store-accepted (freshBoard (board .identity) (board .table)) (sampleOf board) (both _ _ fresh-ok sample-fits))
+  stored-is = rw (store-accepted (freshBoard (board .core .identity) (board .core .table)) (sampleOf board) (both _ _ fresh-ok sample-fits))
 
   given-store : Given-by (resting board)
   given-store = subst Given-by stored-is (a-store (sampleOf board) given-start)

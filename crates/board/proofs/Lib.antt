@@ -1,9 +1,8 @@
 -- Laws of the definitions of specs/, and what the proofs of the functions cite.
 pub mod Signs
-pub mod Unfinished
 pub mod Starts
 pub mod Sending
-pub mod Lines
+pub mod Pieces
 pub mod Keeping
 pub mod Replying
 pub mod Giving

@@ -7,6 +7,7 @@ use native.Mathlib.Omega.{arith}
 use borrow.Author.Tests.{leb-true}
 use lib.ListN.{length, take}
 use lib.Seq.{take-length}
+use Rattle.laws.specs.Promise.{Given}
 use Rattle.wire.specs.Digits.{digit}
 use Rattle.wire.specs.Frame.{check, body, frame}
 use Rattle.wire.specs.Reading.{Ended, good, refused}
@@ -16,23 +17,28 @@ use Rattle.wire.specs.Laws.{Writable}
 use Rattle.stream.specs.Laws.{Writables, nothing, whole}
 use Rattle.wire.proofs.Frames.{length-frame}
 use Rattle.stream.proofs.Reached.{unfinished-kept}
+use Rattle.stream.proofs.Streams.{taken-within}
 use Rattle.stream.proofs.Theorems.{written-is-heard, heard-is-writable}
 use Rattle.settings.specs.Columns.{count, idAt, widthAt}
 use Rattle.settings.proofs.Theorems.{rows-hold}
 use Rattle.endian.specs.Numbers.{little}
 use Rattle.answers.specs.Requests.{getRequest, setRequest}
 use Rattle.paper.specs.Numbers.{getCode, setCode}
-use Rattle.answers.specs.Answers.{Sent, silent, sent, error, Decision, said, frameAnswer}
+use Rattle.answers.specs.Answers.{coreAllowed, Sent, silent, sent, error, Decision, said, frameAnswer}
+use Rattle.answers.specs.declared.Core.{Core}
 use Rattle.answers.specs.Laws.{Fits, a-frame, an-error}
 use Rattle.answers.specs.Laws as fitting
 use Rattle.answers.proofs.Theorems.{replies-fit, get-answers-held, set-stores-it, set-refused-names-nearest}
 use Rattle.endian.proofs.Little.{length-little, bytes-little}
+use Rattle.answers.proofs.Deciding.{identity-allowed, table-allowed}
 use Rattle.answers.proofs.Fitting.{writable-said}
 use Rattle.board.specs.Parts.{boardAllowed}
 use Rattle.board.specs.Calls.{errorFrame, replyBytes, endedIn, deciding, decidedBy, heardBy, answering}
 use Rattle.board.specs.Laws.{Readable, ReplyIsRead, atRest, WholeIsAnswered, GetAnswersHeld, SetStoresIt, SetRefusedNamesNearest}
 use Rattle.board.specs.declared.Board.{Board}
-use Rattle.board.proofs.Lines.{identity-allowed, table-allowed, answering-heard}
+use Rattle.board.specs.declared.Answered.{Answered}
+use Rattle.board.proofs.Pieces.{core-allowed, answering-short, answering-stray, answering-heard}
+use Rattle.board.proofs.Keeping.{cases}
 
 -- the bytes of a frame that the writer takes: that frame, and no other
 record Alone (command : ℕ) (bytes : List ℕ) : Type 0 where
@@ -65,22 +71,38 @@ readable error f =
     let one : Alone 4 (0xAA ∷ 0xAA ∷ []) = alone 4 (0xAA ∷ 0xAA ∷ []) w in
     record { short = leb-true 9 75 refl; frames-are = ap framesOf error-frame ∙ one .frames-are; none-left = ap leftBy error-frame ∙ one .none-left }
 
-decided-fits : (board : Board) → boardAllowed board ≡ true → (fs : List Ended) → Writables fs → Fits (deciding board fs .reply)
+decided-fits : (core : Core) → coreAllowed core ≡ true → (fs : List Ended) → Writables fs → Fits (deciding core fs .reply)
 unfolding deciding
-decided-fits board ok [] w = fitting.nothing
-decided-fits board ok (good command bytes ∷ rest) (whole w others) =
+decided-fits core ok [] w = fitting.nothing
+decided-fits core ok (good command bytes ∷ rest) (whole w others) =
     let low : command ≤ 15 = w .nibble in
-    replies-fit (board .readings) (board .table) (board .identity) command bytes (identity-allowed board ok) (omega arith)
-decided-fits board ok (refused number ∷ rest) w = an-error
+    replies-fit core command bytes (identity-allowed core ok) (omega arith)
+decided-fits core ok (refused number ∷ rest) w = an-error
 
-heard-readable : (board : Board) (piece : List ℕ) → boardAllowed board ≡ true → Readable (deciding board (endedIn board piece) .reply) (heardBy board piece .written)
+heard-readable : (board : Board) (piece : List ℕ) → boardAllowed board ≡ true → Readable (deciding (board .core) (endedIn (board .held) piece) .reply) (heardBy board piece .written)
 unfolding heardBy decidedBy
 heard-readable board piece ok =
     let u = stream.unfinished (board .held) in
-    readable _ (decided-fits board ok (endedIn board piece) (heard-is-writable u (take (taken u piece) piece)))
+    readable _ (decided-fits (board .core) (core-allowed board ok) (endedIn (board .held) piece) (heard-is-writable u (take (taken u piece) piece)))
 
 pub reply-read : ReplyIsRead
 reply-read board piece room ok h = rw (answering-heard board piece room h ok) (heard-readable board piece ok)
+
+-- the bounds of a call on any board with any room
+pub record Bounded (piece : List ℕ) (room : ℕ) (given : Given Answered) : Type 0 where
+  pub within : given .answer .taken ≤ length piece
+  pub len-is : given .answer .len ≡ length (given .written)
+  pub short : length (given .written) ≤ room
+
+pub bounded : (board : Board) (piece : List ℕ) (room : ℕ) → Bounded piece room (answering board piece room)
+unfolding heardBy decidedBy
+bounded board piece room =
+    cases board piece room (Bounded piece room)
+    (λ h. rw (answering-short board piece room h) (record { within = omega arith; len-is = refl; short = omega arith }))
+    (λ h e. rw (answering-stray board piece room h e) (record { within = omega arith; len-is = refl; short = omega arith }))
+    (λ h e.
+    let few : length (heardBy board piece .written) ≤ 75 = heard-readable board piece e .short in
+    rw (answering-heard board piece room h e) (record { within = taken-within (stream.unfinished (board .held)) piece; len-is = refl; short = omega arith }))
 
 -- a whole frame at a board that is at rest
 module _ (board : Board) (command : ℕ) (bytes : List ℕ) (rest : atRest board) (w : Writable command bytes) where
@@ -88,7 +110,7 @@ module _ (board : Board) (command : ℕ) (bytes : List ℕ) (rest : atRest board
   at-outside = ap stream.unfinished rest ∙ unfinished-kept outside
 
   whole-heard : heardBy board (frame command bytes)
-      ≡ decidedBy board (board .held) (frameAnswer (board .readings) (board .table) (board .identity) command bytes) (length (frame command bytes))
+      ≡ decidedBy (board .held) (frameAnswer (board .core) command bytes) (length (frame command bytes))
   unfolding heardBy deciding
   whole-heard =
       let one : Alone command bytes = alone command bytes w in
@@ -111,26 +133,26 @@ module _ (board : Board) (k : ℕ) (h : k < count) (rest : atRest board) (ok : b
       writable-said setCode (idAt k) 0 (little (widthAt k) n) (leb-true 8 15 refl) (leb-true 1 256 refl)
       (rw (length-little (widthAt k) n) (omega arith)) (bytes-little (widthAt k) n)
 
-  set-whole : (n : ℕ) (d : Decision) → frameAnswer (board .readings) (board .table) (board .identity) setCode (said (idAt k) 0 (little (widthAt k) n)) ≡ d
-      → answering board (setRequest k n) room ≡ decidedBy board (board .held) d (length (setRequest k n))
+  set-whole : (n : ℕ) (d : Decision) → frameAnswer (board .core) setCode (said (idAt k) 0 (little (widthAt k) n)) ≡ d
+      → answering board (setRequest k n) room ≡ decidedBy (board .held) d (length (setRequest k n))
   set-whole n d e = whole-answered board setCode (said (idAt k) 0 (little (widthAt k) n)) room ok rest (set-writable n) enough ∙ rw e
 
-  get-whole : (d : Decision) → frameAnswer (board .readings) (board .table) (board .identity) getCode (said (idAt k) 0 []) ≡ d
-      → answering board (getRequest (idAt k)) room ≡ decidedBy board (board .held) d (length (getRequest (idAt k)))
+  get-whole : (d : Decision) → frameAnswer (board .core) getCode (said (idAt k) 0 []) ≡ d
+      → answering board (getRequest (idAt k)) room ≡ decidedBy (board .held) d (length (getRequest (idAt k)))
   get-whole d e = whole-answered board getCode (said (idAt k) 0 []) room ok rest get-writable enough ∙ rw e
 
 pub get-held : GetAnswersHeld
 unfolding decidedBy
 get-held board k room ok rest h enough =
-    get-whole board k h rest ok room enough _ (get-answers-held (board .readings) (board .table) (board .identity) k h)
+    get-whole board k h rest ok room enough _ (get-answers-held (board .core) k h)
 
 pub set-stores : SetStoresIt
 unfolding decidedBy
 set-stores board k n room ok rest h enough fits =
-    set-whole board k h rest ok room enough n _ (set-stores-it (board .readings) (board .table) (board .identity) k n (table-allowed board ok) h fits)
+    set-whole board k h rest ok room enough n _ (set-stores-it (board .core) k n (table-allowed (board .core) (core-allowed board ok)) h fits)
 
 pub set-names : SetRefusedNamesNearest
 unfolding decidedBy
 set-names board k n room ok rest h enough small bad =
-    let refused = set-refused-names-nearest (board .readings) (board .table) (board .identity) k n (table-allowed board ok) h small bad in
+    let refused = set-refused-names-nearest (board .core) k n (table-allowed (board .core) (core-allowed board ok)) h small bad in
     (refused .0, refused .1, set-whole board k h rest ok room enough n _ (refused .2))

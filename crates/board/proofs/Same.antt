@@ -1,5 +1,6 @@
 -- Two answers that meet a call's own contract are the same. `Post` is what the call ensures, as its source states it. Assumes nothing.
 use mathlib.Core.Path.{_≡_}
+use mathlib.Core.Bool.{Bool}
 use mathlib.Core.List.{List}
 use Prim.Native.Nat.{ℕ}
 use denote.Ref.{RefT, now}
@@ -14,6 +15,7 @@ use Rattle.board.proofs.Board.start.Reads as start
 use Rattle.board.proofs.Board.start_factory.Reads as start-factory
 use Rattle.board.proofs.Board.store.Reads as store
 use Rattle.board.proofs.Board.answer.Reads as answer
+use Rattle.board.proofs.Board.is_allowed.Reads as is-allowed
 
 module _ (κs : Lfts 1) (product version : ℕ) (serial : RefT (List ℕ)) (r r′ : Judged) where
   pub start-same : (table : Table) → start.Post κs (product, (version, (serial, (table, tt)))) r (product, (version, (serial, (table, tt))))
@@ -32,3 +34,6 @@ module _ (κs : Lfts 2) (board : Board) (piece reply reply₁ reply₂ : RefT (L
   pub answer-same : answer.Post κs (board, (piece, (reply, tt))) r (board, (piece, (reply₁, tt)))
       → answer.Post κs (board, (piece, (reply, tt))) r′ (board, (piece, (reply₂, tt))) → (r ≡ r′) × (now reply₁ ≡ now reply₂)
   answer-same met met′ = gives-same met met′
+
+pub is-allowed-same : (board : Board) (r r′ : Bool) → is-allowed.Post tt (board, tt) r (board, tt) → is-allowed.Post tt (board, tt) r′ (board, tt) → r ≡ r′
+is-allowed-same board r r′ met met′ = equal-same met met′

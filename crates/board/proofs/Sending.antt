@@ -11,21 +11,21 @@ use Rattle.wire.specs.Frame.{frame}
 use Rattle.wire.specs.Calls.{writing, writtenAs}
 use Rattle.wire.specs.declared.Written.{Written}
 use Rattle.wire.proofs.Answers.{writing-made}
+use Rattle.stream.specs.declared.Held.{Held}
 use Rattle.answers.specs.Answers.{Sent, silent, sent, error, Decision}
-use Rattle.answers.specs.AsHeld.{replyOf, sendsOf, replyIn, decidedOf}
+use Rattle.answers.specs.AsHeld.{messageOf, sendsOf, messageIn, decidedOf}
 use Rattle.answers.specs.Laws.{Fits, nothing, a-frame, an-error}
 use Rattle.answers.specs.declared.Decided.{Decided}
 use Rattle.board.specs.Calls.{replyBytes, decidedBy}
 use Rattle.board.specs.AsHeld.{whole, sentBy}
-use Rattle.board.specs.declared.Board.{Board}
 use Rattle.board.specs.declared.Answered.{Answered}
 
 pub front-back : (front rest : List ℕ) → take (length front) (overlaid front rest) ≡ front
 unfolding overlaid
 front-back front rest = take-append-seam front _
 
-sent-is : (s : Sent) → sentBy (sendsOf s) (replyIn s) ≡ whole (replyBytes s)
-unfolding sentBy replyOf
+sent-is : (s : Sent) → sentBy (sendsOf s) (messageIn s) ≡ whole (replyBytes s)
+unfolding sentBy messageOf
 sent-is silent = refl
 sent-is (sent command bytes) = ap (λ (l : List ℕ). whole (frame command l)) (front-back bytes _)
 sent-is error = refl
@@ -36,29 +36,23 @@ pub record Sendable (d : Decided) : Type 0 where
   pub few : d .reply .len ≤ 35
 
 pub sendable : (d : Decision) → Fits (d .reply) → Sendable (decidedOf d)
-unfolding decidedOf replyOf
+unfolding decidedOf messageOf
 sendable d fits = by (d .reply) fits
   where
-    by : (s : Sent) → Fits s → Sendable (record { outcome = d .outcome; sends = sendsOf s; reply = replyIn s; table = d .table; readings = d .readings })
+    by : (s : Sent) → Fits s → Sendable (record { outcome = d .outcome; sends = sendsOf s; reply = messageIn s; core = d .core })
     by silent nothing = record { nibble = leb-true 0 15 refl; few = leb-true 0 35 refl }
     by (sent command bytes) (a-frame w) = record { nibble = w .nibble; few = w .few }
     by error an-error = record { nibble = leb-true 0 15 refl; few = leb-true 0 35 refl }
 
 -- a decision carried out
-abbrev pub carriedOut : Board → Decided → ℕ → ℕ → Answered
-carriedOut board d len count =
-    record {
-      board = record { identity = board .identity; table = d .table; readings = d .readings; held = board .held };
-      outcome = d .outcome;
-      len = len;
-      taken = count;
-    }
+abbrev pub carriedOut : Held → Decided → ℕ → ℕ → Answered
+carriedOut held d len count = record { board = record { core = d .core; held = held }; outcome = d .outcome; len = len; taken = count }
 
-pub decided-is : (board : Board) (d : Decision) (count : ℕ) {decided : Decided} → decided ≡ decidedOf d → {buffer after : List ℕ} {len : ℕ}
+pub decided-is : (held : Held) (d : Decision) (count : ℕ) {decided : Decided} → decided ≡ decidedOf d → {buffer after : List ℕ} {len : ℕ}
     → Gives ℕ (sentBy (decided .sends) (decided .reply)) buffer len after
-    → Gives Answered (decidedBy board (board .held) d count) buffer (carriedOut board decided len count) after
+    → Gives Answered (decidedBy held d count) buffer (carriedOut held decided len count) after
 unfolding decidedBy decidedOf
-decided-is board d count e {buffer} {after} {len} g =
+decided-is held d count e {buffer} {after} {len} g =
     let sends : sentBy (decidedOf d .sends) (decidedOf d .reply) ≡ whole (replyBytes (d .reply)) = sent-is (d .reply) in
     let g′ : Gives ℕ (whole (replyBytes (d .reply))) buffer len after = rw (e, sends) at g in
     record { answered = rw (e, g′ .answered); left = g′ .left }

@@ -12,11 +12,12 @@ use Rattle.who.specs.Parts.{serialFits, identityOf, noIdentity, identityAllowed
 use Rattle.paper.specs.Numbers.{notAllowed}
 use Rattle.who.specs.Calls.{naming}
 use Rattle.who.specs.declared.Identity.{Identity}
+use Rattle.answers.specs.Answers.{coreAllowed, withReadings}
 use Rattle.who.specs.declared.Verdict.{Verdict}
 use Rattle.who.specs.declared.Named.{Named}
 use Rattle.who.proofs.Identities.{serial-back, identity-fits, nobody-allowed, named-accepted, named-refused}
-use Rattle.board.specs.Parts.{freshBoard, sampleFits, boardAllowed}
-use Rattle.board.specs.Calls.{refusedStart, starting, storing, withReadings}
+use Rattle.board.specs.Parts.{freshBoard, sampleFits, readingsOf, boardAllowed}
+use Rattle.board.specs.Calls.{refusedStart, starting, storing}
 use Rattle.board.specs.Laws.{StartIsAllowed, StartHoldsIt, StoreStores, StoreKeepsAllowed}
 use Rattle.board.specs.declared.Board.{Board}
 use Rattle.board.specs.declared.Sample.{Sample}
@@ -38,7 +39,7 @@ module _ (board : Board) (given : Sample) where
   store-refused e = rw e
 
   pub store-accepted : (boardAllowed board && sampleFits given) ≡ true
-      → storing board given ≡ record { board = withReadings board given; verdict = Verdict.Accepted }
+      → storing board given ≡ record { board = record { core = withReadings (board .core) (readingsOf given); held = board .held }; verdict = Verdict.Accepted }
   unfolding storing
   store-accepted e = rw e
 
@@ -57,7 +58,7 @@ start-holds product version serial table fits ok =
     }
 
 fresh-allowed : (identity : Identity) (table : Table) → identityAllowed identity ≡ true → allowed table ≡ true → boardAllowed (freshBoard identity table) ≡ true
-unfolding boardAllowed freshBoard
+unfolding boardAllowed coreAllowed freshBoard
 fresh-allowed identity table i t = both _ _ (both _ _ i t) (left-allowed [])
 
 refused-allowed : boardAllowed (refusedStart .board) ≡ true
@@ -76,23 +77,14 @@ start-allowed product version serial table = by (serialFits serial && allowed ta
 pub store-stores : StoreStores
 store-stores board given ok fits =
     let is = store-accepted board given (both _ _ ok fits) in
-    record {
-      accepted = rw is;
-      readings-are = rw is;
-      identity-same = rw is;
-      table-same = rw is;
-      held-same = rw is;
-    }
-
-readings-aside : (board : Board) (given : Sample) → boardAllowed (withReadings board given) ≡ boardAllowed board
-unfolding boardAllowed
-readings-aside board given = refl
+    record { accepted = rw is; core-is = rw is; held-same = rw is }
 
 pub store-allowed : StoreKeepsAllowed
+unfolding boardAllowed coreAllowed
 store-allowed board given ok = by (boardAllowed board && sampleFits given) refl
   where
     by : (b : Bool) → (boardAllowed board && sampleFits given) ≡ b → boardAllowed (storing board given .board) ≡ true
-    by true e = rw (store-accepted board given e) (readings-aside board given ∙ ok)
+    by true e = rw (store-accepted board given e) ok
     by false e = rw (store-refused board given e) ok
 
 -- a start by what became of its identity

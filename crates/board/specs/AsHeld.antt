@@ -7,7 +7,7 @@ use lib.Dec.{eqb}
 use Rattle.laws.specs.Promise.{Given}
 use Rattle.wire.specs.Frame.{frame}
 use Rattle.answers.specs.declared.Sends.{Sends}
-use Rattle.answers.specs.declared.Reply.{Reply}
+use Rattle.answers.specs.declared.Message.{Message}
 use Rattle.stream.specs.Calls as stream
 use Rattle.paper.specs.Numbers.{notAllowed}
 use Rattle.board.specs.Calls.{errorFrame, heardBy, unanswered}
@@ -17,7 +17,7 @@ use Rattle.board.specs.declared.Answered.{Answered}
 abbrev pub whole : List ℕ → Given ℕ
 whole bytes = record { answer = length bytes; written = bytes }
 
-unfoldable pub sentBy : Sends → Reply → Given ℕ
+unfoldable pub sentBy : Sends → Message → Given ℕ
 sentBy Sends.Nothing reply = whole []
 sentBy Sends.Frame reply = whole (frame (reply .command) (take (reply .len) (reply .bytes)))
 sentBy Sends.Error reply = whole errorFrame

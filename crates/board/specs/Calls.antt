@@ -14,7 +14,8 @@ use Rattle.stream.specs.declared.Held.{Held}
 use Rattle.tables.specs.Rules.{factory, allowed}
 use Rattle.tables.specs.declared.Table.{Table}
 use Rattle.who.specs.Parts.{serialFits, identityOf, noIdentity}
-use Rattle.answers.specs.Answers.{Sent, silent, sent, error, Decision, staying, frameAnswer}
+use Rattle.answers.specs.Answers.{withReadings, Sent, silent, sent, error, Decision, staying, frameAnswer}
+use Rattle.answers.specs.declared.Core.{Core}
 use Rattle.answers.specs.declared.Outcome.{Outcome}
 use Rattle.who.specs.declared.Verdict.{Verdict}
 use Rattle.board.specs.Parts.{freshBoard, sampleFits, readingsOf, boardAllowed}
@@ -34,14 +35,10 @@ starting product version serial table =
     refusedStart
 
 -- "The board program stores readings as whole numbers; one that does not fit its width is refused (12) and none of the five changes."
-abbrev pub withReadings : Board → Sample → Board
-withReadings board given =
-    record { identity = board .identity; table = board .table; readings = readingsOf given; held = board .held }
-
 unfoldable pub storing : Board → Sample → Judged
 storing board given =
     cond (boardAllowed board && sampleFits given)
-    (record { board = withReadings board given; verdict = Verdict.Accepted })
+    (record { board = record { core = withReadings (board .core) (readingsOf given); held = board .held }; verdict = Verdict.Accepted })
     (record { board = board; verdict = Verdict.Refused notAllowed })
 
 -- The call on a piece of input. "The error frame is the fixed nine bytes `:4AAAAFD` and newline."
@@ -55,26 +52,20 @@ replyBytes (sent command bytes) = frame command bytes
 replyBytes error = errorFrame
 
 -- the frames that end in a piece: one at most, as a call takes no byte after it
-abbrev pub endedIn : Board → List ℕ → List Ended
-endedIn board piece = let u = unfinished (board .held) in framesFrom u (take (taken u piece) piece)
+abbrev pub endedIn : Held → List ℕ → List Ended
+endedIn held piece = let u = unfinished held in framesFrom u (take (taken u piece) piece)
 
 -- what a board decides about the frame that ended, if one did; refusals 1 to 4 get the error frame
-unfoldable pub deciding : Board → List Ended → Decision
-deciding board [] = staying (board .readings) (board .table) Outcome.Nothing silent
-deciding board (good command bytes ∷ rest) = frameAnswer (board .readings) (board .table) (board .identity) command bytes
-deciding board (refused number ∷ rest) = staying (board .readings) (board .table) (Outcome.Refused number) error
+unfoldable pub deciding : Core → List Ended → Decision
+deciding core [] = staying core Outcome.Nothing silent
+deciding core (good command bytes ∷ rest) = frameAnswer core command bytes
+deciding core (refused number ∷ rest) = staying core (Outcome.Refused number) error
 
--- what a decision comes to on a line that has moved on: the board with settings and readings as decided, and the reply
-unfoldable pub decidedBy : Board → Held → Decision → ℕ → Given Answered
-decidedBy board held d count =
+-- what a decision comes to on a line that has moved on: the board as decided, and the reply
+unfoldable pub decidedBy : Held → Decision → ℕ → Given Answered
+decidedBy held d count =
     record {
-      answer =
-          record {
-            board = record { identity = board .identity; table = d .table; readings = d .readings; held = held };
-            outcome = d .outcome;
-            len = length (replyBytes (d .reply));
-            taken = count;
-          };
+      answer = record { board = record { core = d .core; held = held }; outcome = d .outcome; len = length (replyBytes (d .reply)); taken = count };
       written = replyBytes (d .reply);
     }
 
@@ -83,7 +74,7 @@ decidedBy board held d count =
 unfoldable pub heardBy : Board → List ℕ → Given Answered
 heardBy board piece =
     let u = unfinished (board .held) in
-    decidedBy board (heldOf (leftFrom u (take (taken u piece) piece))) (deciding board (endedIn board piece)) (taken u piece)
+    decidedBy (heldOf (leftFrom u (take (taken u piece) piece))) (deciding (board .core) (endedIn (board .held) piece)) (taken u piece)
 
 -- "Under 11 and 12 a state handed in comes back as it was, with counts and lengths 0."
 abbrev pub unanswered : Board → ℕ → Given Answered

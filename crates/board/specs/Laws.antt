@@ -21,7 +21,8 @@ use Rattle.tables.specs.Rules.{allowed, numberAt, partnerNumber, changed}
 use Rattle.tables.specs.declared.Table.{Table}
 use Rattle.who.specs.Parts.{serialFits, serialOf, noReadings}
 use Rattle.endian.specs.Numbers.{little}
-use Rattle.answers.specs.Answers.{Sent, silent, sent, error, said, frameAnswer}
+use Rattle.answers.specs.Answers.{withTable, withReadings, Sent, silent, sent, error, said, frameAnswer}
+use Rattle.answers.specs.declared.Core.{Core}
 use Rattle.answers.specs.Requests.{getRequest, setRequest}
 use Rattle.who.specs.declared.Verdict.{Verdict}
 use Rattle.answers.specs.declared.Outcome.{Outcome}
@@ -38,11 +39,11 @@ StartIsAllowed = (product version : ℕ) (serial : List ℕ) (table : Table) →
 
 pub record Started (product version : ℕ) (serial : List ℕ) (table : Table) (j : Judged) : Type 0 where
   pub accepted : j .verdict ≡ Verdict.Accepted
-  pub product-is : j .board .identity .product ≡ product
-  pub version-is : j .board .identity .version ≡ version
-  pub serial-is : serialOf (j .board .identity) ≡ serial
-  pub table-is : j .board .table ≡ table
-  pub readings-are : j .board .readings ≡ noReadings
+  pub product-is : j .board .core .identity .product ≡ product
+  pub version-is : j .board .core .identity .version ≡ version
+  pub serial-is : serialOf (j .board .core .identity) ≡ serial
+  pub table-is : j .board .core .table ≡ table
+  pub readings-are : j .board .core .readings ≡ noReadings
   pub held-is : j .board .held ≡ heldOf outside
 
 abbrev pub StartHoldsIt : Type 0
@@ -53,9 +54,7 @@ StartHoldsIt =
 -- 2. Readings that fit are stored, and a board stays what it was in all else: allowed if it was.
 pub record Stored (board : Board) (given : Sample) : Type 0 where
   pub accepted : storing board given .verdict ≡ Verdict.Accepted
-  pub readings-are : storing board given .board .readings ≡ readingsOf given
-  pub identity-same : storing board given .board .identity ≡ board .identity
-  pub table-same : storing board given .board .table ≡ board .table
+  pub core-is : storing board given .board .core ≡ withReadings (board .core) (readingsOf given)
   pub held-same : storing board given .board .held ≡ board .held
 
 abbrev pub StoreStores : Type 0
@@ -67,19 +66,14 @@ StoreKeepsAllowed = (board : Board) (given : Sample) → boardAllowed board ≡ 
 -- 3. A call keeps an allowed board allowed. (A table has its numbers in every value of the type, which `length` says.)
 abbrev pub AnswerKeepsAllowed : Type 0
 AnswerKeepsAllowed =
-    (board : Board) (piece : List ℕ) (room : ℕ) → length (board .table .numbers) ≡ count → boardAllowed board ≡ true
+    (board : Board) (piece : List ℕ) (room : ℕ) → length (board .core .table .numbers) ≡ count → boardAllowed board ≡ true
     → boardAllowed (answering board piece room .answer .board) ≡ true
 
 -- 4. "On 1 to 10 the settings and readings stay", and under 11 and 12 too.
-pub record Kept (board after : Board) : Type 0 where
-  pub identity-same : after .identity ≡ board .identity
-  pub table-same : after .table ≡ board .table
-  pub readings-same : after .readings ≡ board .readings
-
 abbrev pub RefusalKeeps : Type 0
 RefusalKeeps =
     (board : Board) (piece : List ℕ) (room number : ℕ) → answering board piece room .answer .outcome ≡ Outcome.Refused number
-    → Kept board (answering board piece room .answer .board)
+    → answering board piece room .answer .board .core ≡ board .core
 
 -- 5. Every reply is at most 75 bytes, and the other end reads in it the frame that was meant and no other; none where nothing is sent.
 abbrev pub meant : Sent → List Ended
@@ -95,7 +89,7 @@ pub record Readable (reply : Sent) (bytes : List ℕ) : Type 0 where
 abbrev pub ReplyIsRead : Type 0
 ReplyIsRead =
     (board : Board) (piece : List ℕ) (room : ℕ) → boardAllowed board ≡ true → frameRoom ≤ room
-    → Readable (deciding board (endedIn board piece) .reply) (answering board piece room .written)
+    → Readable (deciding (board .core) (endedIn (board .held) piece) .reply) (answering board piece room .written)
 
 -- 6. A whole frame, handed to an allowed board that is not inside one, is answered as such: all of it is taken and no frame is begun.
 abbrev pub atRest : Board → Type 0
@@ -105,19 +99,13 @@ abbrev pub WholeIsAnswered : Type 0
 WholeIsAnswered =
     (board : Board) (command : ℕ) (bytes : List ℕ) (room : ℕ) → boardAllowed board ≡ true → atRest board → Writable command bytes → frameRoom ≤ room
     → answering board (frame command bytes) room
-    ≡ decidedBy board (board .held) (frameAnswer (board .readings) (board .table) (board .identity) command bytes) (length (frame command bytes))
+    ≡ decidedBy (board .held) (frameAnswer (board .core) command bytes) (length (frame command bytes))
 
--- what such a call comes to: the board with this table, this outcome, this reply, and the whole request taken
-abbrev pub comesTo : Board → Table → Outcome → List ℕ → List ℕ → Given Answered
-comesTo board table outcome reply request =
+-- what such a call comes to: this board, its line as it was, this outcome, this reply, and the whole request taken
+abbrev pub comesTo : Board → Core → Outcome → List ℕ → List ℕ → Given Answered
+comesTo board core outcome reply request =
     record {
-      answer =
-          record {
-            board = record { identity = board .identity; table = table; readings = board .readings; held = board .held };
-            outcome = outcome;
-            len = length reply;
-            taken = length request;
-          };
+      answer = record { board = record { core = core; held = board .held }; outcome = outcome; len = length reply; taken = length request };
       written = reply;
     }
 
@@ -126,23 +114,23 @@ abbrev pub GetAnswersHeld : Type 0
 GetAnswersHeld =
     (board : Board) (k room : ℕ) → boardAllowed board ≡ true → atRest board → k < count → frameRoom ≤ room
     → answering board (getRequest (idAt k)) room
-    ≡ comesTo board (board .table) Outcome.Answered (frame getCode (said (idAt k) paper.goodFlag (little (widthAt k) (numberAt (board .table) k)))) (getRequest (idAt k))
+    ≡ comesTo board (board .core) Outcome.Answered (frame getCode (said (idAt k) paper.goodFlag (little (widthAt k) (numberAt (board .core .table) k)))) (getRequest (idAt k))
 
 -- 8. A good Set answers what it stored and stores what it answered, that number alone: its reply is the request itself.
 abbrev pub SetStoresIt : Type 0
 SetStoresIt =
     (board : Board) (k n room : ℕ) → boardAllowed board ≡ true → atRest board → k < count → frameRoom ≤ room
-    → allowedFor k n (partnerNumber (board .table) k) ≡ true
-    → answering board (setRequest k n) room ≡ comesTo board (changed (board .table) k n) Outcome.Answered (setRequest k n) (setRequest k n)
+    → allowedFor k n (partnerNumber (board .core .table) k) ≡ true
+    → answering board (setRequest k n) room ≡ comesTo board (withTable (board .core) (changed (board .core .table) k n)) Outcome.Answered (setRequest k n) (setRequest k n)
 
 -- 9. A Set of a number that is not allowed stores nothing, and answers flag 04 and the nearest allowed number.
 abbrev pub SetRefusedNamesNearest : Type 0
 SetRefusedNamesNearest =
     (board : Board) (k n room : ℕ) → boardAllowed board ≡ true → atRest board → k < count → frameRoom ≤ room → n < 256 ^ widthAt k
-    → allowedFor k n (partnerNumber (board .table) k) ≡ false
-    → (m : ℕ) × Nearest k n (partnerNumber (board .table) k) m
+    → allowedFor k n (partnerNumber (board .core .table) k) ≡ false
+    → (m : ℕ) × Nearest k n (partnerNumber (board .core .table) k) m
     × (answering board (setRequest k n) room
-    ≡ comesTo board (board .table) (Outcome.Refused paper.numberNotAllowed) (frame setCode (said (idAt k) paper.parameterFlag (little (widthAt k) m))) (setRequest k n))
+    ≡ comesTo board (board .core) (Outcome.Refused paper.numberNotAllowed) (frame setCode (said (idAt k) paper.parameterFlag (little (widthAt k) m))) (setRequest k n))
 
 -- 10. "A state handed in is allowed when its settings, identity and readings are and its held frame is one that bytes could have left": a
 -- board is allowed exactly when starts, readings and bytes give it. (Arrays have their lengths and numbers their widths in every value of
@@ -153,14 +141,14 @@ pub data Given-by : Board → Type 0 where
   a-call : {board : Board} (piece : List ℕ) (room : ℕ) → Given-by board → Given-by (answering board piece room .answer .board)
 
 pub record Typed (board : Board) : Type 0 where
-  pub serial-long : length (board .identity .serial) ≡ mostSerial
-  pub numbers-long : length (board .table .numbers) ≡ count
+  pub serial-long : length (board .core .identity .serial) ≡ mostSerial
+  pub numbers-long : length (board .core .table .numbers) ≡ count
   pub chars-long : length (board .held .chars) ≡ mostHeld
-  pub voltage-fits : within (negsuc 0x7FFF) (pos 0x7FFF) (board .readings .voltage) ≡ true
-  pub current-fits : within (negsuc 0x7FFF) (pos 0x7FFF) (board .readings .current) ≡ true
-  pub fine-fits : within (negsuc 0x7FFFFFFF) (pos 0x7FFFFFFF) (board .readings .fine) ≡ true
-  pub consumed-fits : within (negsuc 0x7FFFFFFF) (pos 0x7FFFFFFF) (board .readings .consumed) ≡ true
-  pub charge-fits : within (pos 0) (pos 0xFFFF) (pos (board .readings .charge)) ≡ true
+  pub voltage-fits : within (negsuc 0x7FFF) (pos 0x7FFF) (board .core .readings .voltage) ≡ true
+  pub current-fits : within (negsuc 0x7FFF) (pos 0x7FFF) (board .core .readings .current) ≡ true
+  pub fine-fits : within (negsuc 0x7FFFFFFF) (pos 0x7FFFFFFF) (board .core .readings .fine) ≡ true
+  pub consumed-fits : within (negsuc 0x7FFFFFFF) (pos 0x7FFFFFFF) (board .core .readings .consumed) ≡ true
+  pub charge-fits : within (pos 0) (pos 0xFFFF) (pos (board .core .readings .charge)) ≡ true
 
 abbrev pub AllowedIsGiven : Type 0
 AllowedIsGiven = (board : Board) → Typed board → (boardAllowed board ≡ true) ↔ Given-by board

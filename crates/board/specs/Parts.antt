@@ -5,9 +5,9 @@ use lib.IntN.{ℤ, pos, negsuc, natAbs}
 use lib.Signed.{leZ}
 use Rattle.stream.specs.Calls as stream
 use Rattle.stream.specs.Stream.{outside}
-use Rattle.tables.specs.Rules.{allowed}
 use Rattle.tables.specs.declared.Table.{Table}
-use Rattle.who.specs.Parts.{identityAllowed, noReadings}
+use Rattle.who.specs.Parts.{noReadings}
+use Rattle.answers.specs.Answers.{coreAllowed}
 use Rattle.who.specs.declared.Identity.{Identity}
 use Rattle.who.specs.declared.Readings.{Readings}
 use Rattle.board.specs.declared.Sample.{Sample}
@@ -28,11 +28,10 @@ unfoldable pub readingsOf : Sample → Readings
 readingsOf given =
     record { voltage = given .voltage; current = given .current; fine = given .fine; consumed = given .consumed; charge = natAbs (given .charge) }
 
--- "A state handed in is allowed when its settings, identity and readings are and its held frame is one that bytes could have left": readings
--- at the published widths always are.
+-- "A state handed in is allowed when its settings, identity and readings are and its held frame is one that bytes could have left"
 unfoldable pub boardAllowed : Board → Bool
-boardAllowed board = identityAllowed (board .identity) && allowed (board .table) && stream.allowed (board .held)
+boardAllowed board = coreAllowed (board .core) && stream.allowed (board .held)
 
 -- "started with an identity [..] and a table [..], with readings 0 and no frame"
 unfoldable pub freshBoard : Identity → Table → Board
-freshBoard identity table = record { identity = identity; table = table; readings = noReadings; held = stream.heldOf outside }
+freshBoard identity table = record { core = record { identity = identity; table = table; readings = noReadings }; held = stream.heldOf outside }

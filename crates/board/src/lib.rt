@@ -1,24 +1,21 @@
-// A board: who it is, its settings, its readings and the unfinished frame of its line. It decides, every setting, every time. Every call
-// takes anything, and its promise fixes its answer and every lent byte (specs/Calls.antt).
+// A board: what it is and holds, and the unfinished frame of its line. It decides, every setting, every time. Every call takes anything, and its promise fixes its answer and every
+// lent byte (specs/Calls.antt).
 ghost use mathlib.Core.Path.{_≡_};
 ghost use lib.ListN.{length};
 ghost use Rattle.laws.specs.Promise.{Gives};
-ghost use mathlib.Core.Bool.{_&&_};
-ghost use Rattle.stream.specs.Calls as stream;
-ghost use Rattle.tables.specs.Rules.{factory, allowed};
-ghost use Rattle.who.specs.Parts.{identityAllowed};
+ghost use Rattle.tables.specs.Rules.{factory};
 ghost use Rattle.board.specs.Parts.{freshBoard, boardAllowed};
 ghost use Rattle.board.specs.Calls.{starting, refusedStart, storing, answering, unanswered};
 ghost use Rattle.board.specs.declared.Answered.{Answered};
+use answers::Core;
 use answers::Outcome;
-use stream::Event;
 use stream::Held;
 use tables::Table;
 use who::Identity;
 use who::Readings;
 use who::Verdict;
 
-mod line;
+mod hearing;
 mod measured;
 mod numbers;
 
@@ -31,11 +28,9 @@ pub struct Sample {
     pub charge: i64,
 }
 
-// A board: who it is, its settings, its readings, and the unfinished frame of its line.
+// A board: what it is and holds, and the unfinished frame of its line.
 pub struct Board {
-    pub identity: Identity,
-    pub table: Table,
-    pub readings: Readings,
+    pub core: Core,
     pub held: Held,
 }
 
@@ -54,7 +49,7 @@ pub struct Answered {
 }
 
 impl Board {
-    // A board started with an identity and a table: readings 0 and no frame. 12 for a serial that is too long or has a byte outside
+    // Starts a board with an identity and a table: readings 0 and no frame. 12 for a serial that is too long or has a byte outside
     // 0x20..0x7E, or a table that is not allowed; then product and version 0, an empty serial and the factory table.
     pub fn start(product: u16, version: u16, serial: &[u8], table: Table) -> Judged
         ensures { λ r. ⌜ r ≡ starting product version (now (serial .entry)) table ⌝ }
@@ -74,7 +69,7 @@ impl Board {
         }
     }
 
-    // The same with the factory table.
+    // Starts a board with the factory table.
     pub fn start_factory(product: u16, version: u16, serial: &[u8]) -> Judged
         ensures { λ r. ⌜ r ≡ starting product version (now (serial .entry)) factory ⌝ }
     {
@@ -85,22 +80,17 @@ impl Board {
     pub fn store(self, given: Sample) -> Judged
         ensures { λ r. ⌜ r ≡ storing self given ⌝ }
     {
-        if !(is_allowed(self) & measured::fit(given)) {
+        if !(self.is_allowed() & measured::fit(given)) {
             return Judged {
                 board: self,
                 verdict: Verdict::Refused(paper::NOT_ALLOWED),
             };
         }
-        let identity = self.identity;
-        let table = self.table;
+        let mut core = self.core;
         let held = self.held;
+        core.readings = measured::readings_of(given);
         Judged {
-            board: Board {
-                identity,
-                table,
-                readings: measured::readings_of(given),
-                held,
-            },
+            board: Board { core, held },
             verdict: Verdict::Accepted,
         }
     }
@@ -113,26 +103,38 @@ impl Board {
         if reply.len() < paper::FRAME_ROOM {
             return unanswered(self, paper::SHORT_BUFFER);
         }
-        if !is_fit(self) {
+        let core = self.core;
+        if !core.is_allowed() {
             return unanswered(self, paper::NOT_ALLOWED);
         }
-        line::heard(self, piece, reply)
+        hearing::heard(self, piece, reply)
+    }
+
+    // Returns whether the board is allowed: what it is and holds, and its unfinished frame.
+    pub fn is_allowed(self) -> bool
+        ensures { λ r. ⌜ r ≡ boardAllowed self ⌝ }
+    {
+        let core = self.core;
+        let held = self.held;
+        core.is_allowed() & held.is_allowed()
     }
 }
 
-// A board that has just been started: readings 0 and no frame.
+// Returns a board that has just been started: readings 0 and no frame.
 fn fresh(identity: Identity, table: Table) -> Board
     ensures { λ r. ⌜ r ≡ freshBoard identity table ⌝ }
 {
     Board {
-        identity,
-        table,
-        readings: Readings::nothing(),
+        core: Core {
+            identity,
+            table,
+            readings: Readings::nothing(),
+        },
         held: Held::outside(),
     }
 }
 
-// A refused start: product and version 0, an empty serial and the factory table.
+// Refuses a start: product and version 0, an empty serial and the factory table.
 fn refused_start() -> Judged
     ensures { λ r. ⌜ r ≡ refusedStart ⌝ }
 {
@@ -144,7 +146,7 @@ fn refused_start() -> Judged
     }
 }
 
-// A refused call: the board as it was, counts and lengths 0.
+// Refuses a call: the board as it was, counts and lengths 0.
 fn unanswered(board: Board, number: u8) -> Answered
     ensures { λ r. ⌜ r ≡ unanswered board number .answer ⌝ }
 {
@@ -153,35 +155,5 @@ fn unanswered(board: Board, number: u8) -> Answered
         outcome: Outcome::Refused(number),
         len: 0,
         taken: 0,
-    }
-}
-
-// Identity and settings are allowed; readings at their widths always are.
-fn is_fit(board: Board) -> bool
-    ensures { λ r. ⌜ r ≡ (identityAllowed (board .identity) && allowed (board .table)) ⌝ }
-{
-    let identity = board.identity;
-    let table = board.table;
-    identity.is_allowed() & table.is_allowed()
-}
-
-// An allowed board: its held frame is allowed besides.
-fn is_allowed(board: Board) -> bool
-    ensures { λ r. ⌜ r ≡ boardAllowed board ⌝ }
-{
-    is_fit(board) & is_held(board.held)
-}
-
-// An unfinished frame that bytes can leave: the stream refuses every other.
-fn is_held(held: Held) -> bool
-    ensures { λ r. ⌜ r ≡ stream.allowed held ⌝ }
-{
-    let mut room = [0u8; paper::MOST_DATA];
-    let heard = held.hear(&[], &mut room);
-    let event = heard.event;
-    match event {
-        Event::Nothing => true,
-        Event::Frame { .. } => true,
-        Event::Refused(_) => false,
     }
 }

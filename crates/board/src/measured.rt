@@ -1,4 +1,3 @@
-// Readings.
 ghost use mathlib.Core.Path.{_≡_};
 ghost use mathlib.Core.Bool.{true};
 ghost use lib.IntN.{pos, negsuc, natAbs};
@@ -7,14 +6,14 @@ use crate::Sample;
 use crate::numbers;
 use who::Readings;
 
-// A number within two ends.
+// Returns whether a number is within two ends.
 fn is_within(low: i64, x: i64, high: i64) -> bool
     ensures { λ r. ⌜ r ≡ within low high x ⌝ }
 {
     (low <= x) & (x <= high)
 }
 
-// Five numbers that fit the published widths.
+// Returns whether five numbers fit the published widths.
 pub(crate) fn fit(given: Sample) -> bool
     ensures { λ r. ⌜ r ≡ sampleFits given ⌝ }
 {
@@ -25,7 +24,7 @@ pub(crate) fn fit(given: Sample) -> bool
         & is_within(0, given.charge, numbers::MOST_CHARGE)
 }
 
-// A number that fits signed 16, signed 32 or unsigned 16, at that width.
+// Returns a number that fits signed 16, signed 32 or unsigned 16, at that width.
 fn as_16(x: i64) -> i16
     requires { ⌜ within (negsuc 0x7FFF) (pos 0x7FFF) x ≡ true ⌝ }
     ensures { λ r. ⌜ r ≡ x ⌝ }
@@ -47,7 +46,7 @@ fn as_charge(x: i64) -> u16
     x as u16
 }
 
-// The readings of five numbers that fit.
+// Returns the readings of five numbers that fit.
 pub(crate) fn readings_of(given: Sample) -> Readings
     requires { ⌜ sampleFits given ≡ true ⌝ }
     ensures { λ r. ⌜ r ≡ readingsOf given ⌝ }

@@ -1,5 +1,3 @@
-// The numbers that document 01 fixes for a board.
-
 // The ends of signed 16, signed 32 and unsigned 16, in which readings are stored.
 pub(crate) const LEAST_16: i64 = -32768;
 

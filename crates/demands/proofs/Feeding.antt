@@ -1,5 +1,5 @@
 -- A board fed the list in any cutting, and a follower fed the board's replies. Assumes nothing.
-use mathlib.Core.Path.{_≡_, refl, sym, ap, ap₂, _∙_}
+use mathlib.Core.Path.{_≡_, refl, sym, ap, _∙_}
 use mathlib.Core.Bool.{true, false, _&&_, false≢true}
 use mathlib.Core.List.{List, [], _∷_, _++_, map}
 use Prim.Native.Nat.{ℕ, _+_, _-_, _≤_, min}
@@ -10,30 +10,36 @@ use lib.Seq.{take-length}
 use lib.Dec.{leb}
 use Rattle.laws.specs.Cutting as Cutting
 use Rattle.laws.specs.Cutting.{Step, Offer, ready}
-use Rattle.laws.proofs.Cutting as cutting
 use Rattle.laws.proofs.Bools.{and-left, and-right}
 use Rattle.paper.specs.Numbers.{frameRoom, mostData}
 use Rattle.wire.specs.Reading.{Ended}
-use Rattle.stream.specs.Stream.{Unfinished, outside, framesFrom, leftFrom, framesOf, taken}
+use Rattle.stream.specs.Stream.{Unfinished, outside, framesOf, taken}
 use Rattle.stream.specs.Calls.{heldOf, unfinished}
+use Rattle.settings.specs.Columns.{count}
 use Rattle.tables.specs.declared.Table.{Table}
+use Rattle.answers.specs.Answers.{coreAllowed}
 use Rattle.answers.specs.Requests.{setRequest}
+use Rattle.answers.specs.declared.Core.{Core}
 use Rattle.board.specs.Parts.{boardAllowed}
 use Rattle.board.specs.Calls.{decidedBy, heardBy, answering}
 use Rattle.board.specs.declared.Board.{Board}
-use Rattle.board.proofs.Lines.{answering-heard}
+use Rattle.board.proofs.Pieces.{answering-heard}
+use Rattle.board.proofs.Replying.{bounded}
+use Rattle.board.proofs.Giving.{call-count}
 use Rattle.board.proofs.Theorems.{answer-keeps-allowed}
 use Rattle.restore.specs.Order.{dueSets}
 use Rattle.restore.specs.Calls.{framesFor}
-use Rattle.restore.specs.Laws.{Tables, left}
+use Rattle.restore.specs.Laws.{Tables}
 use Rattle.restore.specs.declared.Wanted.{Wanted}
 use Rattle.restore.proofs.Theorems.{list-restores-it}
-use Rattle.demands.specs.Sets.{made}
-use Rattle.demands.specs.Talk.{Deed, stores, calls, Said, Talk, talk, afterAll, saidToAll, withLine}
+use Rattle.demands.specs.Talk.{Deed, stores, calls, Said, Talk, talk, boardAt}
 use Rattle.demands.specs.Demand3.{isCalls, AnyCutting, isFeeding, acceptedSet, ListIsAccepted, repliesOf, eventFor, followed, Confirmed, ListIsConfirmed}
 use Rattle.laws.proofs.Bools.{both}
-use Rattle.stream.specs.Laws.{hears, Writables, nothing, broken, whole}
-use Rattle.stream.proofs.Theorems.{all-is-taken, heard-is-writable}
+use Rattle.stream.specs.Laws.{Writables, nothing, broken, whole}
+use Rattle.stream.proofs.Helds.{allowed-outside}
+use Rattle.stream.proofs.Theorems.{heard-is-writable}
+use Rattle.listen.specs.Hearing.{boxHears}
+use Rattle.listen.proofs.Hearing.{box-takes-all}
 use Rattle.reply.specs.Events as events
 use Rattle.reply.specs.Events.{Event, OnStream}
 use Rattle.restore.specs.Order.{order, wanted}
@@ -42,8 +48,8 @@ use Rattle.follow.specs.Following.{begun}
 use Rattle.follow.specs.Laws.{run, matched, ownReply}
 use Rattle.follow.specs.declared.Follower.{Follower}
 use Rattle.follow.proofs.Theorems.{count-is-matched, done-is-all, equal-is-none, all-are-confirmed}
-use Rattle.demands.proofs.Talking.{Line, stateOf, says, leaves, line-same, call, call-reads, any-cutting}
-use Rattle.demands.proofs.Deciding.{Sound, made-sound, after-table}
+use Rattle.demands.proofs.Talking.{call, any-cutting}
+use Rattle.demands.proofs.Deciding.{Sound}
 use Rattle.demands.proofs.Listing.{frameFor, listed, due-in, accepts-all}
 
 -- calls and nothing between are a row of calls
@@ -68,14 +74,11 @@ feeding-calls [] e = refl
 feeding-calls (stores given ∷ more) e = absurd (false≢true e)
 feeding-calls (calls n room ∷ more) e = feeding-calls more (and-right (leb 1 n && leb frameRoom room) _ e)
 
-talk-calls : (deeds : List Deed) (board : Board) (bytes : List ℕ) → isFeeding deeds ≡ true → talk board bytes deeds ≡ talkOf (Cutting.calls call board bytes (offersOf deeds))
-talk-calls deeds board bytes e = talk-row deeds board bytes (feeding-calls deeds e)
-
 -- any cutting
 pub cutting-read : AnyCutting
-cutting-read board u h bytes deeds e =
-    let reads = rw (line-same board u h) at (any-cutting (record { board = board; reading = u }) bytes (offersOf deeds)) in
-    rw (talk-row deeds board bytes e) (record { said-is = reads .events-are; board-is = reads .state-is })
+cutting-read core u bytes deeds e =
+    let reads = any-cutting (record { core = core; reading = u }) bytes (offersOf deeds) in
+    rw (talk-row deeds (boardAt core u) bytes e) (record { said-is = reads .events-are; board-is = reads .state-is })
 
 -- a call with room enough on an allowed board takes a byte at least, where there is one
 some-taken : (u : Unfinished) (piece : List ℕ) → min 1 (length piece) ≤ taken u piece
@@ -86,56 +89,42 @@ pub call-takes : (board : Board) (piece : List ℕ) (room : ℕ) → boardAllowe
 unfolding heardBy decidedBy
 call-takes board piece room ok h = rw (answering-heard board piece room h ok) (some-taken (unfinished (board .held)) piece)
 
-all-fed : (deeds : List Deed) (board : Board) (r : Unfinished) (bytes : List ℕ) → board .held ≡ heldOf r → Sound (board .table) → boardAllowed board ≡ true
-    → isFeeding deeds ≡ true → length bytes ≤ length deeds → talk board bytes deeds .taken ≡ length bytes
-all-fed [] board r bytes h s ok e few = omega arith
-all-fed (stores given ∷ more) board r bytes h s ok e few = absurd (false≢true e)
-all-fed (calls n room ∷ more) board r bytes h s ok e few =
+all-fed : (deeds : List Deed) (board : Board) (bytes : List ℕ) → length (board .core .table .numbers) ≡ count → boardAllowed board ≡ true → isFeeding deeds ≡ true
+    → length bytes ≤ length deeds → talk board bytes deeds .taken ≡ length bytes
+all-fed [] board bytes long ok e few = omega arith
+all-fed (stores given ∷ more) board bytes long ok e few = absurd (false≢true e)
+all-fed (calls n room ∷ more) board bytes long ok e few =
     let own = and-left (leb 1 n && leb frameRoom room) _ e in
     let some : 1 ≤ n = leb-true 1 n (and-left (leb 1 n) _ own) in
-    let enough : frameRoom ≤ room = leb-true frameRoom room (and-right (leb 1 n) _ own) in
-    let l : Line = record { board = board; reading = r } in
     let piece : List ℕ = take n bytes in
-    let same : stateOf l ≡ board = line-same board r h in
-    let reads = rw same at (call-reads l room piece) in
-    let after : Board = answering board piece room .answer .board in
-    let t : ℕ = answering board piece room .answer .taken in
-    let most : t ≤ min n (length bytes) = rw length-take at (reads .within) in
-    let least : min 1 (min n (length bytes)) ≤ t = rw length-take at (call-takes board piece room ok enough) in
-    let state = reads .state-is in
-    let table : after .table ≡ made (board .table) (framesFrom r (take t piece)) = ap (λ (b : Board). b .table) state ∙ after-table (framesFrom r (take t piece)) board s in
-    let held : after .held ≡ heldOf (leftFrom r (take t piece)) = ap (λ (b : Board). b .held) state in
-    let sound : Sound (after .table) = rw table (made-sound (framesFrom r (take t piece)) (board .table) s) in
-    let still : boardAllowed after ≡ true = answer-keeps-allowed board piece room (s .long) ok in
+    let here = answering board piece room in
+    let t : ℕ = here .answer .taken in
+    let most : t ≤ min n (length bytes) = rw length-take at (bounded board piece room .within) in
+    let least : min 1 (min n (length bytes)) ≤ t = rw length-take at (call-takes board piece room ok (leb-true frameRoom room (and-right (leb 1 n) _ own))) in
     let less : length (drop t bytes) ≤ length more = rw length-drop (omega arith) in
-    let rest : talk after (drop t bytes) more .taken ≡ length bytes - t =
-    all-fed more after (leftFrom r (take t piece)) (drop t bytes) held sound still (and-right (leb 1 n && leb frameRoom room) _ e) less ∙ length-drop t bytes in
+    let rest : talk (here .answer .board) (drop t bytes) more .taken ≡ length bytes - t =
+    all-fed more (here .answer .board) (drop t bytes) (call-count board piece room long) (answer-keeps-allowed board piece room long ok)
+    (and-right (leb 1 n && leb frameRoom room) _ e) less ∙ length-drop t bytes in
     omega arith
 
+at-rest-allowed : (core : Core) → coreAllowed core ≡ true → boardAllowed (boardAt core outside) ≡ true
+unfolding boardAllowed
+at-rest-allowed core ok = both _ _ ok allowed-outside
+
 pub list-accepted : ListIsAccepted
-list-accepted from to two board ok rest is deeds feeding enough =
-    let bytes : List ℕ = framesFor (dueSets from to) in
-    let l : Line = record { board = board; reading = outside } in
-    let same : stateOf l ≡ board = line-same board outside rest in
-    let sound : Sound (board .table) = rw is (record { long = two .from-long; ok = two .from-allowed }) in
-    let all : talk board bytes deeds .taken ≡ length bytes = all-fed deeds board outside bytes rest sound ok feeding enough in
-    let row = talk-calls deeds board bytes feeding in
-    let reads = rw same at (any-cutting l bytes (offersOf deeds)) in
-    let count : Cutting.calls call board bytes (offersOf deeds) .taken ≡ length bytes = ap (λ (t : Talk). t .taken) (sym row) ∙ all in
-    let whole : take (Cutting.calls call board bytes (offersOf deeds) .taken) bytes ≡ bytes = ap (λ (n : ℕ). take n bytes) count ∙ take-length bytes in
-    let list = listed (due-in from to) in
-    let restored = list-restores-it from to two in
-    let ends = accepts-all board sound (due-in from to) (rw is (restored .each-accepted)) in
-    let table : left (board .table) (dueSets from to) ≡ to = rw is (restored .wanted-stands) in
+list-accepted core to ok two deeds feeding enough =
+    let bytes : List ℕ = framesFor (dueSets (core .table) to) in
+    let sound : Sound (core .table) = record { long = two .from-long; ok = two .from-allowed } in
+    let all = all-fed deeds (boardAt core outside) bytes (two .from-long) (at-rest-allowed core ok) feeding enough in
+    let reads = cutting-read core outside bytes deeds (feeding-calls deeds feeding) in
+    let whole : take (talk (boardAt core outside) bytes deeds .taken) bytes ≡ bytes = ap (λ (n : ℕ). take n bytes) all ∙ take-length bytes in
+    let list = listed (due-in (core .table) to) in
+    let restored = list-restores-it (core .table) to two in
+    let ends = accepts-all core sound (due-in (core .table) to) (restored .each-accepted) in
     record {
       all-taken = all;
-      each-accepted =
-          ap (λ (t : Talk). t .said) row ∙ reads .events-are ∙ ap (λ (b : List ℕ). says l b) whole ∙ ap (saidToAll board) (list .frames-are) ∙ ends .all-said;
-      board-is =
-          ap (λ (t : Talk). t .board) row ∙ reads .state-is ∙ ap (λ (b : List ℕ). stateOf (leaves l b)) whole
-          ∙ ap₂ (λ (fs : List Ended) (u : Unfinished). withLine (afterAll board fs) u) (list .frames-are) (list .none-left)
-          ∙ ap (λ (b : Board). withLine b outside) (ends .all-after)
-          ∙ ap (λ (t : Table). record { identity = board .identity; table = t; readings = board .readings; held = heldOf outside }) table;
+      each-accepted = reads .said-is ∙ rw (whole, list .frames-are) (ends .all-said);
+      board-is = reads .board-is ∙ rw (whole, list .frames-are, list .none-left, ends .all-after, restored .wanted-stands);
     }
 
 -- the board's replies are the list itself
@@ -159,7 +148,7 @@ follows : (from to : Table) → Tables from to → (offers : List (Offer ℕ)) �
 follows from to two offers room many =
     let bytes : List ℕ = framesFor (dueSets from to) in
     let ok : bothAllowed from to ≡ true = both _ _ (two .from-allowed) (two .to-allowed) in
-    let heard-all : Cutting.calls hears (heldOf outside) bytes offers .events ≡ framesOf bytes = ap (λ s. s .events) (all-is-taken [] bytes offers room many) in
+    let heard-all : Cutting.calls boxHears (heldOf outside) bytes offers .events ≡ framesOf bytes = ap (λ s. s .events) (box-takes-all [] bytes offers room many) in
     let happened : List Event = map eventFor (framesOf bytes) in
     let stream : OnStream happened = on-stream (heard-is-writable outside bytes) in
     let own : happened ≡ map ownReply (dueSets from to) = ap (map eventFor) (listed (due-in from to) .frames-are) ∙ own-events to (order from to) in
@@ -173,8 +162,8 @@ follows from to two offers room many =
     })
 
 pub list-confirmed : ListIsConfirmed
-list-confirmed from to two board ok rest is deeds feeding enough offers room many =
-    let bytes : List ℕ = framesFor (dueSets from to) in
-    let fed = list-accepted from to two board ok rest is deeds feeding enough in
-    let replies : repliesOf (talk board bytes deeds .said) ≡ bytes = ap repliesOf (fed .each-accepted) ∙ replies-are (dueSets from to) in
-    rw replies (follows from to two offers room (rw replies at many))
+list-confirmed core to ok two deeds feeding enough offers room many =
+    let bytes : List ℕ = framesFor (dueSets (core .table) to) in
+    let fed = list-accepted core to ok two deeds feeding enough in
+    let replies : repliesOf (talk (boardAt core outside) bytes deeds .said) ≡ bytes = ap repliesOf (fed .each-accepted) ∙ replies-are (dueSets (core .table) to) in
+    rw replies (follows (core .table) to two offers room (rw replies at many))

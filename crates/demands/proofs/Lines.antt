@@ -1,6 +1,6 @@
 -- The worked lines hold by computation: each definition that they pass through is opened and run.
 use mathlib.Core.Path.{refl}
-use Rattle.laws.specs.Promise.{overlaid, frontOf}
+use Rattle.laws.specs.Promise.{overlaid}
 use Rattle.wire.specs.Digits.{digit, nibble}
 use Rattle.wire.specs.Frame.{check, body, frame}
 use Rattle.wire.specs.Reading.{bodySays}
@@ -13,7 +13,7 @@ use Rattle.settings.specs.Calls.{placing, finding, partnerFits, nearing}
 use Rattle.settings.specs.Columns.{placeOf}
 use Rattle.tables.specs.Calls.{setTo}
 use Rattle.who.specs.Parts.{serialFits, identityOf, serialOf, identityAllowed}
-use Rattle.answers.specs.Answers.{tells, restarts, getAnswer, setsSetting, setAnswer, frameAnswer}
+use Rattle.answers.specs.Answers.{coreAllowed, tells, restarts, getAnswer, setsSetting, setAnswer, frameAnswer}
 use Rattle.board.specs.Parts.{boardAllowed, freshBoard}
 use Rattle.board.specs.Calls.{starting, deciding, decidedBy, heardBy, answering}
 use Rattle.restore.specs.Order.{differs, higherFirst, exchanged, placed, turnsFrom, order}
@@ -23,5 +23,5 @@ pub thirteen-lines-hold : ThirteenHold
 unfolding overlaid digit nibble check body frame bodySays taken noChars heldOf unfinished stream.allowed
     inRange lowAgrees highAgrees agrees allowedFor allAllowed allowed nearestOf placing placeOf finding setTo partnerFits nearing
     serialFits frontOf identityOf serialOf identityAllowed tells restarts getAnswer setsSetting setAnswer frameAnswer
-    boardAllowed freshBoard starting deciding decidedBy heardBy answering differs higherFirst exchanged placed turnsFrom order
+    coreAllowed boardAllowed freshBoard starting deciding decidedBy heardBy answering differs higherFirst exchanged placed turnsFrom order
 thirteen-lines-hold = refl

@@ -1,11 +1,10 @@
 -- The list's frames at a board: each is answered as a Set accepted. Assumes nothing.
-use mathlib.Core.Path.{_≡_, refl, ap, ap₂, _∙_}
+use mathlib.Core.Path.{_≡_, refl, ap, _∙_}
 use mathlib.Core.Bool.{Bool, true, false, _&&_, false≢true}
 use mathlib.Core.List.{List, [], _∷_, _++_, map}
 use Prim.Native.Nat.{ℕ, _≤_, _<_}
 use native.Mathlib.Omega.{arith}
 use borrow.Author.Tests.{leb-true, ltb-true}
-use lib.ListN.{length}
 use lib.Dec.{ltb}
 use Rattle.laws.specs.Lists.{every}
 use Rattle.laws.proofs.Bools.{and-left, and-right}
@@ -16,26 +15,27 @@ use Rattle.wire.specs.Laws.{Writable}
 use Rattle.stream.proofs.Theorems.{written-is-heard}
 use Rattle.settings.specs.Columns.{count, idAt, widthAt}
 use Rattle.settings.specs.Rules.{allowedFor}
-use Rattle.tables.specs.Rules.{allowed, partnerNumber, changed}
+use Rattle.tables.specs.Rules.{allowed, partnerNumber}
 use Rattle.tables.specs.Calls.{setTo}
 use Rattle.tables.specs.declared.Table.{Table}
 use Rattle.settings.proofs.Theorems.{rows-hold}
 use Rattle.tables.proofs.Theorems.{set-keeps-allowed, set-keeps-count}
 use Rattle.tables.proofs.Tables.{set-accepted, set-refused}
 use Rattle.paper.specs.Numbers.{setCode}
-use Rattle.answers.specs.Answers.{said}
+use Rattle.answers.specs.Answers.{withTable, sent, Decision, staying}
 use Rattle.answers.specs.Requests.{setData}
+use Rattle.answers.specs.declared.Core.{Core}
+use Rattle.answers.specs.declared.Outcome.{Outcome}
 use Rattle.answers.proofs.Theorems.{set-stores-it}
 use Rattle.endian.proofs.Little.{length-little, bytes-little}
 use Rattle.answers.proofs.Fitting.{writable-said}
-use Rattle.board.specs.Calls.{deciding}
-use Rattle.board.specs.declared.Board.{Board}
+use Rattle.board.specs.Calls.{replyBytes, deciding}
 use Rattle.restore.specs.Order.{wanted, order, differs, dueSets}
 use Rattle.restore.specs.Calls.{framesFor}
 use Rattle.restore.specs.Laws.{isAccepted, accepted, left}
 use Rattle.restore.specs.declared.Wanted.{Wanted}
 use Rattle.restore.proofs.Theorems.{no-other-set}
-use Rattle.demands.specs.Talk.{Said, afterOne, afterAll, saidTo, saidToAll}
+use Rattle.demands.specs.Talk.{Said, ofFrame, afterAll, saidToAll}
 use Rattle.demands.specs.Demand3.{acceptedSet}
 use Rattle.demands.proofs.Deciding.{Sound}
 
@@ -88,35 +88,36 @@ accepted-allowed table k n ok h e = by (allowedFor k n (partnerNumber table k)) 
     by true f = refl
     by false f = absurd (false≢true (rw (set-refused table k n ok h f) at e))
 
-record Accepts (board : Board) (w : Wanted) : Type 0 where
-  said-is : saidTo board (frameFor w) ≡ acceptedSet w ∷ []
-  after-is : afterOne board (frameFor w) ≡ record { identity = board .identity; table = setTo (board .table) (w .setting .index) (w .number) .table; readings = board .readings; held = board .held }
-
-accepts : (board : Board) (w : Wanted) → Sound (board .table) → w .setting .index < count
-    → isAccepted (setTo (board .table) (w .setting .index) (w .number) .answer) ≡ true → Accepts board w
+pub set-decided : (core : Core) (w : Wanted) → Sound (core .table) → w .setting .index < count
+    → isAccepted (setTo (core .table) (w .setting .index) (w .number) .answer) ≡ true
+    → deciding core (frameFor w ∷ [])
+    ≡ staying (withTable core (setTo (core .table) (w .setting .index) (w .number) .table)) Outcome.Answered (sent setCode (setData (w .setting .index) (w .number)))
 unfolding deciding
-accepts board w s h e =
+set-decided core w s h e =
     let k : ℕ = w .setting .index in
-    let fits : allowedFor k (w .number) (partnerNumber (board .table) k) ≡ true = accepted-allowed (board .table) k (w .number) (s .ok) h e in
-    let answer = set-stores-it (board .readings) (board .table) (board .identity) k (w .number) (s .ok) h fits in
-    let table : setTo (board .table) k (w .number) .table ≡ changed (board .table) k (w .number) = ap (λ c. c .table) (set-accepted (board .table) k (w .number) (s .ok) h fits) in
-    record { said-is = rw answer; after-is = rw (answer, table) }
+    let fits : allowedFor k (w .number) (partnerNumber (core .table) k) ≡ true = accepted-allowed (core .table) k (w .number) (s .ok) h e in
+    set-stores-it core k (w .number) (s .ok) h fits ∙ rw (set-accepted (core .table) k (w .number) (s .ok) h fits)
+
+pub set-sound : (table : Table) (w : Wanted) → Sound table → Sound (setTo table (w .setting .index) (w .number) .table)
+set-sound table w s =
+    let k : ℕ = w .setting .index in
+    record { long = set-keeps-count table k (w .number) ∙ s .long; ok = set-keeps-allowed table k (w .number) (s .long) (s .ok) }
 
 -- and a row of them
-pub record Accepted (board : Board) (ws : List Wanted) : Type 0 where
-  pub all-said : saidToAll board (map frameFor ws) ≡ map acceptedSet ws
-  pub all-after : afterAll board (map frameFor ws) ≡ record { identity = board .identity; table = left (board .table) ws; readings = board .readings; held = board .held }
+pub record Accepted (core : Core) (ws : List Wanted) : Type 0 where
+  pub all-said : saidToAll core (map frameFor ws) ≡ map acceptedSet ws
+  pub all-after : afterAll core (map frameFor ws) ≡ withTable core (left (core .table) ws)
 
-pub accepts-all : {ws : List Wanted} (board : Board) → Sound (board .table) → InTable ws → accepted (board .table) ws ≡ true → Accepted board ws
-accepts-all board s no-set e = record { all-said = refl; all-after = refl }
-accepts-all board s (a-set {w} {more} h later) e =
-    let k : ℕ = w .setting .index in
-    let next : Table = setTo (board .table) k (w .number) .table in
-    let one : Accepts board w = accepts board w s h (and-left (isAccepted (setTo (board .table) k (w .number) .answer)) _ e) in
-    let sound : Sound next = record { long = set-keeps-count (board .table) k (w .number) ∙ s .long; ok = set-keeps-allowed (board .table) k (w .number) (s .long) (s .ok) } in
-    let after : Board = record { identity = board .identity; table = next; readings = board .readings; held = board .held } in
-    let rest : Accepted after more = accepts-all after sound later (and-right (isAccepted (setTo (board .table) k (w .number) .answer)) _ e) in
+pub accepts-all : {ws : List Wanted} (core : Core) → Sound (core .table) → InTable ws → accepted (core .table) ws ≡ true → Accepted core ws
+accepts-all core s no-set e = record { all-said = refl; all-after = refl }
+accepts-all core s (a-set {w} {more} h later) e =
+    let change = setTo (core .table) (w .setting .index) (w .number) in
+    let one = set-decided core w s h (and-left (isAccepted (change .answer)) _ e) in
+    let rest : Accepted (withTable core (change .table)) more =
+    accepts-all (withTable core (change .table)) (set-sound (core .table) w s) later (and-right (isAccepted (change .answer)) _ e) in
     record {
-      all-said = ap₂ (λ (a b : List Said). a ++ b) (one .said-is) (ap (λ (b : Board). saidToAll b (map frameFor more)) (one .after-is) ∙ rest .all-said);
-      all-after = ap (λ (b : Board). afterAll b (map frameFor more)) (one .after-is) ∙ rest .all-after;
+      all-said =
+          ap (λ (d : Decision). ofFrame (record { outcome = d .outcome; reply = replyBytes (d .reply) }) (d .outcome) ++ saidToAll (d .core) (map frameFor more)) one
+          ∙ ap (λ (l : List Said). acceptedSet w ∷ l) (rest .all-said);
+      all-after = ap (λ (d : Decision). afterAll (d .core) (map frameFor more)) one ∙ rest .all-after;
     }

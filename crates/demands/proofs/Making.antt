@@ -22,9 +22,9 @@ use Rattle.settings.specs.declared.Found.{Found}
 use Rattle.tables.proofs.Tables.{set-accepted, set-refused}
 use Rattle.answers.specs.Answers as answers
 use Rattle.answers.proofs.Theorems.{answer-makes-it}
+use Rattle.answers.specs.declared.Core.{Core}
 use Rattle.board.specs.Calls.{deciding}
-use Rattle.board.specs.declared.Board.{Board}
-use Rattle.demands.specs.Sets.{placeIn, valueIn, isComplete, isValid, makes, made}
+use Rattle.demands.specs.Sets.{placeIn, valueIn, isComplete, anySetting, isValid, makes, made}
 
 module _ (table : Table) (ok : allowed table ≡ true) (command : ℕ) (bytes : List ℕ) where
   abbrev k : ℕ
@@ -33,7 +33,7 @@ module _ (table : Table) (ok : allowed table ≡ true) (command : ℕ) (bytes : 
   abbrev n : ℕ
   n = fromLittle (valueIn bytes)
 
-  set-valid : k < count → setTo table k n .table ≡ cond (isValid table k n) (changed table k n) table
+  set-valid : k < count → setTo table k n .table ≡ cond (isValid anySetting table k n) (changed table k n) table
   unfolding isValid allowedFor
   set-valid h = by (allowedFor k n (partnerNumber table k)) refl
     where
@@ -44,24 +44,24 @@ module _ (table : Table) (ok : allowed table ≡ true) (command : ℕ) (bytes : 
   abbrev front : Bool
   front = eqb command 8 && (leb 3 (length bytes) && eqb (getD bytes 2 0) 0)
 
-  pub makes-same : answers.makes table command bytes ≡ makes table command bytes
+  pub makes-same : answers.makes table command bytes ≡ makes anySetting table command bytes
   unfolding answers.makes makes isComplete finding placing
   makes-same = by front (ltb k count) (eqb (length (valueIn bytes)) (widthAt k)) refl refl refl
     where
       by : (a b c : Bool) → front ≡ a → ltb k count ≡ b → eqb (length (valueIn bytes)) (widthAt k) ≡ c
           → cond front (answers.makesFound table (valueIn bytes) (cond (ltb k count) (Found.At (settingAt k)) Found.Nothing)) table
-          ≡ cond ((front && (ltb k count && eqb (length (valueIn bytes)) (widthAt k))) && isValid table k n) (changed table k n) table
+          ≡ cond ((front && (ltb k count && eqb (length (valueIn bytes)) (widthAt k))) && isValid anySetting table k n) (changed table k n) table
       by false b c p q r = rw p
       by true false c p q r = rw (p, q)
       by true true false p q r = rw (p, q, r)
       by true true true p q r = rw (p, q, r) (set-valid (ltb-true _ _ q))
 
 -- frames in two rows
-pub made-append : (table : Table) (fs gs : List Ended) → made table (fs ++ gs) ≡ made (made table fs) gs
+pub made-append : (may : ℕ → Bool) (table : Table) (fs gs : List Ended) → made may table (fs ++ gs) ≡ made may (made may table fs) gs
 unfolding made
-made-append table [] gs = refl
-made-append table (good command bytes ∷ fs) gs = made-append (makes table command bytes) fs gs
-made-append table (refused number ∷ fs) gs = made-append table fs gs
+made-append may table [] gs = refl
+made-append may table (good command bytes ∷ fs) gs = made-append may (makes may table command bytes) fs gs
+made-append may table (refused number ∷ fs) gs = made-append may table fs gs
 
 -- a call ends one frame at most
 pub data AtMostOne : List Ended → Type 0 where
@@ -84,10 +84,8 @@ one-at-most u piece = by (ltb (firstEnd u piece) (length piece)) refl
         let all : take (length piece) piece ≡ take (firstEnd u piece) piece = take-all (length piece) piece (omega arith) ∙ sym (take-all (firstEnd u piece) piece past) in
         rw (count, all, first-end-is-first u piece .none-before) none-ended
 
--- what a board decides of the frame that ended is what the frames make of its table
-pub decided-table : (board : Board) → allowed (board .table) ≡ true → (fs : List Ended) → AtMostOne fs → deciding board fs .table ≡ made (board .table) fs
+-- what is decided of a frame is what that frame makes of the table
+pub decided-table : (core : Core) → allowed (core .table) ≡ true → (f : Ended) → deciding core (f ∷ []) .core .table ≡ made anySetting (core .table) (f ∷ [])
 unfolding deciding made
-decided-table board ok fs none-ended = refl
-decided-table board ok fs (one-ended (good command bytes)) =
-    answer-makes-it (board .readings) (board .table) (board .identity) command bytes ∙ makes-same (board .table) ok command bytes
-decided-table board ok fs (one-ended (refused number)) = refl
+decided-table core ok (good command bytes) = answer-makes-it core command bytes ∙ makes-same (core .table) ok command bytes
+decided-table core ok (refused number) = refl

@@ -10,37 +10,34 @@ use lib.Dec.{ltb}
 use Rattle.laws.specs.Promise.{Given}
 use Rattle.laws.specs.Cutting.{Step, Offer, calls}
 use Rattle.laws.proofs.Cutting as cutting
-use Rattle.wire.specs.Reading.{Ended, good, refused}
+use Rattle.wire.specs.Reading.{Ended}
 use Rattle.stream.specs.Stream.{Unfinished, framesFrom, leftFrom, taken}
-use Rattle.stream.specs.Calls.{heldOf, unfinished}
+use Rattle.stream.specs.Calls.{heldOf}
 use Rattle.stream.specs.declared.Held.{Held}
 use Rattle.stream.proofs.Streams.{left-append, frames-append, taken-within}
 use Rattle.stream.proofs.Reached.{kept, unfinished-kept, kept-frames, kept-left}
-use Rattle.answers.specs.Answers.{Decision}
+use Rattle.answers.specs.declared.Core.{Core}
 use Rattle.board.specs.Parts.{boardAllowed}
 use Rattle.board.specs.Calls.{deciding, decidedBy, heardBy, answering}
 use Rattle.board.specs.declared.Board.{Board}
 use Rattle.board.specs.declared.Answered.{Answered}
-use Rattle.board.proofs.Lines.{answering-short, answering-stray, answering-heard}
-use Rattle.demands.specs.Talk.{Said, saidIn, afterOne, afterAll, saidTo, saidToAll, withLine}
+use Rattle.board.proofs.Pieces.{answering-short, answering-stray, answering-heard}
+use Rattle.demands.specs.Talk.{Said, saidIn, afterOne, afterAll, saidTo, saidToAll, boardAt}
 use Rattle.demands.proofs.Making.{AtMostOne, none-ended, one-ended, one-at-most}
 
--- a board, and where the reading of its line is
+-- what a board is and holds, and where the reading of its line is
 pub record Line : Type 0 where
-  pub board : Board
+  pub core : Core
   pub reading : Unfinished
 
 abbrev pub stateOf : Line → Board
-stateOf l = withLine (l .board) (l .reading)
-
-pub line-same : (board : Board) (u : Unfinished) → board .held ≡ heldOf u → withLine board u ≡ board
-line-same board u h = ap (λ (held : Held). record { identity = board .identity; table = board .table; readings = board .readings; held = held }) (sym h)
+stateOf l = boardAt (l .core) (l .reading)
 
 abbrev pub says : Line → List ℕ → List Said
-says l bytes = saidToAll (l .board) (framesFrom (l .reading) bytes)
+says l bytes = saidToAll (l .core) (framesFrom (l .reading) bytes)
 
 abbrev pub leaves : Line → List ℕ → Line
-leaves l bytes = record { board = afterAll (l .board) (framesFrom (l .reading) bytes); reading = leftFrom (l .reading) bytes }
+leaves l bytes = record { core = afterAll (l .core) (framesFrom (l .reading) bytes); reading = leftFrom (l .reading) bytes }
 
 abbrev pub stepOf : Given Answered → Step Board Said
 stepOf given = record { state = given .answer .board; events = saidIn given; taken = given .answer .taken }
@@ -48,60 +45,29 @@ stepOf given = record { state = given .answer .board; events = saidIn given; tak
 abbrev pub call : Board → ℕ → List ℕ → Step Board Said
 call board room piece = stepOf (answering board piece room)
 
--- what a board decides does not look at its line
-same-decision : (board : Board) (held : Held) (fs : List Ended)
-    → deciding (record { identity = board .identity; table = board .table; readings = board .readings; held = held }) fs ≡ deciding board fs
-unfolding deciding
-same-decision board held [] = refl
-same-decision board held (good command bytes ∷ rest) = refl
-same-decision board held (refused number ∷ rest) = refl
-
 -- a call by the frames that it ended
-one-step : (board : Board) (held : Held) (fs : List Ended) (count : ℕ) → AtMostOne fs → stepOf (decidedBy board held (deciding board fs) count)
-    ≡ record {
-      state = (let after = afterAll board fs in record { identity = after .identity; table = after .table; readings = after .readings; held = held });
-      events = saidToAll board fs;
-      taken = count;
-    }
+one-step : (core : Core) (held : Held) (fs : List Ended) (count : ℕ) → AtMostOne fs
+    → stepOf (decidedBy held (deciding core fs) count) ≡ record { state = record { core = afterAll core fs; held = held }; events = saidToAll core fs; taken = count }
 unfolding decidedBy deciding saidIn
-one-step board held fs count none-ended = refl
-one-step board held fs count (one-ended f) =
-    ap (λ (e : List Said). record {
-      state = (let after = afterAll board (f ∷ []) in record { identity = after .identity; table = after .table; readings = after .readings; held = held });
-      events = e;
-      taken = count;
-    }) (sym (append-nil (saidTo board f)))
+one-step core held fs count none-ended = refl
+one-step core held fs count (one-ended f) =
+    ap (λ (e : List Said). record { state = record { core = afterOne core f; held = held }; events = e; taken = count }) (sym (append-nil (saidTo core f)))
 
 -- frames in two rows
-after-append : (board : Board) (fs gs : List Ended) → afterAll board (fs ++ gs) ≡ afterAll (afterAll board fs) gs
-after-append board [] gs = refl
-after-append board (f ∷ fs) gs = after-append (afterOne board f) fs gs
+after-append : (core : Core) (fs gs : List Ended) → afterAll core (fs ++ gs) ≡ afterAll (afterAll core fs) gs
+after-append core [] gs = refl
+after-append core (f ∷ fs) gs = after-append (afterOne core f) fs gs
 
-said-append : (board : Board) (fs gs : List Ended) → saidToAll board (fs ++ gs) ≡ saidToAll board fs ++ saidToAll (afterAll board fs) gs
-said-append board [] gs = refl
-said-append board (f ∷ fs) gs = ap (λ (l : List Said). saidTo board f ++ l) (said-append (afterOne board f) fs gs) ∙ sym (append-assoc (saidTo board f) (saidToAll (afterOne board f) fs) (saidToAll (afterAll (afterOne board f) fs) gs))
-
--- the line of a board changes neither what it says nor what becomes of it
-abbrev with : Board → Held → Board
-with board held = record { identity = board .identity; table = board .table; readings = board .readings; held = held }
-
-same-said : (board : Board) (held : Held) (fs : List Ended) → saidToAll (with board held) fs ≡ saidToAll board fs
-same-said board held [] = refl
-same-said board held (f ∷ fs) = rw (same-decision board held (f ∷ [])) (ap (λ (l : List Said). saidTo board f ++ l) (same-said (afterOne board f) held fs))
-
-same-after : (board : Board) (held other : Held) (fs : List Ended) → with (afterAll (with board held) fs) other ≡ with (afterAll board fs) other
-same-after board held other [] = refl
-same-after board held other (f ∷ fs) =
-    let one : afterOne (with board held) f ≡ with (afterOne board f) held =
-    ap (λ (d : Decision). record { identity = board .identity; table = d .table; readings = d .readings; held = held }) (same-decision board held (f ∷ [])) in
-    ap (λ (b : Board). with (afterAll b fs) other) one ∙ same-after (afterOne board f) held other fs
+said-append : (core : Core) (fs gs : List Ended) → saidToAll core (fs ++ gs) ≡ saidToAll core fs ++ saidToAll (afterAll core fs) gs
+said-append core [] gs = refl
+said-append core (f ∷ fs) gs = ap (λ (l : List Said). saidTo core f ++ l) (said-append (afterOne core f) fs gs) ∙ sym (append-assoc (saidTo core f) (saidToAll (afterOne core f) fs) (saidToAll (afterAll (afterOne core f) fs) gs))
 
 -- a piece that is heard
 abbrev takes : Line → List ℕ → ℕ
 takes l piece = taken (kept (l .reading)) piece
 
 heard-is : (l : Line) (piece : List ℕ) → heardBy (stateOf l) piece
-    ≡ decidedBy (stateOf l) (heldOf (leftFrom (l .reading) (take (takes l piece) piece))) (deciding (stateOf l) (framesFrom (l .reading) (take (takes l piece) piece))) (takes l piece)
+    ≡ decidedBy (heldOf (leftFrom (l .reading) (take (takes l piece) piece))) (deciding (l .core) (framesFrom (l .reading) (take (takes l piece) piece))) (takes l piece)
 unfolding heardBy
 heard-is l piece =
     rw (unfinished-kept (l .reading), kept-frames (l .reading) (take (takes l piece) piece), kept-left (l .reading) (take (takes l piece) piece))
@@ -109,15 +75,9 @@ heard-is l piece =
 heard-reads : (l : Line) (piece : List ℕ) → cutting.Reads call stateOf says leaves l piece (stepOf (heardBy (stateOf l) piece))
 heard-reads l piece =
     let bytes : List ℕ = take (takes l piece) piece in
-    let fs : List Ended = framesFrom (l .reading) bytes in
-    let one : AtMostOne fs = rw (kept-frames (l .reading) bytes) at (one-at-most (kept (l .reading)) piece) in
-    let step = ap stepOf (heard-is l piece) ∙ one-step (stateOf l) (heldOf (leftFrom (l .reading) bytes)) fs (takes l piece) one in
-    rw step
-    (record {
-      within = taken-within (kept (l .reading)) piece;
-      state-is = same-after (l .board) (heldOf (l .reading)) (heldOf (leftFrom (l .reading) bytes)) fs;
-      events-are = same-said (l .board) (heldOf (l .reading)) fs;
-    })
+    let one : AtMostOne (framesFrom (l .reading) bytes) = rw (kept-frames (l .reading) bytes) at (one-at-most (kept (l .reading)) piece) in
+    rw (heard-is l piece, one-step (l .core) (heldOf (leftFrom (l .reading) bytes)) (framesFrom (l .reading) bytes) (takes l piece) one)
+    (record { within = taken-within (kept (l .reading)) piece; state-is = refl; events-are = refl })
 
 -- One call, on a board whose line is anywhere, with any room: what it took is read as one row.
 nothing-taken : (l : Line) (piece : List ℕ) → cutting.Reads call stateOf says leaves l piece (record { state = stateOf l; events = []; taken = 0 })
@@ -140,12 +100,12 @@ leaves-nil : (l : Line) → leaves l [] ≡ l
 leaves-nil l = refl
 
 says-append : (l : Line) (xs ys : List ℕ) → says l (xs ++ ys) ≡ says l xs ++ says (leaves l xs) ys
-says-append l xs ys = ap (saidToAll (l .board)) (frames-append (l .reading) xs ys) ∙ said-append (l .board) (framesFrom (l .reading) xs) (framesFrom (leftFrom (l .reading) xs) ys)
+says-append l xs ys = ap (saidToAll (l .core)) (frames-append (l .reading) xs ys) ∙ said-append (l .core) (framesFrom (l .reading) xs) (framesFrom (leftFrom (l .reading) xs) ys)
 
 leaves-append : (l : Line) (xs ys : List ℕ) → leaves l (xs ++ ys) ≡ leaves (leaves l xs) ys
 leaves-append l xs ys =
-    ap₂ (λ (b : Board) (u : Unfinished). record { board = b; reading = u })
-    (ap (afterAll (l .board)) (frames-append (l .reading) xs ys) ∙ after-append (l .board) (framesFrom (l .reading) xs) (framesFrom (leftFrom (l .reading) xs) ys))
+    ap₂ (λ (c : Core) (u : Unfinished). record { core = c; reading = u })
+    (ap (afterAll (l .core)) (frames-append (l .reading) xs ys) ∙ after-append (l .core) (framesFrom (l .reading) xs) (framesFrom (leftFrom (l .reading) xs) ys))
     (left-append (l .reading) xs ys)
 
 pub any-cutting : (l : Line) (bytes : List ℕ) (offers : List (Offer ℕ)) → cutting.Reads call stateOf says leaves l bytes (calls call (stateOf l) bytes offers)

@@ -7,7 +7,7 @@ use Prim.Native.Nat.{ℕ, _+_, _^_, _≤_, _<_}
 use native.Mathlib.Omega.{arith}
 use borrow.Author.Tests.{leb-true, ltb-true, lt-ltb, le-leb, eq-eqb, eqb-true}
 use lib.ListN.{length, take, drop, getD}
-use lib.Dec.{eqb, leb, ltb}
+use lib.Dec.{eqb, ltb}
 use Rattle.laws.specs.Lists.{every, Bytes}
 use Rattle.laws.proofs.Bools.{pick, and-left, and-right, both}
 use Rattle.laws.proofs.Lists.{upTo-at}
@@ -18,25 +18,24 @@ use Rattle.stream.specs.Stream.{taken}
 use Rattle.stream.specs.Calls.{unfinished}
 use Rattle.stream.specs.Laws.{Writables, whole}
 use Rattle.endian.proofs.Theorems.{little-is-read}
-use Rattle.stream.proofs.Theorems.{written-is-heard, all-is-taken, heard-is-writable}
+use Rattle.stream.proofs.Theorems.{written-is-heard, heard-is-writable}
+use Rattle.listen.proofs.Hearing.{box-takes-all}
 use Rattle.settings.specs.Columns.{count, idAt, widthAt, placeOf}
 use Rattle.settings.specs.Calls.{finding}
 use Rattle.tables.specs.Calls.{setTo}
-use Rattle.tables.specs.declared.Table.{Table}
 use Rattle.settings.specs.declared.Setting.{Setting}
 use Rattle.settings.specs.declared.Found.{Found}
 use Rattle.tables.specs.declared.Answer.{Answer}
 use Rattle.settings.proofs.Theorems.{rows-hold, found-has-id}
+use Rattle.paper.specs.Numbers.{pingCode, versionCode, productCode, restartCode, getCode, setCode, asyncCode}
 use Rattle.answers.specs.Answers as answers
-use Rattle.answers.specs.Answers.{sent, error, Decision, said, frameAnswer}
+use Rattle.answers.specs.Answers.{withTable, sent, error, Decision, said, frameAnswer}
 use Rattle.answers.specs.Requests.{setData}
 use Rattle.who.specs.Values.{readOnly}
-use Rattle.who.specs.declared.Identity.{Identity}
-use Rattle.who.specs.declared.Readings.{Readings}
+use Rattle.answers.specs.declared.Core.{Core}
 use Rattle.endian.proofs.Little.{length-little}
 use Rattle.answers.proofs.Fitting.{writable-said}
 use Rattle.board.specs.Calls.{endedIn, deciding}
-use Rattle.board.specs.declared.Board.{Board}
 use Rattle.reply.specs.Replies.{flagOf}
 use Rattle.reply.specs.declared.Status.{Status}
 use Rattle.reply.proofs.Theorems.{said-is-read, done-is-read, unknown-is-read, error-is-read, ping-is-read}
@@ -49,7 +48,7 @@ pub heard-written : WrittenIsHeard
 heard-written command bytes nibble few small offers room many =
     let one = written-is-heard command bytes nibble few small [] in
     let same : frame command bytes ++ [] ≡ frame command bytes = append-nil (frame command bytes) in
-    all-is-taken [] (frame command bytes) offers room many ∙ rw (rw same at (one .0), rw same at (one .1))
+    box-takes-all [] (frame command bytes) offers room many ∙ rw (rw same at (one .0), rw same at (one .1))
 
 -- the replies, kind by kind
 abbrev U : Decision → Type 0
@@ -78,77 +77,75 @@ found-small id s e =
     let found = found-has-id id s e in
     rw (ap (λ (t : Setting). t .id) (found .1)) (rows-hold (s .index) (found .0) .id-holds)
 
-module _ (readings : Readings) (table : Table) (identity : Identity) where
-  tells-read : (response number : ℕ) (bytes : List ℕ) → Understood (sent response (little 2 number)) → U (answers.tells readings table response number bytes)
+set-stored : (core : Core) (s : Setting) (n : ℕ) (a : Answer) → s .id < 256 ^ 2 → U (answers.stored core s n a)
+set-stored core s n Answer.Accepted h = set-says Status.Good (s .id) (little (s .width) n) h
+set-stored core s n (Answer.Refused number nearest) h = set-says Status.ParameterError (s .id) (little (s .width) nearest) h
+
+module _ (core : Core) where
+  tells-read : (response number : ℕ) (bytes : List ℕ) → Understood (sent response (little 2 number)) → U (answers.tells core response number bytes)
   unfolding answers.tells
   tells-read response number bytes u = pick U (eqb (length bytes) 0) u failed
 
-  restart-read : (bytes : List ℕ) → U (answers.restarts readings table bytes)
+  restart-read : (bytes : List ℕ) → U (answers.restarts core bytes)
   unfolding answers.restarts
   restart-read bytes = pick U (eqb (length bytes) 0) no-reply failed
 
-  get-other : (id : ℕ) (v : Option (List ℕ)) → id < 256 ^ 2 → U (answers.getsOther readings table id v)
+  get-other : (id : ℕ) (v : Option (List ℕ)) → id < 256 ^ 2 → U (answers.getsOther core id v)
   get-other id (some value) h = get-says Status.Good id value h
   get-other id none h = get-says Status.UnknownId id [] h
 
-  get-found : (id : ℕ) (f : Found) → finding id ≡ f → id < 256 ^ 2 → U (answers.getsFound readings table identity id f)
-  get-found id (Found.At s) e h = get-says Status.Good (s .id) (answers.heldBytes table s) (found-small id s e)
-  get-found id Found.Nothing e h = get-other id (readOnly identity readings id) h
+  get-found : (id : ℕ) (f : Found) → finding id ≡ f → id < 256 ^ 2 → U (answers.getsFound core id f)
+  get-found id (Found.At s) e h = get-says Status.Good (s .id) (answers.nowHeld core s) (found-small id s e)
+  get-found id Found.Nothing e h = get-other id (readOnly (core .identity) (core .readings) id) h
 
-  get-read : (bytes : List ℕ) → Bytes bytes → U (answers.getAnswer readings table identity bytes)
+  get-read : (bytes : List ℕ) → Bytes bytes → U (answers.getAnswer core bytes)
   unfolding answers.getAnswer
   get-read bytes small =
       pick U (eqb (length bytes) 3) (pick U (eqb (getD bytes 2 0) 0) (get-found _ (finding (fromLittle (take 2 bytes))) refl (two-small bytes (small .below))) failed) failed
 
-  set-stored : (s : Setting) (n : ℕ) (t : Table) (a : Answer) → s .id < 256 ^ 2 → U (answers.stored readings s n t a)
-  set-stored s n t Answer.Accepted h = set-says Status.Good (s .id) (little (s .width) n) h
-  set-stored s n t (Answer.Refused number nearest) h = set-says Status.ParameterError (s .id) (little (s .width) nearest) h
-
-  set-setting : (s : Setting) (value : List ℕ) → s .id < 256 ^ 2 → U (answers.setsSetting readings table s value)
+  set-setting : (s : Setting) (value : List ℕ) → s .id < 256 ^ 2 → U (answers.setsSetting core s value)
   unfolding answers.setsSetting
   set-setting s value small =
-      let change = setTo table (s .index) (fromLittle value) in
-      pick U (eqb (length value) (s .width)) {x = answers.stored readings s (fromLittle value) (change .table) (change .answer)} {y = answers.wrongWidth readings table s}
-      (set-stored s (fromLittle value) (change .table) (change .answer) small) (set-says Status.ParameterError (s .id) (answers.heldBytes table s) small)
+      let change = setTo (core .table) (s .index) (fromLittle value) in
+      pick U (eqb (length value) (s .width)) {x = answers.stored (withTable core (change .table)) s (fromLittle value) (change .answer)} {y = answers.wrongWidth core s}
+      (set-stored (withTable core (change .table)) s (fromLittle value) (change .answer) small) (set-says Status.ParameterError (s .id) (answers.nowHeld core s) small)
 
-  set-other : (id : ℕ) (v : Option (List ℕ)) → id < 256 ^ 2 → U (answers.setsOther readings table id v)
+  set-other : (id : ℕ) (v : Option (List ℕ)) → id < 256 ^ 2 → U (answers.setsOther core id v)
   set-other id (some v) h = set-says Status.NotSupported id [] h
   set-other id none h = set-says Status.UnknownId id [] h
 
-  set-found : (id : ℕ) (value : List ℕ) (f : Found) → finding id ≡ f → id < 256 ^ 2 → U (answers.setsFound readings table identity id value f)
+  set-found : (id : ℕ) (value : List ℕ) (f : Found) → finding id ≡ f → id < 256 ^ 2 → U (answers.setsFound core id value f)
   set-found id value (Found.At s) e h = set-setting s value (found-small id s e)
-  set-found id value Found.Nothing e h = set-other id (readOnly identity readings id) h
+  set-found id value Found.Nothing e h = set-other id (readOnly (core .identity) (core .readings) id) h
 
-  set-read : (bytes : List ℕ) → Bytes bytes → U (answers.setAnswer readings table identity bytes)
+  set-read : (bytes : List ℕ) → Bytes bytes → U (answers.setAnswer core bytes)
   unfolding answers.setAnswer
   set-read bytes small =
       pick U (ltb (length bytes) 3) failed
       (pick U (eqb (getD bytes 2 0) 0) (set-found _ (drop 3 bytes) (finding (fromLittle (take 2 bytes))) refl (two-small bytes (small .below))) failed)
 
-frame-understood : (readings : Readings) (table : Table) (identity : Identity) (command : ℕ) (bytes : List ℕ) → identity .version < 256 ^ 2 → Bytes bytes
-    → Understood (frameAnswer readings table identity command bytes .reply)
+frame-understood : (core : Core) (command : ℕ) (bytes : List ℕ) → core .identity .version < 256 ^ 2 → Bytes bytes → Understood (frameAnswer core command bytes .reply)
 unfolding frameAnswer
-frame-understood readings table identity command bytes version small =
-    pick U (eqb command 1) (tells-read readings table identity 5 (identity .version) bytes (as-ping (identity .version) (ping-is-read (identity .version) version)))
-    (pick U (eqb command 3) (tells-read readings table identity 1 (identity .version) bytes (as-done _ (done-is-read _)))
-    (pick U (eqb command 4) (tells-read readings table identity 1 (identity .product) bytes (as-done _ (done-is-read _)))
-    (pick U (eqb command 6) (restart-read readings table identity bytes)
-    (pick U (eqb command 7) (get-read readings table identity bytes small)
-    (pick U (eqb command 8) (set-read readings table identity bytes small)
-    (pick U (eqb command 0xA) no-reply (as-unknown command (unknown-is-read command))))))))
+frame-understood core command bytes version small =
+    pick U (eqb command pingCode) (tells-read core 5 (core .identity .version) bytes (as-ping (core .identity .version) (ping-is-read (core .identity .version) version)))
+    (pick U (eqb command versionCode) (tells-read core 1 (core .identity .version) bytes (as-done _ (done-is-read _)))
+    (pick U (eqb command productCode) (tells-read core 1 (core .identity .product) bytes (as-done _ (done-is-read _)))
+    (pick U (eqb command restartCode) (restart-read core bytes)
+    (pick U (eqb command getCode) (get-read core bytes small)
+    (pick U (eqb command setCode) (set-read core bytes small)
+    (pick U (eqb command asyncCode) no-reply (as-unknown command (unknown-is-read command))))))))
 
 -- and whatever a board decides of the frame that ended
-decided-understood : (board : Board) (fs : List Ended) → Writables fs → board .identity .version < 256 ^ 2 → Understood (deciding board fs .reply)
+decided-understood : (core : Core) (fs : List Ended) → Writables fs → core .identity .version < 256 ^ 2 → Understood (deciding core fs .reply)
 unfolding deciding
-decided-understood board [] w version = no-reply
-decided-understood board (good command bytes ∷ rest) (whole w others) version =
-    frame-understood (board .readings) (board .table) (board .identity) command bytes version (w .small)
-decided-understood board (refused number ∷ rest) w version = failed
+decided-understood core [] w version = no-reply
+decided-understood core (good command bytes ∷ rest) (whole w others) version = frame-understood core command bytes version (w .small)
+decided-understood core (refused number ∷ rest) w version = failed
 
 pub replies-understood : RepliesAreUnderstood
-replies-understood board piece version =
-    let u = unfinished (board .held) in
-    decided-understood board (endedIn board piece) (heard-is-writable u (take (taken u piece) piece)) version
+replies-understood core held piece version =
+    let u = unfinished held in
+    decided-understood core (endedIn held piece) (heard-is-writable u (take (taken u piece) piece)) version
 
 -- the requests
 pub get-understood : GetIsUnderstood

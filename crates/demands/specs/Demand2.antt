@@ -16,14 +16,15 @@ use Rattle.endian.specs.Numbers.{little, fromLittle}
 use Rattle.wire.specs.Reading.{good}
 use Rattle.stream.specs.Stream.{outside, framesOf}
 use Rattle.stream.specs.Calls.{heldOf}
+use Rattle.stream.specs.declared.Held.{Held}
 use Rattle.wire.specs.Laws as wire
 use Rattle.laws.specs.Lists.{Bytes}
-use Rattle.stream.specs.Laws.{hears}
 use Rattle.settings.specs.Columns.{count, widthAt}
 use Rattle.answers.specs.Answers.{Sent, silent, sent, error, said}
 use Rattle.answers.specs.Requests.{getRequest, setData, setRequest}
+use Rattle.answers.specs.declared.Core.{Core}
 use Rattle.board.specs.Calls.{endedIn, deciding}
-use Rattle.board.specs.declared.Board.{Board}
+use Rattle.listen.specs.Hearing.{boxHears}
 use Rattle.reply.specs.Replies.{flagOf, rest}
 use Rattle.reply.specs.Calls.{reading}
 use Rattle.reply.specs.declared.Status.{Status}
@@ -31,7 +32,7 @@ use Rattle.reply.specs.declared.Reply.{Reply}
 use Rattle.follow.specs.Laws as follow
 use Rattle.demands.specs.Sets.{placeIn, valueIn, isComplete}
 
--- 1. Written by one end, read by the other as the same command and data: whole, and by the stream reader in any cutting, with room enough in
+-- 1. Written by one end, read by the other as the same command and data: whole, and by the box in any cutting, with room enough in
 -- each call.
 abbrev pub WrittenIsRead : Type 0
 WrittenIsRead = wire.WrittenIsRead
@@ -40,7 +41,7 @@ abbrev pub WrittenIsHeard : Type 0
 WrittenIsHeard =
     (command : ℕ) (bytes : List ℕ) → command ≤ mostNibble → length bytes ≤ mostData → Bytes bytes
     → (offers : List (Offer ℕ)) → ready (λ room. leb mostData room) offers ≡ true → length (frame command bytes) ≤ length offers
-    → Cutting.calls hears (heldOf outside) (frame command bytes) offers
+    → Cutting.calls boxHears (heldOf outside) (frame command bytes) offers
     ≡ record { state = heldOf outside; events = good command bytes ∷ []; taken = length (frame command bytes) }
 
 -- 2. Read whole, it is byte for byte what the writer makes.
@@ -63,7 +64,7 @@ pub data Understood : Sent → Type 0 where
 
 abbrev pub RepliesAreUnderstood : Type 0
 RepliesAreUnderstood =
-    (board : Board) (piece : List ℕ) → board .identity .version < 256 ^ 2 → Understood (deciding board (endedIn board piece) .reply)
+    (core : Core) (held : Held) (piece : List ℕ) → core .identity .version < 256 ^ 2 → Understood (deciding core (endedIn held piece) .reply)
 
 -- Every request that the box writes is read by a board as that request: a Get of its id; a complete Set of its setting to its number.
 abbrev pub GetIsUnderstood : Type 0

@@ -14,18 +14,19 @@ use Rattle.paper.specs.Numbers.{mostData, frameRoom}
 use Rattle.wire.specs.Reading.{Ended, good, refused}
 use Rattle.stream.specs.Stream.{Unfinished, outside, framesFrom, leftFrom, framesOf}
 use Rattle.stream.specs.Calls.{heldOf}
-use Rattle.stream.specs.Laws.{hears}
 use Rattle.settings.specs.Columns.{count, roleAt}
 use Rattle.settings.specs.Rules.{inRange, agrees}
 use Rattle.tables.specs.Rules.{allowed, numberAt, partnerNumber}
 use Rattle.tables.specs.declared.Table.{Table}
 use Rattle.who.specs.Parts.{serialFits}
+use Rattle.answers.specs.Answers.{coreAllowed, withTable}
 use Rattle.answers.specs.Requests.{setRequest}
+use Rattle.answers.specs.declared.Core.{Core}
 use Rattle.answers.specs.declared.Outcome.{Outcome}
-use Rattle.board.specs.Parts.{boardAllowed}
 use Rattle.board.specs.Calls.{starting, answering}
 use Rattle.board.specs.declared.Answered.{Answered}
 use Rattle.board.specs.declared.Board.{Board}
+use Rattle.listen.specs.Hearing.{boxHears}
 use Rattle.reply.specs.Events.{Event, heard, refusedFrame}
 use Rattle.restore.specs.Order.{dueSets}
 use Rattle.restore.specs.Calls.{framesFor}
@@ -36,15 +37,15 @@ use Rattle.follow.specs.Following.{standing, begun}
 use Rattle.follow.specs.Laws.{run}
 use Rattle.follow.specs.declared.Follower.{Follower}
 use Rattle.follow.specs.declared.Outcome as follows
-use Rattle.demands.specs.Sets.{made}
-use Rattle.demands.specs.Talk.{Deed, stores, calls, Said, Talk, talkBy, talk, afterAll, saidToAll, withLine}
+use Rattle.demands.specs.Sets.{anySetting, made}
+use Rattle.demands.specs.Talk.{Deed, stores, calls, Said, Talk, talkBy, talk, afterAll, saidToAll, boardAt}
 
 -- what holds after a conversation that began with the table `first`
 pub record Decided (first : Table) (bytes : List ℕ) (end : Talk) : Type 0 where
   pub within : end .taken ≤ length bytes
-  pub in-range : (k : ℕ) → k < count → inRange k (numberAt (end .board .table) k) ≡ true
-  pub pairs-agree : (k : ℕ) → k < count → agrees (roleAt k) (numberAt (end .board .table) k) (partnerNumber (end .board .table) k) ≡ true
-  pub table-is : end .board .table ≡ made first (framesOf (take (end .taken) bytes))
+  pub in-range : (k : ℕ) → k < count → inRange k (numberAt (end .board .core .table) k) ≡ true
+  pub pairs-agree : (k : ℕ) → k < count → agrees (roleAt k) (numberAt (end .board .core .table) k) (partnerNumber (end .board .core .table) k) ≡ true
+  pub table-is : end .board .core .table ≡ made anySetting first (framesOf (take (end .taken) bytes))
 
 -- 1. For every identity, every allowed table, every row of bytes and every row of deeds; said of any way of answering, so that it can be
 -- tried on a sham, and of the board's own. (A table has its numbers in every value of the type, which `length` says; a serial that
@@ -64,14 +65,13 @@ isCalls [] = true
 isCalls (stores given ∷ more) = false
 isCalls (calls count room ∷ more) = isCalls more
 
-pub record Read (board : Board) (u : Unfinished) (bytes : List ℕ) (end : Talk) : Type 0 where
-  pub said-is : end .said ≡ saidToAll board (framesFrom u (take (end .taken) bytes))
-  pub board-is : end .board ≡ withLine (afterAll board (framesFrom u (take (end .taken) bytes))) (leftFrom u (take (end .taken) bytes))
+pub record Read (core : Core) (u : Unfinished) (bytes : List ℕ) (end : Talk) : Type 0 where
+  pub said-is : end .said ≡ saidToAll core (framesFrom u (take (end .taken) bytes))
+  pub board-is : end .board ≡ boardAt (afterAll core (framesFrom u (take (end .taken) bytes))) (leftFrom u (take (end .taken) bytes))
 
 abbrev pub AnyCutting : Type 0
 AnyCutting =
-    (board : Board) (u : Unfinished) → board .held ≡ heldOf u → (bytes : List ℕ) (deeds : List Deed) → isCalls deeds ≡ true
-    → Read board u bytes (talk board bytes deeds)
+    (core : Core) (u : Unfinished) (bytes : List ℕ) (deeds : List Deed) → isCalls deeds ≡ true → Read core u bytes (talk (boardAt core u) bytes deeds)
 
 -- 2. "Between any two allowed tables the restore list has one Set for each setting that differs and no other;
 abbrev pub OneSetForEach : Type 0
@@ -93,16 +93,15 @@ isFeeding (calls count room ∷ more) = (leb 1 count && leb frameRoom room) && i
 abbrev pub acceptedSet : Wanted → Said
 acceptedSet w = record { outcome = Outcome.Answered; reply = setRequest (w .setting .index) (w .number) }
 
-pub record Stands (from to : Table) (board : Board) (end : Talk) : Type 0 where
-  pub all-taken : end .taken ≡ length (framesFor (dueSets from to))
-  pub each-accepted : end .said ≡ map acceptedSet (dueSets from to)
-  pub board-is : end .board ≡ record { identity = board .identity; table = to; readings = board .readings; held = heldOf outside }
+pub record Stands (core : Core) (to : Table) (end : Talk) : Type 0 where
+  pub all-taken : end .taken ≡ length (framesFor (dueSets (core .table) to))
+  pub each-accepted : end .said ≡ map acceptedSet (dueSets (core .table) to)
+  pub board-is : end .board ≡ boardAt (withTable core to) outside
 
 abbrev pub ListIsAccepted : Type 0
 ListIsAccepted =
-    (from to : Table) → Tables from to → (board : Board) → boardAllowed board ≡ true → board .held ≡ heldOf outside → board .table ≡ from
-    → (deeds : List Deed) → isFeeding deeds ≡ true → length (framesFor (dueSets from to)) ≤ length deeds
-    → Stands from to board (talk board (framesFor (dueSets from to)) deeds)
+    (core : Core) (to : Table) → coreAllowed core ≡ true → Tables (core .table) to → (deeds : List Deed) → isFeeding deeds ≡ true
+    → length (framesFor (dueSets (core .table) to)) ≤ length deeds → Stands core to (talk (boardAt core outside) (framesFor (dueSets (core .table) to)) deeds)
 
 -- 3. The same with the box at the other end: it reads the board's replies in any cutting and follows them, and all Sets are confirmed.
 abbrev pub repliesOf : List Said → List ℕ
@@ -115,7 +114,7 @@ eventFor (refused number) = refusedFrame
 
 -- a follower fed what the box hears of some bytes, call by call
 abbrev pub followed : Table → Table → List ℕ → List (Offer ℕ) → Follower
-followed from to bytes offers = run (begun from to) (map eventFor (Cutting.calls hears (heldOf outside) bytes offers .events))
+followed from to bytes offers = run (begun from to) (map eventFor (Cutting.calls boxHears (heldOf outside) bytes offers .events))
 
 pub record Confirmed (from to : Table) (f : Follower) : Type 0 where
   pub all-confirmed : f .confirmed ≡ length (dueSets from to)
@@ -124,8 +123,7 @@ pub record Confirmed (from to : Table) (f : Follower) : Type 0 where
 
 abbrev pub ListIsConfirmed : Type 0
 ListIsConfirmed =
-    (from to : Table) → Tables from to → (board : Board) → boardAllowed board ≡ true → board .held ≡ heldOf outside → board .table ≡ from
-    → (deeds : List Deed) → isFeeding deeds ≡ true → length (framesFor (dueSets from to)) ≤ length deeds
-    → (offers : List (Offer ℕ)) → ready (λ room. leb mostData room) offers ≡ true
-    → length (repliesOf (talk board (framesFor (dueSets from to)) deeds .said)) ≤ length offers
-    → Confirmed from to (followed from to (repliesOf (talk board (framesFor (dueSets from to)) deeds .said)) offers)
+    (core : Core) (to : Table) → coreAllowed core ≡ true → Tables (core .table) to → (deeds : List Deed) → isFeeding deeds ≡ true
+    → length (framesFor (dueSets (core .table) to)) ≤ length deeds → (offers : List (Offer ℕ)) → ready (λ room. leb mostData room) offers ≡ true
+    → let replies = repliesOf (talk (boardAt core outside) (framesFor (dueSets (core .table) to)) deeds .said) in
+    length replies ≤ length offers → Confirmed (core .table) to (followed (core .table) to replies offers)

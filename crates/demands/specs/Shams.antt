@@ -16,14 +16,14 @@ use Rattle.wire.specs.Frame.{frame}
 use Rattle.endian.specs.Numbers.{little}
 use Rattle.stream.specs.Stream.{taken}
 use Rattle.stream.specs.Calls as stream
-use Rattle.stream.specs.Calls.{unfinished, hearing}
+use Rattle.stream.specs.Calls.{unfinished}
 use Rattle.stream.specs.declared.Held.{Held}
 use Rattle.stream.specs.declared.Heard.{Heard}
 use Rattle.settings.specs.Columns.{count, idAt, widthAt, factories}
 use Rattle.settings.specs.Rules.{allowedFor}
 use Rattle.tables.specs.Rules.{numberAt, partnerNumber, changed}
 use Rattle.tables.specs.declared.Table.{Table}
-use Rattle.answers.specs.Answers.{said}
+use Rattle.answers.specs.Answers.{withTable, said}
 use Rattle.answers.specs.Requests.{getRequest, setRequest}
 use Rattle.answers.specs.declared.Outcome.{Outcome}
 use Rattle.board.specs.Parts.{boardAllowed}
@@ -31,6 +31,7 @@ use Rattle.board.specs.Calls.{answering, unanswered}
 use Rattle.board.specs.Laws.{atRest, comesTo}
 use Rattle.board.specs.declared.Board.{Board}
 use Rattle.board.specs.declared.Answered.{Answered}
+use Rattle.listen.specs.Hearing.{boxHearing}
 use Rattle.reply.specs.Events.{Event, OnStream}
 use Rattle.restore.specs.Order.{dueSets}
 use Rattle.restore.specs.Calls.{bothAllowed}
@@ -43,13 +44,13 @@ abbrev pub GetsHeld : (Board → List ℕ → ℕ → Given Answered) → Type 0
 GetsHeld answer =
     (board : Board) (k room : ℕ) → boardAllowed board ≡ true → atRest board → k < count → frameRoom ≤ room
     → answer board (getRequest (idAt k)) room
-    ≡ comesTo board (board .table) Outcome.Answered (frame getCode (said (idAt k) 0 (little (widthAt k) (numberAt (board .table) k)))) (getRequest (idAt k))
+    ≡ comesTo board (board .core) Outcome.Answered (frame getCode (said (idAt k) 0 (little (widthAt k) (numberAt (board .core .table) k)))) (getRequest (idAt k))
 
 abbrev pub SetsStored : (Board → List ℕ → ℕ → Given Answered) → Type 0
 SetsStored answer =
     (board : Board) (k n room : ℕ) → boardAllowed board ≡ true → atRest board → k < count → frameRoom ≤ room
-    → allowedFor k n (partnerNumber (board .table) k) ≡ true
-    → answer board (setRequest k n) room ≡ comesTo board (changed (board .table) k n) Outcome.Answered (setRequest k n) (setRequest k n)
+    → allowedFor k n (partnerNumber (board .core .table) k) ≡ true
+    → answer board (setRequest k n) room ≡ comesTo board (withTable (board .core) (changed (board .core .table) k n)) Outcome.Answered (setRequest k n) (setRequest k n)
 
 -- the frame-end rule
 abbrev pub TakesToTheEnd : (Board → List ℕ → ℕ → Given Answered) → Type 0
@@ -67,20 +68,12 @@ abbrev pub Counts : (Table → Table → List Event → ℕ) → Type 0
 Counts confirmed =
     (from to : Table) (events : List Event) → bothAllowed from to ≡ true → OnStream events → confirmed from to events ≡ matched (dueSets from to) events
 
--- The shams. A board with another table, and an answer with another board.
-abbrev pub holding : Board → Table → Board
-holding board table = record { identity = board .identity; table = table; readings = board .readings; held = board .held }
-
+-- The shams. An answer whose board has another table.
 abbrev pub leaving : Given Answered → Table → Given Answered
 leaving given table =
+    let a = given .answer in
     record {
-      answer =
-          record {
-            board = holding (given .answer .board) table;
-            outcome = given .answer .outcome;
-            len = given .answer .len;
-            taken = given .answer .taken;
-          };
+      answer = record { board = record { core = withTable (a .board .core) table; held = a .board .held }; outcome = a .outcome; len = a .len; taken = a .taken };
       written = given .written;
     }
 
@@ -90,16 +83,16 @@ refusesAll board piece room = unanswered board paper.notAllowed
 
 -- always answers alike: whatever it is asked, the capacity is 200
 abbrev pub answersAlike : Board → List ℕ → ℕ → Given Answered
-answersAlike board piece room = comesTo board (board .table) Outcome.Answered (frame getCode (said 0x1000 0 (little 2 200))) piece
+answersAlike board piece room = comesTo board (board .core) Outcome.Answered (frame getCode (said 0x1000 0 (little 2 200))) piece
 
 -- confirms and stores nothing
 abbrev pub storesNothing : Board → List ℕ → ℕ → Given Answered
-storesNothing board piece room = leaving (answering board piece room) (board .table)
+storesNothing board piece room = leaving (answering board piece room) (board .core .table)
 
 -- handles the first Set truly and fakes the rest: once its table is not the factory's any more, it stays
 abbrev pub firstSetAlone : Board → List ℕ → ℕ → Given Answered
 firstSetAlone board piece room =
-    cond (same (board .table .numbers) factories) (answering board piece room) (leaving (answering board piece room) (board .table))
+    cond (same (board .core .table .numbers) factories) (answering board piece room) (leaving (answering board piece room) (board .core .table))
 
 -- never changes its table: it takes every byte and says nothing
 abbrev pub neverChanges : Board → List ℕ → ℕ → Given Answered
@@ -117,7 +110,7 @@ takesAll board piece room =
 
 abbrev pub hearsAll : Held → List ℕ → ℕ → Given Heard
 hearsAll held piece room =
-    let given = hearing held piece room in
+    let given = boxHearing held piece room in
     record { answer = record { held = given .answer .held; event = given .answer .event; taken = length piece }; written = given .written }
 
 -- invents its confirmed count: the Sets that were sent
@@ -142,5 +135,5 @@ pub record RealPass : Type 0 where
   pub board-sets : SetsStored answering
   pub board-decides : Decides answering
   pub board-takes : TakesToTheEnd answering
-  pub box-takes : HearsToTheEnd hearing
+  pub box-takes : HearsToTheEnd boxHearing
   pub follower-counts : Counts (λ from to events. run (begun from to) events .confirmed)

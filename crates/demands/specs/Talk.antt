@@ -6,6 +6,7 @@ use mathlib.Core.List.{List, [], _∷_, _++_}
 use lib.ListN.{take, drop}
 use lib.Dec.{ltb}
 use Rattle.laws.specs.Promise.{Given}
+use Rattle.answers.specs.declared.Core.{Core}
 use Rattle.answers.specs.declared.Outcome.{Outcome}
 use Rattle.wire.specs.Reading.{Ended}
 use Rattle.stream.specs.Stream.{Unfinished}
@@ -56,23 +57,21 @@ talkBy answer board bytes (calls count room ∷ more) =
 abbrev pub talk : Board → List ℕ → List Deed → Talk
 talk = talkBy answering
 
--- The same with no calls in it: what a board says of a row of frames, one after the other, and what it is afterwards.
-abbrev pub afterOne : Board → Ended → Board
-afterOne board f =
-    let d = deciding board (f ∷ []) in
-    record { identity = board .identity; table = d .table; readings = d .readings; held = board .held }
+-- The same with no calls and no line in it: what is said of a row of frames, one after the other, and what the board is and holds afterwards.
+abbrev pub afterOne : Core → Ended → Core
+afterOne core f = deciding core (f ∷ []) .core
 
-abbrev pub afterAll : Board → List Ended → Board
-afterAll board [] = board
-afterAll board (f ∷ more) = afterAll (afterOne board f) more
+abbrev pub afterAll : Core → List Ended → Core
+afterAll core [] = core
+afterAll core (f ∷ more) = afterAll (afterOne core f) more
 
-abbrev pub saidTo : Board → Ended → List Said
-saidTo board f = let d = deciding board (f ∷ []) in ofFrame (record { outcome = d .outcome; reply = replyBytes (d .reply) }) (d .outcome)
+abbrev pub saidTo : Core → Ended → List Said
+saidTo core f = let d = deciding core (f ∷ []) in ofFrame (record { outcome = d .outcome; reply = replyBytes (d .reply) }) (d .outcome)
 
-abbrev pub saidToAll : Board → List Ended → List Said
-saidToAll board [] = []
-saidToAll board (f ∷ more) = saidTo board f ++ saidToAll (afterOne board f) more
+abbrev pub saidToAll : Core → List Ended → List Said
+saidToAll core [] = []
+saidToAll core (f ∷ more) = saidTo core f ++ saidToAll (afterOne core f) more
 
--- a board whose line has read some bytes: only the unfinished frame is another
-abbrev pub withLine : Board → Unfinished → Board
-withLine board u = record { identity = board .identity; table = board .table; readings = board .readings; held = heldOf u }
+-- a board whose line is outside a frame, or inside one with some characters
+abbrev pub boardAt : Core → Unfinished → Board
+boardAt core u = record { core = core; held = heldOf u }

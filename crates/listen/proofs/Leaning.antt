@@ -11,25 +11,26 @@ use lib.Dec.{ltb, leb, eqb}
 use Rattle.laws.specs.Promise.{Given}
 use Rattle.wire.specs.Reading.{Ended, good, refused}
 use Rattle.stream.specs.Stream.{framesFrom, taken}
-use Rattle.stream.specs.Calls.{allowed, unfinished, hearing, eventOf, dataOfFirst}
+use Rattle.stream.specs.Calls.{allowed, unfinished, eventOf, dataOfFirst}
 use Rattle.wire.specs.Laws.{Writable}
 use Rattle.stream.specs.Laws.{Writables, whole}
 use Rattle.stream.specs.declared.Event.{Event}
 use Rattle.stream.proofs.Theorems.{heard-is-writable}
-use Rattle.stream.proofs.Answers.{hearing-heard}
 use Rattle.stream.proofs.Streams.{taken-within}
 use Rattle.reply.specs.Events.{OnStream, nothing, a-frame, a-refusal, a-silence}
 use Rattle.listen.specs.declared.Listener.{Listener}
 use Rattle.listen.specs.declared.Told.{Told}
 use Rattle.listen.specs.declared.Listened.{Listened}
+use Rattle.listen.specs.Hearing.{boxHearing}
 use Rattle.listen.specs.Calls.{mostQuiet, mostNoise, afterSilence, afterNoise, toldBy, refusing, silent, wordless, reporting, listening}
 use Rattle.listen.specs.Laws.{eventsIn, Whole, TakenIsWithin, FrameIsWhole, EventsAreOnStream}
+use Rattle.listen.proofs.Hearing.{box-heard}
 use Rattle.listen.proofs.Settling.{listening-short, listening-past, listening-stray, listening-silent, listening-heard}
 
--- a call is refused, hears nothing, or hears what the stream hears
+-- a call is refused, hears nothing, or hears what the box hears
 module _ (l : Listener) (piece : List ℕ) (room : ℕ) (P : Given Listened → Type 0) where
   cases : ((n : ℕ) → P (wordless (refusing l n))) → P (wordless (silent l))
-      → (35 ≤ room → allowed (l .held) ≡ true → P (reporting l (hearing (l .held) piece room))) → P (listening l piece room)
+      → (35 ≤ room → allowed (l .held) ≡ true → P (reporting l (boxHearing (l .held) piece room))) → P (listening l piece room)
   cases refuses quiet hears = by _ _ _ _ refl refl refl refl
     where
       by : (a b c d : Bool) → ltb room 35 ≡ a → (leb (l .quiet) mostQuiet && leb (l .noise) mostNoise) ≡ b → allowed (l .held) ≡ c → eqb (length piece) 0 ≡ d → P (listening l piece room)
@@ -42,7 +43,7 @@ module _ (l : Listener) (piece : List ℕ) (room : ℕ) (P : Given Listened → 
 pub taken-fits : TakenIsWithin
 taken-fits l piece room =
     cases l piece room (λ g. g .answer .taken ≤ length piece) (λ n. omega arith) (omega arith)
-    (λ enough ok. rw (hearing-heard (l .held) piece room enough ok) (taken-within (unfinished (l .held)) piece))
+    (λ enough ok. rw (box-heard (l .held) piece room enough ok) (taken-within (unfinished (l .held)) piece))
 
 -- a frame that is told
 
@@ -76,11 +77,11 @@ frame-whole l piece room command len =
     cases l piece room (λ g. g .answer .told ≡ Told.Frame command len → Whole command len (g .written))
     (λ n e. let z : _≡_ {A = ℕ} 0 1 = cc in absurd (omega arith))
     (λ e. silence-frameless _ command len e)
-    (λ enough ok e. hears enough ok (told-frame _ (hearing (l .held) piece room .answer .event) command len e))
+    (λ enough ok e. hears enough ok (told-frame _ (boxHearing (l .held) piece room .answer .event) command len e))
   where
-    hears : 35 ≤ room → allowed (l .held) ≡ true → hearing (l .held) piece room .answer .event ≡ Event.Frame command len → Whole command len (hearing (l .held) piece room .written)
+    hears : 35 ≤ room → allowed (l .held) ≡ true → boxHearing (l .held) piece room .answer .event ≡ Event.Frame command len → Whole command len (boxHearing (l .held) piece room .written)
     hears enough ok e =
-        let heard = hearing-heard (l .held) piece room enough ok in
+        let heard = box-heard (l .held) piece room enough ok in
         let bytes : List ℕ = take (taken (unfinished (l .held)) piece) piece in
         rw heard (frame-of (framesFrom (unfinished (l .held)) bytes) command len (heard-is-writable (unfinished (l .held)) bytes) (rw heard at e))
 

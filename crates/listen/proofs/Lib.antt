@@ -1,5 +1,5 @@
 -- Laws of the definitions of specs/, and what the proofs of the functions cite.
-pub mod Steps
+pub mod Hearing
 pub mod Settling
 pub mod Merging
 pub mod Patience

@@ -13,20 +13,19 @@ use Rattle.laws.specs.Cutting.{Step, Offer, calls, ready}
 use Rattle.laws.proofs.Bools.{both}
 use Rattle.wire.specs.Reading.{Ended}
 use Rattle.stream.specs.Stream.{leftBy}
-use Rattle.stream.specs.Calls.{allowed, heldOf, hearing}
-use Rattle.stream.specs.Laws.{frameIn, hears}
+use Rattle.stream.specs.Calls.{allowed, heldOf}
+use Rattle.stream.specs.Laws.{frameIn}
 use Rattle.stream.specs.Laws as stream
 use Rattle.stream.specs.declared.Held.{Held}
 use Rattle.stream.specs.declared.Event.{Event}
-use Rattle.stream.proofs.Theorems as streams
-use Rattle.stream.proofs.Answers.{hearing-short}
 use Rattle.stream.proofs.Reached.{left-allowed}
 use Rattle.listen.specs.declared.Listener.{Listener}
 use Rattle.listen.specs.declared.Told.{Told}
 use Rattle.listen.specs.declared.Listened.{Listened}
+use Rattle.listen.specs.Hearing.{boxHearing, boxHears}
 use Rattle.listen.specs.Calls.{mostQuiet, mostNoise, quieter, louder, afterNoise, afterSilence, toldBy, listenerAllowed, listening}
 use Rattle.listen.specs.Laws.{framesIn, Turn, readied, listens, listenerAt, AnyCutting, AllIsTaken, unasked, NoiseIsCounted}
-use Rattle.listen.proofs.Steps.{one-cut, small-refusal}
+use Rattle.listen.proofs.Hearing.{box-short, box-cutting, box-takes-all, one-cut, small-refusal}
 use Rattle.listen.proofs.Settling.{listening-short, listening-silent, listening-heard, filled, none-heard}
 
 -- what is told, read as frames
@@ -71,18 +70,18 @@ module _ (earlier : List ℕ) (quiet noise : ℕ) (few : quiet ≤ mostQuiet) (l
   abbrev now : Listener
   now = listenerAt earlier quiet noise
 
-  short-alike : (piece : List ℕ) → room < 35 → Alike noise (stepFrom (listening now piece room)) (hears (heldOf (leftBy earlier)) room piece)
+  short-alike : (piece : List ℕ) → room < 35 → Alike noise (stepFrom (listening now piece room)) (boxHears (heldOf (leftBy earlier)) room piece)
   short-alike piece h =
-      rw (listening-short now piece room h, hearing-short (heldOf (leftBy earlier)) piece room h)
+      rw (listening-short now piece room h, box-short (heldOf (leftBy earlier)) piece room h)
       (record { held-alike = refl; events-alike = refl; taken-alike = refl; quiet-few = few; noise-counted = omega arith })
 
   module _ (enough : 35 ≤ room) where
-    none-alike : Alike noise (stepFrom (listening now [] room)) (hears (heldOf (leftBy earlier)) room [])
+    none-alike : Alike noise (stepFrom (listening now [] room)) (boxHears (heldOf (leftBy earlier)) room [])
     none-alike =
-        let cut : stream.Cut earlier [] (hears (heldOf (leftBy earlier)) room []) = one-cut earlier [] room in
+        let cut : stream.Cut earlier [] (boxHears (heldOf (leftBy earlier)) room []) = one-cut earlier [] room in
         let none = none-heard (heldOf (leftBy earlier)) room enough (left-allowed earlier) in
-        let zero-taken : hearing (heldOf (leftBy earlier)) [] room .answer .taken ≤ 0 = cut .within in
-        let stays : hearing (heldOf (leftBy earlier)) [] room .answer .held ≡ heldOf (leftBy earlier) = rw (take-nil, append-nil) at (cut .state-is) in
+        let zero-taken : boxHearing (heldOf (leftBy earlier)) [] room .answer .taken ≤ 0 = cut .within in
+        let stays : boxHearing (heldOf (leftBy earlier)) [] room .answer .held ≡ heldOf (leftBy earlier) = rw (take-nil, append-nil) at (cut .state-is) in
         rw (listening-silent now [] room enough (in-ends quiet noise few low) (left-allowed earlier) refl)
         (record {
           held-alike = sym stays;
@@ -92,9 +91,9 @@ module _ (earlier : List ℕ) (quiet noise : ℕ) (few : quiet ≤ mostQuiet) (l
           noise-counted = omega arith;
         })
 
-    some-alike : (b : ℕ) (bs : List ℕ) → Alike noise (stepFrom (listening now (b ∷ bs) room)) (hears (heldOf (leftBy earlier)) room (b ∷ bs))
+    some-alike : (b : ℕ) (bs : List ℕ) → Alike noise (stepFrom (listening now (b ∷ bs) room)) (boxHears (heldOf (leftBy earlier)) room (b ∷ bs))
     some-alike b bs =
-        let heard = hearing (heldOf (leftBy earlier)) (b ∷ bs) room in
+        let heard = boxHearing (heldOf (leftBy earlier)) (b ∷ bs) room in
         rw (listening-heard now (b ∷ bs) room enough (in-ends quiet noise few low) (left-allowed earlier) (filled b bs))
         (record {
           held-alike = refl;
@@ -104,14 +103,14 @@ module _ (earlier : List ℕ) (quiet noise : ℕ) (few : quiet ≤ mostQuiet) (l
           noise-counted = refl;
         })
 
-  long-alike : (piece : List ℕ) → 35 ≤ room → Alike noise (stepFrom (listening now piece room)) (hears (heldOf (leftBy earlier)) room piece)
+  long-alike : (piece : List ℕ) → 35 ≤ room → Alike noise (stepFrom (listening now piece room)) (boxHears (heldOf (leftBy earlier)) room piece)
   long-alike [] h = none-alike h
   long-alike (b ∷ bs) h = some-alike h b bs
 
-  one-alike : (piece : List ℕ) → Alike noise (stepFrom (listening now piece room)) (hears (heldOf (leftBy earlier)) room piece)
+  one-alike : (piece : List ℕ) → Alike noise (stepFrom (listening now piece room)) (boxHears (heldOf (leftBy earlier)) room piece)
   one-alike piece = by (ltb room 35) refl
     where
-      by : (t : Bool) → ltb room 35 ≡ t → Alike noise (stepFrom (listening now piece room)) (hears (heldOf (leftBy earlier)) room piece)
+      by : (t : Bool) → ltb room 35 ≡ t → Alike noise (stepFrom (listening now piece room)) (boxHears (heldOf (leftBy earlier)) room piece)
       by true e = short-alike piece (ltb-true room 35 e)
       by false e = long-alike piece (ltb-false room 35 e)
 
@@ -119,7 +118,7 @@ module _ (earlier : List ℕ) (quiet noise : ℕ) (few : quiet ≤ mostQuiet) (l
 abbrev Turned : Bool → Type 0
 Turned asks =
     (earlier : List ℕ) (quiet noise : ℕ) → quiet ≤ mostQuiet → noise ≤ mostNoise → (room : ℕ) (piece : List ℕ)
-    → Alike (cond asks zero noise) (stepFrom (listening (readied (listenerAt earlier quiet noise) asks) piece room)) (hears (heldOf (leftBy earlier)) room piece)
+    → Alike (cond asks zero noise) (stepFrom (listening (readied (listenerAt earlier quiet noise) asks) piece room)) (boxHears (heldOf (leftBy earlier)) room piece)
 
 turned : (asks : Bool) → Turned asks
 turned true earlier quiet noise few low room piece = one-alike earlier 0 0 (omega arith) (omega arith) room piece
@@ -162,13 +161,13 @@ rooms [] = []
 rooms (o ∷ more) = record { count = o .count; with = o .with .room } ∷ rooms more
 
 all-alike : (earlier : List ℕ) (l : Listener) → l .held ≡ heldOf (leftBy earlier) → l .quiet ≤ mostQuiet → l .noise ≤ mostNoise → (bytes : List ℕ) (offers : List (Offer Turn))
-    → AllAlike (l .noise) (unasked offers) (calls listens l bytes offers) (calls hears (heldOf (leftBy earlier)) bytes (rooms offers))
+    → AllAlike (l .noise) (unasked offers) (calls listens l bytes offers) (calls boxHears (heldOf (leftBy earlier)) bytes (rooms offers))
 all-alike earlier l e few low bytes [] =
     record { held-alike = e; events-alike = refl; taken-alike = refl; quiet-few = few; noise-low = low; noise-counted = λ p. omega arith }
 all-alike earlier l e few low bytes (o ∷ more) =
     let piece : List ℕ = take (o .count) bytes in
     let here : Step Listener Ended = listens l (o .with) piece in
-    let heard : Step Held Ended = hears (heldOf (leftBy earlier)) (o .with .room) piece in
+    let heard : Step Held Ended = boxHears (heldOf (leftBy earlier)) (o .with .room) piece in
     let cut : stream.Cut earlier piece heard = one-cut earlier piece (o .with .room) in
     let alike : Alike (cond (o .with .asks) zero (l .noise)) here heard =
     subst (λ (h : Held). Alike (cond (o .with .asks) zero (l .noise)) (stepFrom (listening (readied (record { held = h; quiet = l .quiet; noise = l .noise }) (o .with .asks)) piece (o .with .room))) heard)
@@ -176,9 +175,9 @@ all-alike earlier l e few low bytes (o ∷ more) =
     let counted : here .state .noise ≡ min mostNoise (cond (o .with .asks) zero (l .noise) + here .taken) = alike .noise-counted in
     let few′ : here .state .quiet ≤ mostQuiet = alike .quiet-few in
     let later = all-alike (earlier ++ take (heard .taken) piece) (here .state) (alike .held-alike ∙ cut .state-is) few′ (omega arith) (drop (here .taken) bytes) more in
-    let goes : calls hears (heard .state) (drop (heard .taken) bytes) (rooms more) ≡ calls hears (heldOf (leftBy (earlier ++ take (heard .taken) piece))) (drop (here .taken) bytes) (rooms more) =
-    ap₂ (λ (s : Held) (n : ℕ). calls hears s (drop n bytes) (rooms more)) (cut .state-is) (sym (alike .taken-alike)) in
-    joined (o .with .asks) (unasked more) (l .noise) here (calls listens (here .state) (drop (here .taken) bytes) more) heard (calls hears (heard .state) (drop (heard .taken) bytes) (rooms more))
+    let goes : calls boxHears (heard .state) (drop (heard .taken) bytes) (rooms more) ≡ calls boxHears (heldOf (leftBy (earlier ++ take (heard .taken) piece))) (drop (here .taken) bytes) (rooms more) =
+    ap₂ (λ (s : Held) (n : ℕ). calls boxHears s (drop n bytes) (rooms more)) (cut .state-is) (sym (alike .taken-alike)) in
+    joined (o .with .asks) (unasked more) (l .noise) here (calls listens (here .state) (drop (here .taken) bytes) more) heard (calls boxHears (heard .state) (drop (heard .taken) bytes) (rooms more))
     alike
     (subst (λ (s : Step Held Ended). AllAlike (here .state .noise) (unasked more) (calls listens (here .state) (drop (here .taken) bytes) more) s) (sym goes) later)
 
@@ -187,7 +186,7 @@ unfolding listenerAllowed
 cutting earlier bytes quiet noise few low offers =
     let all : Step Listener Ended = calls listens (listenerAt earlier quiet noise) bytes offers in
     let alike = all-alike earlier (listenerAt earlier quiet noise) refl few low bytes offers in
-    let cut : stream.Cut earlier bytes (calls hears (heldOf (leftBy earlier)) bytes (rooms offers)) = streams.any-cutting earlier bytes (rooms offers) in
+    let cut : stream.Cut earlier bytes (calls boxHears (heldOf (leftBy earlier)) bytes (rooms offers)) = box-cutting earlier bytes (rooms offers) in
     let holds : all .state .held ≡ heldOf (leftBy (earlier ++ take (all .taken) bytes)) = alike .held-alike ∙ rw (alike .taken-alike) (cut .state-is) in
     record {
       within = rw (alike .taken-alike) (cut .within);
@@ -207,7 +206,7 @@ rooms-many (o ∷ more) = ap suc (rooms-many more)
 pub taking : AllIsTaken
 taking earlier bytes quiet noise few low offers serves enough =
     let alike = all-alike earlier (listenerAt earlier quiet noise) refl few low bytes offers in
-    let all = streams.all-is-taken earlier bytes (rooms offers) (sym (rooms-ready offers) ∙ serves) (rw (rooms-many offers) enough) in
+    let all = box-takes-all earlier bytes (rooms offers) (sym (rooms-ready offers) ∙ serves) (rw (rooms-many offers) enough) in
     (alike .taken-alike ∙ ap (λ s. s .taken) all, alike .events-alike ∙ ap (λ s. s .events) all)
 
 pub counting : NoiseIsCounted

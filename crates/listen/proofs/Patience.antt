@@ -11,16 +11,17 @@ use lib.Dec.{leb}
 use Rattle.laws.specs.Promise.{Given}
 use Rattle.laws.proofs.Bools.{and-left, and-right, both, same-test}
 use Rattle.stream.specs.Stream.{taken, framesFrom}
-use Rattle.stream.specs.Calls.{allowed, unfinished, hearing}
+use Rattle.stream.specs.Calls.{allowed, unfinished}
 use Rattle.stream.specs.declared.Event.{Event}
 use Rattle.stream.specs.declared.Held.{Held}
-use Rattle.stream.proofs.Answers.{hearing-heard}
 use Rattle.stream.proofs.Streams.{quiet-all}
 use Rattle.listen.specs.declared.Listener.{Listener}
 use Rattle.listen.specs.declared.Told.{Told}
 use Rattle.listen.specs.declared.Listened.{Listened}
+use Rattle.listen.specs.Hearing.{boxHearing}
 use Rattle.listen.specs.Calls.{mostQuiet, mostNoise, quieter, afterSilence, afterNoise, toldBy, louder, listenerAllowed, asking, silent, listening, wordless}
 use Rattle.listen.specs.Laws.{silences, PatienceEnds, NoiseEnds}
+use Rattle.listen.proofs.Hearing.{box-heard}
 use Rattle.listen.proofs.Settling.{listening-silent, listening-heard, filled}
 
 -- a count that stops at its end has reached it when the whole has
@@ -75,11 +76,11 @@ unfolding afterNoise
 told-noise noise n = rw (at-end mostNoise (noise + n))
 
 quiet-heard : (held : Held) (piece : List ℕ) (room : ℕ) → 35 ≤ room → allowed held ≡ true → framesFrom (unfinished held) piece ≡ []
-    → (hearing held piece room .answer .event ≡ Event.Nothing) × (hearing held piece room .answer .taken ≡ length piece)
+    → (boxHearing held piece room .answer .event ≡ Event.Nothing) × (boxHearing held piece room .answer .taken ≡ length piece)
 quiet-heard held piece room enough ok none =
     let all : taken (unfinished held) piece ≡ length piece = quiet-all (unfinished held) piece none in
     let whole : take (length piece) piece ≡ piece = take-all (length piece) piece (omega arith) in
-    rw (hearing-heard held piece room enough ok, all, whole, none) (refl, refl)
+    rw (box-heard held piece room enough ok, all, whole, none) (refl, refl)
 
 pub noise-ends : NoiseEnds
 noise-ends l ok room enough b bs none =

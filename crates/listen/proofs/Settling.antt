@@ -14,12 +14,12 @@ use Rattle.stream.specs.Calls.{allowed, hearing, unheard}
 use Rattle.stream.specs.declared.Event.{Event}
 use Rattle.stream.specs.declared.Held.{Held}
 use Rattle.stream.specs.declared.Heard.{Heard}
-use Rattle.stream.proofs.Answers.{hearing-stray, hearing-heard}
 use Rattle.listen.specs.declared.Listener.{Listener}
 use Rattle.listen.specs.declared.Listened.{Listened}
+use Rattle.listen.specs.Hearing.{boxHearing}
 use Rattle.listen.specs.Calls.{mostQuiet, mostNoise, listenerAllowed, refusing, silent, reported, wordless, reporting, listening}
 use Rattle.listen.specs.AsHeard.{unended, unsound, settledBy, settled}
-use Rattle.listen.proofs.Steps.{small-refusal}
+use Rattle.listen.proofs.Hearing.{box-is, box-stray, box-heard, small-refusal}
 
 module _ (l : Listener) (piece : List ℕ) (room : ℕ) where
   pub listening-short : room < 35 → listening l piece room ≡ wordless (refusing l 11)
@@ -40,7 +40,7 @@ module _ (l : Listener) (piece : List ℕ) (room : ℕ) where
       unfolding listening listenerAllowed
       listening-silent e f = simp (le-ltb room 35 enough, within, e, f)
 
-      pub listening-heard : allowed (l .held) ≡ true → eqb (length piece) 0 ≡ false → listening l piece room ≡ reporting l (hearing (l .held) piece room)
+      pub listening-heard : allowed (l .held) ≡ true → eqb (length piece) 0 ≡ false → listening l piece room ≡ reporting l (boxHearing (l .held) piece room)
       unfolding listening listenerAllowed
       listening-heard e f = simp (le-ltb room 35 enough, within, e, f)
 
@@ -78,26 +78,26 @@ pub filled : (b : ℕ) (bs : List ℕ) → eqb (length (b ∷ bs)) 0 ≡ false
 filled b bs = ne-eqb (length (b ∷ bs)) 0 (λ e. omega arith)
 
 -- a piece of no bytes ends no frame and writes nothing
-pub none-heard : (held : Held) (room : ℕ) → 35 ≤ room → allowed held ≡ true → (hearing held [] room .answer .event ≡ Event.Nothing) × (hearing held [] room .written ≡ [])
-none-heard held room enough ok = rw (hearing-heard held [] room enough ok, take-nil) (refl, refl)
+pub none-heard : (held : Held) (room : ℕ) → 35 ≤ room → allowed held ≡ true → (boxHearing held [] room .answer .event ≡ Event.Nothing) × (boxHearing held [] room .written ≡ [])
+none-heard held room enough ok = rw (box-heard held [] room enough ok, take-nil) (refl, refl)
 
 module _ (l : Listener) (room : ℕ) (enough : 35 ≤ room) (within : (leb (l .quiet) mostQuiet && leb (l .noise) mostNoise) ≡ true) where
   abbrev Settles : List ℕ → Type 0
   Settles piece =
       listening l piece room
-      ≡ record { answer = settled l (length piece) (hearing (l .held) piece room .answer); written = hearing (l .held) piece room .written }
+      ≡ record { answer = settled l (length piece) (boxHearing (l .held) piece room .answer); written = boxHearing (l .held) piece room .written }
 
   stray-settles : (piece : List ℕ) → allowed (l .held) ≡ false → Settles piece
   stray-settles piece e =
-      rw (listening-stray l piece room enough within e, hearing-stray (l .held) piece room enough e, settled-stray l (length piece) (unheard (l .held) 12 .answer) refl)
+      rw (listening-stray l piece room enough within e, box-stray (l .held) piece room enough e, settled-stray l (length piece) (unheard (l .held) 12 .answer) refl)
 
   good-settles : (piece : List ℕ) → allowed (l .held) ≡ true → Settles piece
   good-settles [] ok =
       let none = none-heard (l .held) room enough ok in
-      rw (listening-silent l [] room enough within ok refl, settled-none l (hearing (l .held) [] room .answer) (none .0), none .1)
+      rw (listening-silent l [] room enough within ok refl, settled-none l (boxHearing (l .held) [] room .answer) (none .0), none .1)
   good-settles (b ∷ bs) ok =
       let some : eqb (length (b ∷ bs)) 0 ≡ false = filled b bs in
-      rw (listening-heard l (b ∷ bs) room enough within ok some, settled-some l (length (b ∷ bs)) (hearing (l .held) (b ∷ bs) room .answer) some (small-refusal (l .held) ok (b ∷ bs) room enough))
+      rw (listening-heard l (b ∷ bs) room enough within ok some, settled-some l (length (b ∷ bs)) (boxHearing (l .held) (b ∷ bs) room .answer) some (small-refusal (l .held) ok (b ∷ bs) room enough))
 
   settles : (piece : List ℕ) → Settles piece
   settles piece = by (allowed (l .held)) refl
@@ -110,6 +110,7 @@ pub gives-settled : (l : Listener) (piece : List ℕ) (room : ℕ) → 35 ≤ ro
     → {heard : Heard} {r : Listened} {buffer left : List ℕ} → Gives Heard (hearing (l .held) piece room) buffer heard left → r ≡ settled l (length piece) heard
     → Gives Listened (listening l piece room) buffer r left
 gives-settled l piece room enough within {heard} {r} {buffer} {left} g e =
-    gives-bytes r (hearing (l .held) piece room .written) left
-    (rw (e, g .answered) (settles l room enough within piece))
-    (g .left)
+    let own : Gives Heard (boxHearing (l .held) piece room) buffer heard left = rw box-is g in
+    gives-bytes r (boxHearing (l .held) piece room .written) left
+    (rw (e, own .answered) (settles l room enough within piece))
+    (own .left)

@@ -1,4 +1,4 @@
--- What each public call answers, for every input. What the stream makes of the bytes is `hearing` of stream; here it meets the box's patience.
+-- What each public call answers, for every input. What the box hears of the bytes meets its patience.
 -- Assumes nothing.
 use Prim.Native.Nat.{ℕ, zero, suc, _+_, min}
 use mathlib.Core.Bool.{Bool, cond, not, _&&_}
@@ -8,9 +8,10 @@ use lib.Dec.{ltb, leb, eqb}
 use Rattle.laws.specs.Promise.{Given}
 use Rattle.paper.specs.Numbers.{mostData, shortBuffer, notAllowed}
 use Rattle.stream.specs.Stream.{outside}
-use Rattle.stream.specs.Calls.{allowed, heldOf, hearing}
+use Rattle.stream.specs.Calls.{allowed, heldOf}
 use Rattle.stream.specs.declared.Event.{Event}
 use Rattle.stream.specs.declared.Heard.{Heard}
+use Rattle.listen.specs.Hearing.{boxHearing}
 use Rattle.listen.specs.declared.Listener.{Listener}
 use Rattle.listen.specs.declared.Told.{Told}
 use Rattle.listen.specs.declared.Listened.{Listened}
@@ -87,4 +88,4 @@ unfoldable pub listening : Listener → List ℕ → ℕ → Given Listened
 listening l piece room =
     cond (ltb room mostData) (wordless (refusing l shortBuffer))
     (cond (not (listenerAllowed l)) (wordless (refusing l notAllowed))
-    (cond (eqb (length piece) zero) (wordless (silent l)) (reporting l (hearing (l .held) piece room))))
+    (cond (eqb (length piece) zero) (wordless (silent l)) (reporting l (boxHearing (l .held) piece room))))

@@ -17,7 +17,7 @@ use Rattle.rehearsal.proofs.rehearse.Reads as rehearse
 
 module _ (board : Board) (to : Table) (size : ℕ) (r : Rehearsed) (met : rehearse.Post tt (board, (to, (size, tt))) r (board, (to, (size, tt)))) where
   pub call-restores : boardAllowed board ≡ true → board .held .inside ≡ false → allowed to ≡ true → 1 ≤ size
-      → length (board .held .chars) ≡ mostHeld → length (board .table .numbers) ≡ count → length (to .numbers) ≡ count → Restored board to r
+      → length (board .held .chars) ≡ mostHeld → length (board .core .table .numbers) ≡ count → length (to .numbers) ≡ count → Restored board to r
   call-restores ok quiet to-ok some chars long to-long = rw met (rehearsal-restores board to size ok quiet to-ok some chars long to-long)
 
   pub call-refuses : Unfit board to size → r ≡ unrehearsed board

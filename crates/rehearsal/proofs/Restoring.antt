@@ -16,28 +16,24 @@ use Rattle.stream.specs.Stream.{Unfinished, outside, framesFrom, leftFrom, fram
 use Rattle.stream.specs.Calls as stream
 use Rattle.stream.specs.Calls.{heldOf}
 use Rattle.wire.specs.Laws.{Writable}
-use Rattle.stream.proofs.Answers.{hearing-heard}
 use Rattle.stream.proofs.Helds.{allowed-outside}
 use Rattle.stream.proofs.Reached.{kept, unfinished-kept, kept-frames, kept-left}
 use Rattle.stream.proofs.Streams.{left-append, frames-append, taken-within}
 use Rattle.stream.proofs.Theorems.{written-is-heard}
 use Rattle.settings.specs.Columns.{count}
-use Rattle.settings.specs.Rules.{allowedFor}
-use Rattle.tables.specs.Rules.{partnerNumber, changed}
 use Rattle.tables.specs.Calls.{setTo}
 use Rattle.tables.specs.declared.Table.{Table}
-use Rattle.tables.proofs.Tables.{set-accepted}
-use Rattle.tables.proofs.Theorems.{set-keeps-allowed, set-keeps-count}
 use Rattle.paper.specs.Numbers.{setCode}
-use Rattle.answers.specs.Answers.{sent, staying}
+use Rattle.listen.specs.Hearing.{boxHearing}
+use Rattle.listen.proofs.Hearing.{box-heard}
+use Rattle.answers.specs.Answers.{withTable}
+use Rattle.answers.specs.declared.Core.{Core}
 use Rattle.answers.specs.Requests.{setData}
-use Rattle.answers.specs.declared.Outcome as said
-use Rattle.answers.proofs.Theorems.{set-stores-it}
 use Rattle.board.specs.Parts.{boardAllowed}
 use Rattle.board.specs.Calls.{deciding, decidedBy, heardBy, answering}
 use Rattle.board.specs.declared.Board.{Board}
 use Rattle.board.specs.declared.Answered.{Answered}
-use Rattle.board.proofs.Lines.{answering-heard}
+use Rattle.board.proofs.Pieces.{answering-heard}
 use Rattle.board.proofs.Theorems.{answer-keeps-allowed}
 use Rattle.reply.specs.Events.{Event, heard}
 use Rattle.restore.specs.Calls.{bothAllowed}
@@ -50,18 +46,19 @@ use Rattle.follow.specs.declared.Follower.{Follower}
 use Rattle.follow.specs.declared.Followed.{Followed}
 use Rattle.follow.proofs.Standing.{following-good}
 use Rattle.follow.proofs.Counting.{Goes, goes-far}
+use Rattle.demands.specs.Talk.{boardAt}
 use Rattle.demands.specs.Demand3.{eventFor}
 use Rattle.demands.proofs.Making.{AtMostOne, none-ended, one-ended, one-at-most}
 use Rattle.demands.proofs.Deciding.{Sound}
-use Rattle.demands.proofs.Listing.{set-writable, InTable, no-set, a-set, frameFor, accepted-allowed}
+use Rattle.demands.proofs.Listing.{set-writable, InTable, no-set, a-set, frameFor, set-decided, set-sound}
 use Rattle.demands.proofs.Feeding.{call-takes}
 use Rattle.rehearsal.specs.Calls.{listening, turned, rehearsing}
 use Rattle.rehearsal.specs.declared.line.Turn.{Turn}
 
 -- a reply of no bytes says nothing, and one frame says that frame
-heard-as : (reply : List ℕ) → stream.hearing (heldOf outside) reply 35 ≡ stream.heardOf outside reply
+heard-as : (reply : List ℕ) → boxHearing (heldOf outside) reply 35 ≡ stream.heardOf outside reply
 heard-as reply =
-    hearing-heard (heldOf outside) reply 35 (leb-true 35 35 refl) allowed-outside
+    box-heard (heldOf outside) reply 35 (leb-true 35 35 refl) allowed-outside
     ∙ ap (λ (u : Unfinished). stream.heardOf u reply) (unfinished-kept outside)
 
 listen-none : (f : Followed) → listening f [] ≡ f
@@ -80,29 +77,15 @@ listen-whole f command bytes w =
     let says : framesOf (take (taken outside (frame command bytes)) (frame command bytes)) ≡ good command bytes ∷ [] = ap framesOf whole ∙ rw same at (one .0) in
     rw (heard-as (frame command bytes), says)
 
--- a Set that the settings rule accepts, as a board decides on it
-set-decided : (board : Board) (w : Wanted) → Sound (board .table) → w .setting .index < count
-    → isAccepted (setTo (board .table) (w .setting .index) (w .number) .answer) ≡ true
-    → deciding board (frameFor w ∷ [])
-    ≡ staying (board .readings) (setTo (board .table) (w .setting .index) (w .number) .table) said.Outcome.Answered (sent setCode (setData (w .setting .index) (w .number)))
-unfolding deciding
-set-decided board w s h e =
-    let k : ℕ = w .setting .index in
-    let fits : allowedFor k (w .number) (partnerNumber (board .table) k) ≡ true = accepted-allowed (board .table) k (w .number) (s .ok) h e in
-    let table : setTo (board .table) k (w .number) .table ≡ changed (board .table) k (w .number) =
-    ap (λ c. c .table) (set-accepted (board .table) k (w .number) (s .ok) h fits) in
-    set-stores-it (board .readings) (board .table) (board .identity) k (w .number) (s .ok) h fits
-    ∙ ap (λ (t : Table). staying (board .readings) t said.Outcome.Answered (sent setCode (setData k (w .number)))) (sym table)
-
 -- A board on its way: the bytes that are left are the frames of the Sets that are left, all of which it will accept.
 pub record Left (board : Board) (r : Unfinished) (bytes : List ℕ) (ws : List Wanted) : Type 0 where
   pub held-is : board .held ≡ heldOf r
   pub board-ok : boardAllowed board ≡ true
-  pub sound : Sound (board .table)
+  pub sound : Sound (board .core .table)
   pub frames-are : framesFrom r bytes ≡ map frameFor ws
   pub none-left : leftFrom r bytes ≡ outside
   pub in-table : InTable ws
-  pub accepts : accepted (board .table) ws ≡ true
+  pub accepts : accepted (board .core .table) ws ≡ true
 
 abbrev pub eventsOf : List Wanted → List Event
 eventsOf ws = map eventFor (map frameFor ws)
@@ -120,14 +103,12 @@ record Next (from to : Table) (f : Follower) (board : Board) (given : Given Answ
   later : List Wanted
   goes-on : Left (given .answer .board) reading rest later
   follows : Follows from to f (given .written) ws later
-  identity-same : given .answer .board .identity ≡ board .identity
-  readings-same : given .answer .board .readings ≡ board .readings
-  same-left : left (given .answer .board .table) later ≡ left (board .table) ws
+  same-left : withTable (given .answer .board .core) (left (given .answer .board .core .table) later) ≡ withTable (board .core) (left (board .core .table) ws)
 
 -- the call on a board whose line is anywhere
 heard-at : (board : Board) (r : Unfinished) (piece : List ℕ) → board .held ≡ heldOf r → boardAllowed board ≡ true
     → answering board piece 75
-    ≡ decidedBy board (heldOf (leftFrom r (take (taken (kept r) piece) piece))) (deciding board (framesFrom r (take (taken (kept r) piece) piece))) (taken (kept r) piece)
+    ≡ decidedBy (heldOf (leftFrom r (take (taken (kept r) piece) piece))) (deciding (board .core) (framesFrom r (take (taken (kept r) piece) piece))) (taken (kept r) piece)
 unfolding heardBy
 heard-at board r piece h ok =
     let front : List ℕ = take (taken (kept r) piece) piece in
@@ -157,10 +138,10 @@ module _ (from to : Table) (both-ok : bothAllowed from to ≡ true) (f : Followe
   front-is : take n piece ≡ front
   front-is = take-take n size bytes (omega (arith, within))
 
-  given-is : given ≡ decidedBy board (heldOf past) (deciding board (framesFrom r front)) n
+  given-is : given ≡ decidedBy (heldOf past) (deciding (board .core) (framesFrom r front)) n
   given-is =
       heard-at board r piece (l .held-is) (l .board-ok)
-      ∙ ap (λ (x : List ℕ). decidedBy board (heldOf (leftFrom r x)) (deciding board (framesFrom r x)) n) front-is
+      ∙ ap (λ (x : List ℕ). decidedBy (heldOf (leftFrom r x)) (deciding (board .core) (framesFrom r x)) n) front-is
 
   taken-is : given .answer .taken ≡ n
   unfolding decidedBy
@@ -182,7 +163,7 @@ module _ (from to : Table) (both-ok : bothAllowed from to ≡ true) (f : Followe
   quiet : framesFrom r front ≡ [] → Next from to f board given (drop n bytes) ws
   unfolding decidedBy deciding
   quiet e =
-      let is = given-is ∙ ap (λ (fs : List Ended). decidedBy board (heldOf past) (deciding board fs) n) e in
+      let is = given-is ∙ ap (λ (fs : List Ended). decidedBy (heldOf past) (deciding (board .core) fs) n) e in
       let ok = rw is at still in
       rw is
       (record {
@@ -199,8 +180,6 @@ module _ (from to : Table) (both-ok : bothAllowed from to ≡ true) (f : Followe
               accepts = l .accepts;
             };
         follows = record { next = f; goes = g; heard-is = listen-none (answered f); same-end = refl };
-        identity-same = refl;
-        readings-same = refl;
         same-left = refl;
       })
 
@@ -210,18 +189,18 @@ module _ (from to : Table) (both-ok : bothAllowed from to ≡ true) (f : Followe
     k = w .setting .index
 
     abbrev next-table : Table
-    next-table = setTo (board .table) k (w .number) .table
+    next-table = setTo (board .core .table) k (w .number) .table
 
-    accepts-all : (isAccepted (setTo (board .table) k (w .number) .answer) && accepted next-table more) ≡ true
+    accepts-all : (isAccepted (setTo (board .core .table) k (w .number) .answer) && accepted next-table more) ≡ true
     accepts-all = rw ws-are at (l .accepts)
 
     ended : framesFrom r front ≡ frameFor w ∷ [] → framesFrom past (drop n bytes) ≡ map frameFor more → Next from to f board given (drop n bytes) ws
     unfolding decidedBy
     ended e rest =
-        let here = and-left (isAccepted (setTo (board .table) k (w .number) .answer)) (accepted next-table more) accepts-all in
+        let here = and-left (isAccepted (setTo (board .core .table) k (w .number) .answer)) (accepted next-table more) accepts-all in
         let is =
-        given-is ∙ ap (λ (fs : List Ended). decidedBy board (heldOf past) (deciding board fs) n) e
-        ∙ ap (λ d. decidedBy board (heldOf past) d n) (set-decided board w (l .sound) h here) in
+        given-is ∙ ap (λ (fs : List Ended). decidedBy (heldOf past) (deciding (board .core) fs) n) e
+        ∙ ap (λ d. decidedBy (heldOf past) d n) (set-decided (board .core) w (l .sound) h here) in
         let ok = rw is at still in
         let event : Event = heard setCode (setData k (w .number)) in
         rw (is, ws-are)
@@ -232,15 +211,11 @@ module _ (from to : Table) (both-ok : bothAllowed from to ≡ true) (f : Followe
               record {
                 held-is = refl;
                 board-ok = ok;
-                sound =
-                    record {
-                      long = set-keeps-count (board .table) k (w .number) ∙ l .sound .long;
-                      ok = set-keeps-allowed (board .table) k (w .number) (l .sound .long) (l .sound .ok);
-                    };
+                sound = set-sound (board .core .table) w (l .sound);
                 frames-are = rest;
                 none-left = left-rest;
                 in-table = rest-in;
-                accepts = and-right (isAccepted (setTo (board .table) k (w .number) .answer)) (accepted next-table more) accepts-all;
+                accepts = and-right (isAccepted (setTo (board .core .table) k (w .number) .answer)) (accepted next-table more) accepts-all;
               };
           follows =
               record {
@@ -249,8 +224,6 @@ module _ (from to : Table) (both-ok : bothAllowed from to ≡ true) (f : Followe
                 heard-is = listen-whole (answered f) setCode (setData k (w .number)) (set-writable k (w .number) h) ∙ sym (following-good f event (g .is-allowed));
                 same-end = refl;
               };
-          identity-same = refl;
-          readings-same = refl;
           same-left = refl;
         })
 
@@ -269,7 +242,7 @@ module _ (from to : Table) (both-ok : bothAllowed from to ≡ true) (f : Followe
 
 -- Where it ends.
 pub record Ends (board : Board) (f : Follower) (ws : List Wanted) (end : Turn) : Type 0 where
-  pub board-is : end .board ≡ record { identity = board .identity; table = left (board .table) ws; readings = board .readings; held = heldOf outside }
+  pub board-is : end .board ≡ boardAt (withTable (board .core) (left (board .core .table) ws)) outside
   pub followed-is : end .followed ≡ answered (run f (eventsOf ws))
 
 -- no byte is left
@@ -277,7 +250,7 @@ over : (t : Turn) (f : Follower) (r : Unfinished) (ws : List Wanted) → t .foll
 over t f r [] e l =
     let held : t .board .held ≡ heldOf outside = l .held-is ∙ ap heldOf (l .none-left) in
     record {
-      board-is = ap (λ h. record { identity = t .board .identity; table = t .board .table; readings = t .board .readings; held = h }) held;
+      board-is = ap {B = Board} (λ h. record { core = t .board .core; held = h }) held;
       followed-is = e;
     }
 over t f r (w ∷ ws) e l = let z : _≡_ {A = ℕ} 0 (suc (length (map frameFor ws))) = ap length (l .frames-are) in absurd (omega arith)
@@ -292,9 +265,7 @@ turn-ends : {from to : Table} {f : Follower} {board : Board} {given : Given Answ
     → (x : Next from to f board given rest ws) → Ends (given .answer .board) (x .follows .next) (x .later) end → Ends board f ws end
 turn-ends x e =
     record {
-      board-is =
-          e .board-is
-          ∙ (λ i. record { identity = x .identity-same i; table = x .same-left i; readings = x .readings-same i; held = heldOf outside });
+      board-is = e .board-is ∙ ap (λ (c : Core). boardAt c outside) (x .same-left);
       followed-is = e .followed-is ∙ ap answered (x .follows .same-end);
     }
 

@@ -12,7 +12,9 @@ use Rattle.stream.proofs.Helds.{held-same, unfinished-outside}
 use Rattle.tables.specs.Rules.{allowed}
 use Rattle.tables.specs.declared.Table.{Table}
 use Rattle.board.specs.declared.Board.{Board}
-use Rattle.board.proofs.Lines.{table-allowed, held-allowed}
+use Rattle.answers.specs.Answers.{withTable}
+use Rattle.answers.proofs.Deciding as answers
+use Rattle.board.proofs.Pieces.{core-allowed, held-allowed}
 use Rattle.restore.specs.Order.{order, dueSets}
 use Rattle.restore.specs.Calls.{bothAllowed}
 use Rattle.restore.specs.Laws.{Tables}
@@ -35,7 +37,7 @@ use Rattle.rehearsal.proofs.Turning.{ready-none, ready-inside, ready-el
 use Rattle.rehearsal.proofs.Rehearsing.{refused-unready, refused-stray}
 use Rattle.rehearsal.proofs.Restoring.{Left, eventsOf, goes-through}
 
-rehearsed-as : (board : Board) (to : Table) (size : ℕ) → isReady board size ≡ true → bothAllowed (board .table) to ≡ true
+rehearsed-as : (board : Board) (to : Table) (size : ℕ) → isReady board size ≡ true → bothAllowed (board .core .table) to ≡ true
     → rehearsed board to size ≡ ended (fed board to size)
 unfolding rehearsed
 rehearsed-as board to size e f = rw (e, f)
@@ -51,9 +53,10 @@ all-heard from to ok = ap (run (begun from to)) (own-events to (order from to)) 
 
 pub rehearsal-restores : RehearsalRestores
 rehearsal-restores board to size ok quiet to-ok some chars long to-long =
-    let from : Table = board .table in
-    let both-ok : bothAllowed from to ≡ true = both _ _ (table-allowed board ok) to-ok in
-    let two : Tables from to = record { from-long = long; to-long = to-long; from-allowed = table-allowed board ok; to-allowed = to-ok } in
+    let from : Table = board .core .table in
+    let from-ok = answers.table-allowed (board .core) (core-allowed board ok) in
+    let both-ok : bothAllowed from to ≡ true = both _ _ from-ok to-ok in
+    let two : Tables from to = record { from-long = long; to-long = to-long; from-allowed = from-ok; to-allowed = to-ok } in
     let ready : isReady board size ≡ true = sym (ready-else board size some quiet) ∙ ok in
     let at-rest : board .held ≡ heldOf outside =
     sym (held-same (board .held) (held-allowed board ok) chars) ∙ ap heldOf (unfinished-outside (board .held) quiet) in
@@ -63,7 +66,7 @@ rehearsal-restores board to size ok quiet to-ok some chars long to-long =
     record {
       held-is = at-rest;
       board-ok = ok;
-      sound = record { long = long; ok = table-allowed board ok };
+      sound = record { long = long; ok = from-ok };
       frames-are = list .frames-are;
       none-left = list .none-left;
       in-table = due-in from to;
@@ -81,7 +84,7 @@ rehearsal-restores board to size ok quiet to-ok some chars long to-long =
     (record {
       board-is =
           ends .board-is
-          ∙ (λ i. record { identity = board .identity; table = restores .wanted-stands i; readings = board .readings; held = sym at-rest i });
+          ∙ (λ i. record { core = withTable (board .core) (restores .wanted-stands i); held = sym at-rest i });
       outcome-is = ap (λ (f : Followed). f .outcome) followed ∙ stands ∙ ap (λ (n : ℕ). cond (eqb n 0) Outcome.Equal Outcome.Done) (sets-are-differing from to);
       all-confirmed = ap (λ (f : Followed). f .confirmed) followed ∙ sets-are-differing from to;
     })
@@ -90,4 +93,4 @@ pub rehearsal-refuses : RehearsalRefuses
 rehearsal-refuses board to size (no-byte e) = sym (refused-unready board to size (sym (ready-none board size e)))
 rehearsal-refuses board to size (in-frame e) = sym (refused-unready board to size (sym (ready-inside board size e)))
 rehearsal-refuses board to size (stray-board e) = sym (refused-unready board to size (ready-stray board size e))
-rehearsal-refuses board to size (stray-table e) = sym (refused-stray board to size (rw e (none-right (allowed (board .table)))))
+rehearsal-refuses board to size (stray-table e) = sym (refused-stray board to size (rw e (none-right (allowed (board .core .table)))))

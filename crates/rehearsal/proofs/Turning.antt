@@ -6,12 +6,10 @@ use Prim.Native.Nat.{ℕ, zero, suc, _+_, _-_, _≤_, _<_, min}
 use native.Mathlib.Omega.{arith}
 use borrow.Author.Tests.{leb-true, lt-ltb, ltb-true}
 use lib.ListN.{length, take, drop, length-take, length-drop}
-use lib.Seq.{take-nil}
 use lib.Dec.{ltb}
 use Rattle.laws.specs.Promise.{Given, Gives, overlaid}
 use Rattle.laws.proofs.Bools.{and-left, and-right}
 use Rattle.laws.proofs.Lists.{take-min}
-use Rattle.laws.proofs.Promise.{overlaid-front}
 use Rattle.wire.specs.Reading.{Ended, good, refused}
 use Rattle.stream.specs.Stream.{outside, taken}
 use Rattle.stream.specs.Calls as stream
@@ -19,53 +17,21 @@ use Rattle.stream.specs.Laws.{Writables, whole}
 use Rattle.stream.specs.declared.Event.{Event}
 use Rattle.stream.specs.declared.Held.{Held}
 use Rattle.stream.specs.declared.Heard.{Heard}
-use Rattle.stream.proofs.Answers.{hearing-heard}
 use Rattle.stream.proofs.Helds.{allowed-outside}
-use Rattle.stream.proofs.Streams.{taken-within}
 use Rattle.stream.proofs.Theorems.{heard-is-writable}
-use Rattle.answers.specs.declared.Outcome as said
 use Rattle.board.specs.Parts.{boardAllowed}
-use Rattle.board.specs.Calls.{deciding, decidedBy, heardBy, answering}
+use Rattle.board.specs.Calls.{answering}
 use Rattle.board.specs.declared.Board.{Board}
 use Rattle.board.specs.declared.Answered.{Answered}
-use Rattle.board.proofs.Lines.{answering-stray, answering-heard}
-use Rattle.board.proofs.Theorems.{reply-is-read}
+use Rattle.board.proofs.Sending.{front-back}
+use Rattle.board.proofs.Replying.{bounded}
+use Rattle.listen.specs.Hearing.{boxHearing}
+use Rattle.listen.proofs.Hearing.{box-is, box-heard}
 use Rattle.reply.specs.Events.{heard, refusedFrame}
 use Rattle.follow.specs.Calls.{following}
 use Rattle.follow.specs.declared.Followed.{Followed}
 use Rattle.rehearsal.specs.Calls.{listening, turned, rehearsing, isReady}
 use Rattle.rehearsal.specs.declared.line.Turn.{Turn}
-
--- an allowed board is one that does not refuse a call with nothing in it
-abbrev pub refuses : said.Outcome → Bool
-refuses said.Outcome.Nothing = false
-refuses said.Outcome.Answered = false
-refuses said.Outcome.Restarted = false
-refuses said.Outcome.Ignored = false
-refuses (said.Outcome.Refused number) = true
-
-refused-stray : (board : Board) → refuses (answering board [] 75 .answer .outcome) ≡ not (boardAllowed board)
-unfolding heardBy decidedBy deciding
-refused-stray board = by (boardAllowed board) refl
-  where
-    by : (t : Bool) → boardAllowed board ≡ t → refuses (answering board [] 75 .answer .outcome) ≡ not (boardAllowed board)
-    by true e = rw (answering-heard board [] 75 (leb-true 75 75 refl) e, e, take-nil)
-    by false e = rw (answering-stray board [] 75 (leb-true 75 75 refl) e, e)
-
-not-back : (b : Bool) → not b ≡ false → true ≡ b
-not-back true e = refl
-not-back false e = e
-
-not-forth : (b : Bool) → not b ≡ true → false ≡ b
-not-forth true e = e
-not-forth false e = refl
-
-module _ (board : Board) {r : Answered} (is : r ≡ answering board [] 75 .answer) (o : said.Outcome) (e : r .outcome ≡ o) where
-  pub heard-allowed : refuses o ≡ false → true ≡ boardAllowed board
-  heard-allowed f = not-back (boardAllowed board) (sym (refused-stray board) ∙ ap (λ (a : Answered). refuses (a .outcome)) (sym is) ∙ ap refuses e ∙ f)
-
-  pub unheard-stray : refuses o ≡ true → false ≡ boardAllowed board
-  unheard-stray f = not-forth (boardAllowed board) (sym (refused-stray board) ∙ ap (λ (a : Answered). refuses (a .outcome)) (sym is) ∙ ap refuses e ∙ f)
 
 -- ready, test by test
 pub none-right : (a : Bool) → (a && false) ≡ false
@@ -93,23 +59,6 @@ module _ (board : Board) (size : ℕ) where
   unfolding isReady
   ready-stray e = rw (e, none-right (not (board .held .inside)), none-right (ltb 0 size))
 
--- the bounds of a call on any board
-pub record Bounded (piece : List ℕ) (given : Given Answered) : Type 0 where
-  pub within : given .answer .taken ≤ length piece
-  pub len-is : given .answer .len ≡ length (given .written)
-  pub short : length (given .written) ≤ 75
-
-pub bounded : (board : Board) (piece : List ℕ) → Bounded piece (answering board piece 75)
-unfolding heardBy decidedBy
-bounded board piece = by (boardAllowed board) refl
-  where
-    by : (t : Bool) → boardAllowed board ≡ t → Bounded piece (answering board piece 75)
-    by true e =
-        let short : length (answering board piece 75 .written) ≤ 75 = reply-is-read board piece 75 e (leb-true 75 75 refl) .short in
-        let is = answering-heard board piece 75 (leb-true 75 75 refl) e in
-        rw is (record { within = taken-within (stream.unfinished (board .held)) piece; len-is = refl; short = rw is at short })
-    by false e = rw (answering-stray board piece 75 (leb-true 75 75 refl) e) (record { within = omega arith; len-is = refl; short = omega arith })
-
 -- what a reply says to the follower, by what happened on the stream
 record Whole (fs : List Ended) (len : ℕ) : Type 0 where
   count : length (stream.dataOfFirst fs) ≡ len
@@ -123,8 +72,11 @@ event-frame (good c bytes ∷ rest) (whole w others) command len e =
     record { count = many; few = rw (sym many) (w .few) }
 
 module _ (f : Followed) (reply : List ℕ) (held : Held) (out : held ≡ stream.heldOf outside) {h : Heard} (is : h ≡ stream.hearing held reply 35 .answer) where
-  event-is : stream.hearing (stream.heldOf outside) reply 35 .answer .event ≡ h .event
-  event-is = ap (λ (a : Heard). a .event) (sym (is ∙ ap (λ (s : Held). stream.hearing s reply 35 .answer) out))
+  own : boxHearing (stream.heldOf outside) reply 35 ≡ stream.hearing held reply 35
+  own = rw (box-is, out)
+
+  event-is : boxHearing (stream.heldOf outside) reply 35 .answer .event ≡ h .event
+  event-is = rw (own, is)
 
   pub listen-nothing : h .event ≡ Event.Nothing → f ≡ listening f reply
   unfolding listening
@@ -135,10 +87,10 @@ module _ (f : Followed) (reply : List ℕ) (held : Held) (out : held ≡ stream.
   listen-refused n e = rw (event-is ∙ e)
 
   module _ (command len : ℕ) (e : h .event ≡ Event.Frame command len) where
-    heard-as : stream.hearing (stream.heldOf outside) reply 35 ≡ stream.heardOf (stream.unfinished (stream.heldOf outside)) reply
-    heard-as = hearing-heard (stream.heldOf outside) reply 35 (leb-true 35 35 refl) allowed-outside
+    heard-as : boxHearing (stream.heldOf outside) reply 35 ≡ stream.heardOf (stream.unfinished (stream.heldOf outside)) reply
+    heard-as = box-heard (stream.heldOf outside) reply 35 (leb-true 35 35 refl) allowed-outside
 
-    size-is : (length (stream.hearing (stream.heldOf outside) reply 35 .written) ≡ len) × (len ≤ 35)
+    size-is : (length (boxHearing (stream.heldOf outside) reply 35 .written) ≡ len) × (len ≤ 35)
     size-is =
         let u = stream.unfinished (stream.heldOf outside) in
         let bytes : List ℕ = take (taken u reply) reply in
@@ -153,9 +105,9 @@ module _ (f : Followed) (reply : List ℕ) (held : Held) (out : held ≡ stream.
         → following (f .follower) (heard command (take len bytes)) ≡ listening f reply
     unfolding listening
     listen-frame buffer {bytes} filled =
-        let w : List ℕ = stream.hearing (stream.heldOf outside) reply 35 .written in
-        let same : bytes ≡ overlaid w buffer = filled ∙ ap (λ (s : Held). overlaid (stream.hearing s reply 35 .written) buffer) out in
-        let front : take len bytes ≡ w = ap (take len) same ∙ ap (λ (n : ℕ). take n (overlaid w buffer)) (sym (size-is .0)) ∙ overlaid-front w buffer in
+        let w : List ℕ = boxHearing (stream.heldOf outside) reply 35 .written in
+        let same : bytes ≡ overlaid w buffer = filled ∙ rw own in
+        let front : take len bytes ≡ w = ap (take len) same ∙ ap (λ (n : ℕ). take n (overlaid w buffer)) (sym (size-is .0)) ∙ front-back w buffer in
         rw (event-is ∙ e, front)
 
 -- one turn, by the piece that it hands over
@@ -171,14 +123,14 @@ module _ (t : Turn) (list : List ℕ) (size n : ℕ) (n-is : n ≡ min size (len
   module _ {buffer reply : List ℕ} {r : Answered} (g : Gives Answered (answering (t .board) (take n (drop (t .at) list)) 75) buffer r reply) where
     pub turn-short : r .len ≤ 75
     turn-short =
-        let b = bounded (t .board) (take n (drop (t .at) list)) in
+        let b = bounded (t .board) (take n (drop (t .at) list)) 75 in
         let a : r .len ≡ length (answering (t .board) (take n (drop (t .at) list)) 75 .written) = ap (λ (x : Answered). x .len) (g .answered) ∙ b .len-is in
         let s : length (answering (t .board) (take n (drop (t .at) list)) 75 .written) ≤ 75 = b .short in
         omega arith
 
     pub turn-taken : r .taken ≤ length list - t .at
     turn-taken =
-        let b = bounded (t .board) (take n (drop (t .at) list)) in
+        let b = bounded (t .board) (take n (drop (t .at) list)) 75 in
         let a : r .taken ≡ answering (t .board) (take n (drop (t .at) list)) 75 .answer .taken = ap (λ (x : Answered). x .taken) (g .answered) in
         let s : answering (t .board) (take n (drop (t .at) list)) 75 .answer .taken ≤ min n (length (drop (t .at) list)) = rw length-take at (b .within) in
         let l : length (drop (t .at) list) ≡ length list - t .at = length-drop (t .at) list in
@@ -190,8 +142,8 @@ module _ (t : Turn) (list : List ℕ) (size n : ℕ) (n-is : n ≡ min size (len
     turn-is {f} e =
         let piece : List ℕ = take n (drop (t .at) list) in
         let w : List ℕ = answering (t .board) piece 75 .written in
-        let len : r .len ≡ length w = ap (λ (x : Answered). x .len) (g .answered) ∙ bounded (t .board) piece .len-is in
-        let front : take (r .len) reply ≡ w = ap (take (r .len)) (g .left) ∙ ap (λ (m : ℕ). take m (overlaid w buffer)) len ∙ overlaid-front w buffer in
+        let len : r .len ≡ length w = ap (λ (x : Answered). x .len) (g .answered) ∙ bounded (t .board) piece 75 .len-is in
+        let front : take (r .len) reply ≡ w = ap (take (r .len)) (g .left) ∙ ap (λ (m : ℕ). take m (overlaid w buffer)) len ∙ front-back w buffer in
         let same = g .answered in
         let one : _≡_ {A = Turn} (record { board = r .board; followed = f; at = t .at + r .taken }) (after t piece) =
         λ i. record { board = same i .board; followed = (e ∙ ap (listening (t .followed)) front) i; at = t .at + same i .taken } in
@@ -203,7 +155,7 @@ module _ (t : Turn) (list : List ℕ) (size : ℕ) where
   unfolding turned
   turned-within h =
       let piece : List ℕ = take size (drop (t .at) list) in
-      let b : answering (t .board) piece 75 .answer .taken ≤ min size (length (drop (t .at) list)) = rw length-take at (bounded (t .board) piece .within) in
+      let b : answering (t .board) piece 75 .answer .taken ≤ min size (length (drop (t .at) list)) = rw length-take at (bounded (t .board) piece 75 .within) in
       let l : length (drop (t .at) list) ≡ length list - t .at = length-drop (t .at) list in
       omega arith
 

@@ -6,12 +6,13 @@ use lib.ListN.{length, take, drop}
 use lib.Dec.{ltb}
 use Rattle.paper.specs.Numbers.{mostData, frameRoom, notAllowed}
 use Rattle.stream.specs.Stream.{outside}
-use Rattle.stream.specs.Calls.{heldOf, hearing}
+use Rattle.stream.specs.Calls.{heldOf}
 use Rattle.stream.specs.declared.Event.{Event}
 use Rattle.tables.specs.declared.Table.{Table}
 use Rattle.board.specs.Parts.{boardAllowed}
 use Rattle.board.specs.Calls.{answering}
 use Rattle.board.specs.declared.Board.{Board}
+use Rattle.listen.specs.Hearing.{boxHearing}
 use Rattle.reply.specs.Events.{heard, refusedFrame}
 use Rattle.restore.specs.Order.{dueSets}
 use Rattle.restore.specs.Calls.{bothAllowed, framesFor}
@@ -29,7 +30,7 @@ toldBy f (Event.Refused number) bytes = following (f .follower) refusedFrame
 
 -- a reply, read through the box's stream from outside a frame
 unfoldable pub listening : Followed → List ℕ → Followed
-listening f reply = let h = hearing (heldOf outside) reply mostData in toldBy f (h .answer .event) (h .written)
+listening f reply = let h = boxHearing (heldOf outside) reply mostData in toldBy f (h .answer .event) (h .written)
 
 -- one call on the board with the next bytes of the list, as many as the size says or what is left; what it wrote is listened to
 unfoldable pub turned : Turn → List ℕ → ℕ → Turn
@@ -59,10 +60,10 @@ unrehearsed board = record { board = board; outcome = Outcome.Refused notAllowed
 
 -- the whole list fed to the board, in as many calls as it has bytes at most
 abbrev pub listFor : Board → Table → List ℕ
-listFor board to = framesFor (dueSets (board .table) to)
+listFor board to = framesFor (dueSets (board .core .table) to)
 
 abbrev pub fed : Board → Table → ℕ → Turn
-fed board to size = rehearsing (length (listFor board to)) (started board (starting (board .table) to)) (listFor board to) size
+fed board to size = rehearsing (length (listFor board to)) (started board (starting (board .core .table) to)) (listFor board to) size
 
 unfoldable pub rehearsed : Board → Table → ℕ → Rehearsed
-rehearsed board to size = cond (isReady board size && bothAllowed (board .table) to) (ended (fed board to size)) (unrehearsed board)
+rehearsed board to size = cond (isReady board size && bothAllowed (board .core .table) to) (ended (fed board to size)) (unrehearsed board)

@@ -8,6 +8,7 @@ use Rattle.stream.specs.Calls.{mostHeld}
 use Rattle.settings.specs.Columns.{count}
 use Rattle.tables.specs.Rules.{allowed}
 use Rattle.tables.specs.declared.Table.{Table}
+use Rattle.answers.specs.Answers.{withTable}
 use Rattle.board.specs.Parts.{boardAllowed}
 use Rattle.board.specs.declared.Board.{Board}
 use Rattle.restore.specs.Order.{differs}
@@ -23,15 +24,15 @@ differing (suc n) from to = differing n from to + cond (differs from to n) 1 0
 -- 1. For every allowed board that is not inside a frame and every allowed wanted table, the board ends with the wanted table, the follower as
 -- done, or as equal where no setting differed, and confirmed is the number of settings that differed. In all else the board is as it was.
 pub record Restored (board : Board) (to : Table) (r : Rehearsed) : Type 0 where
-  pub board-is : r .board ≡ record { identity = board .identity; table = to; readings = board .readings; held = board .held }
-  pub outcome-is : r .outcome ≡ cond (eqb (differing count (board .table) to) 0) Outcome.Equal Outcome.Done
-  pub all-confirmed : r .confirmed ≡ differing count (board .table) to
+  pub board-is : r .board ≡ record { core = withTable (board .core) to; held = board .held }
+  pub outcome-is : r .outcome ≡ cond (eqb (differing count (board .core .table) to) 0) Outcome.Equal Outcome.Done
+  pub all-confirmed : r .confirmed ≡ differing count (board .core .table) to
 
 -- (Arrays have their lengths in every value of their types, which `length` says.)
 abbrev pub RehearsalRestores : Type 0
 RehearsalRestores =
     (board : Board) (to : Table) (size : ℕ) → boardAllowed board ≡ true → board .held .inside ≡ false → allowed to ≡ true → 1 ≤ size
-    → length (board .held .chars) ≡ mostHeld → length (board .table .numbers) ≡ count → length (to .numbers) ≡ count
+    → length (board .held .chars) ≡ mostHeld → length (board .core .table .numbers) ≡ count → length (to .numbers) ≡ count
     → Restored board to (rehearsed board to size)
 
 -- 2. Otherwise the refusal, and the board as it was: what is left, case by case. (A board with a table that is not allowed is not.)

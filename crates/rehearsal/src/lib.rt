@@ -1,9 +1,7 @@
 // A rehearsal of a restore: the list is made, fed to a board in pieces, and the board's replies are read and followed. Every call takes
 // anything, and its promise fixes its answer (specs/Calls.antt).
 ghost use mathlib.Core.Path.{_≡_};
-ghost use Rattle.board.specs.Parts.{boardAllowed};
 ghost use Rattle.rehearsal.specs.Calls.{isReady, ended, unrehearsed, rehearsed};
-use answers::Outcome as Said;
 use board::Board;
 use follow::Follower;
 use follow::Outcome;
@@ -28,7 +26,7 @@ pub fn rehearse(board: Board, to: Table, size: usize) -> Rehearsed
     if !is_ready(board, size) {
         return refused(board);
     }
-    let from = board.table;
+    let from = board.core.table;
     let mut list = [0u8; numbers::LIST_ROOM];
     let listed = restore::list(from, to, &mut list);
     match listed {
@@ -39,23 +37,7 @@ pub fn rehearse(board: Board, to: Table, size: usize) -> Rehearsed
     }
 }
 
-// Whether a board is allowed: a call with an empty piece refuses every other board, and no such one.
-fn is_allowed(board: Board) -> bool
-    ensures { λ r. ⌜ r ≡ boardAllowed board ⌝ }
-{
-    let mut reply = [0u8; paper::FRAME_ROOM];
-    let answered = board.answer(&[], &mut reply);
-    let outcome = answered.outcome;
-    match outcome {
-        Said::Nothing => true,
-        Said::Answered => true,
-        Said::Restarted => true,
-        Said::Ignored => true,
-        Said::Refused(_) => false,
-    }
-}
-
-// Whether pieces have bytes and the board is allowed and at rest.
+// Returns whether pieces have bytes and the board is allowed and at rest.
 fn is_ready(board: Board, size: usize) -> bool
     ensures { λ r. ⌜ r ≡ isReady board size ⌝ }
 {
@@ -66,10 +48,10 @@ fn is_ready(board: Board, size: usize) -> bool
     if held.inside {
         return false;
     }
-    is_allowed(board)
+    board.is_allowed()
 }
 
-// What a rehearsal came to.
+// Returns what a rehearsal came to.
 fn ended(turn: line::Turn) -> Rehearsed
     ensures { λ r. ⌜ r ≡ ended turn ⌝ }
 {
@@ -83,7 +65,7 @@ fn ended(turn: line::Turn) -> Rehearsed
     }
 }
 
-// 12: the board as it was, and no count.
+// Refuses by 12: the board as it was, and no count.
 fn refused(board: Board) -> Rehearsed
     ensures { λ r. ⌜ r ≡ unrehearsed board ⌝ }
 {

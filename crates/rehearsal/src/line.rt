@@ -17,7 +17,7 @@ pub(crate) struct Turn {
     pub at: usize,
 }
 
-// The smaller of two numbers.
+// Returns the smaller of two numbers.
 fn least(a: usize, b: usize) -> usize
     ensures { λ r. ⌜ r ≡ min a b ⌝ }
 {
@@ -40,7 +40,7 @@ fn listen(followed: Followed, reply: &[u8]) -> Followed
     }
 }
 
-// One call on the board with the next piece of the list, and its reply followed.
+// Makes one call on the board with the next piece of the list, and follows its reply.
 fn turn_of(turn: Turn, list: &[u8], size: usize) -> Turn
     requires { ⌜ turn .at ≤ length (now list) ⌝ }
     ensures { λ r. ⌜ r ≡ turned turn (now (list .entry)) size ⌝ }
@@ -61,7 +61,7 @@ fn turn_of(turn: Turn, list: &[u8], size: usize) -> Turn
     }
 }
 
-// Bytes are left, and so are calls.
+// Returns whether bytes are left, and calls.
 fn goes_on(left: usize, at: usize, len: usize) -> bool
     ensures { λ r. ⌜ r ≡ (ltb 0 left && ltb at len) ⌝ }
 {
@@ -71,7 +71,7 @@ fn goes_on(left: usize, at: usize, len: usize) -> bool
     at < len
 }
 
-// The list fed to a board, with at most a call for each byte.
+// Feeds the list to a board, with at most a call for each byte.
 pub(crate) fn feed(board: Board, followed: Followed, list: &[u8], size: usize) -> Turn
     ensures { λ r. ⌜ r ≡ rehearsing (length (now (list .entry))) (started board followed) (now (list .entry)) size ⌝ }
 {

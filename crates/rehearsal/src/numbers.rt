@@ -1,4 +1,4 @@
-// The numbers that document 01 fixes for a rehearsal.
+use settings::COUNT;
 
-// The list of all Sets, one reply of a board, and the data of one frame.
-pub(crate) const LIST_ROOM: usize = 390;
+// Room for a Set of every setting, each of at most 15 bytes: what the list's writer wants.
+pub(crate) const LIST_ROOM: usize = 15 * COUNT;

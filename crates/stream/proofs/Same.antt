@@ -10,6 +10,7 @@ use Rattle.laws.proofs.Promise.{gives-same, equal-same}
 use Rattle.stream.specs.declared.Held.{Held}
 use Rattle.stream.specs.declared.Heard.{Heard}
 use Rattle.stream.proofs.Held.hear.Reads as hear
+use Rattle.stream.proofs.Held.is_allowed.Reads as is-allowed
 use Rattle.stream.proofs.Held.outside.Reads as outside
 use Rattle.stream.proofs.Held.is_allowed.Reads as is-allowed
 

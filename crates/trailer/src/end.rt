@@ -1,4 +1,3 @@
-// The settings at the end.
 use crate::words;
 use backup::Written;
 use board::Board;
@@ -10,7 +9,7 @@ pub(crate) fn store(board: Board) {
     if words::is_left_out(&path[..len]) {
         return;
     }
-    let table = board.table;
+    let table = board.core.table;
     let mut text = [0u8; paper::TEXT_ROOM];
     let written = backup::write(table, &mut text);
     match written {
@@ -19,7 +18,7 @@ pub(crate) fn store(board: Board) {
     }
 }
 
-// The front of a buffer as a file.
+// Writes the front of a buffer as a file.
 fn keep(path: &[u8], text: &[u8], count: usize) {
     let fd = os::open_overwrite(path);
     if fd < 0 {

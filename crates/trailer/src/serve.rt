@@ -1,4 +1,3 @@
-// The board at its line.
 ghost use Prim.Native.Nat.{_≤_};
 use crate::words;
 use board::Board;
@@ -44,7 +43,7 @@ fn answer_all(board: Board, piece: &[u8], output: i32) -> Board {
     board
 }
 
-// A place moved on, no further than the end.
+// Moves a place on, no further than the end.
 fn forward(at: usize, by: usize, end: usize) -> usize
     requires { ⌜ at ≤ end ⌝ }
     ensures { λ r. ⌜ r ≤ end ⌝ }

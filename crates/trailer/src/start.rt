@@ -1,4 +1,3 @@
-// The board that the words ask for.
 use crate::words;
 use backup::Checked;
 use board::Board;
@@ -23,7 +22,7 @@ struct Chosen {
     table: Table,
 }
 
-// No board: why is said already.
+// Returns no board: why is said already.
 fn none() -> Begun {
     let judged = Board::start_factory(0, 0, &[]);
     let board = judged.board;
@@ -33,7 +32,7 @@ fn none() -> Begun {
     }
 }
 
-// The number of a word, and a complaint where it is none.
+// Returns the number of a word, and complains where it is none.
 fn number(place: usize, otherwise: u16) -> words::Number {
     let mut text = io::buffer();
     let len = words::word(place, &mut text);
@@ -44,7 +43,7 @@ fn number(place: usize, otherwise: u16) -> words::Number {
     number
 }
 
-// The board of the words, or none and a line that says why.
+// Returns the board that the words ask for, or none and says why.
 pub(crate) fn board() -> Begun {
     let chosen = table();
     if !chosen.ready {
@@ -62,7 +61,7 @@ pub(crate) fn board() -> Begun {
     named(product.number, version.number, table)
 }
 
-// The board with the serial of the words.
+// Starts the board with the serial of the words.
 fn named(product: u16, version: u16, table: Table) -> Begun {
     let mut serial = io::buffer();
     let len = words::word(words::SERIAL, &mut serial);
@@ -72,7 +71,7 @@ fn named(product: u16, version: u16, table: Table) -> Begun {
     judged_start(Board::start(product, version, &serial[..len], table))
 }
 
-// What became of the start.
+// Returns the board of a start, or none and says why.
 fn judged_start(judged: Judged) -> Begun {
     let board = judged.board;
     let verdict = judged.verdict;
@@ -85,7 +84,7 @@ fn judged_start(judged: Judged) -> Begun {
     }
 }
 
-// No table: why is said already.
+// Returns no table: why is said already.
 fn no_table() -> Chosen {
     Chosen {
         ready: false,
@@ -93,7 +92,7 @@ fn no_table() -> Chosen {
     }
 }
 
-// The table of the words.
+// Returns the table that the words ask for, or none and says why.
 fn table() -> Chosen {
     let mut path = io::buffer();
     let len = words::word(words::START, &mut path);
@@ -114,7 +113,7 @@ fn table() -> Chosen {
     read(&text[..count])
 }
 
-// The table of a backup text.
+// Returns the table of a backup text, or none and says why.
 fn read(text: &[u8]) -> Chosen {
     let backup = backup::read(text);
     let table = backup.table;

@@ -1,4 +1,3 @@
-// The program's words.
 ghost use Rattle.io.specs.Counts.{Counts};
 
 // Their places.
@@ -22,14 +21,14 @@ pub(crate) struct Number {
     pub(crate) number: u16,
 }
 
-// A word at the front of `out`, and its length: 0 where there is none.
+// Puts a word at the front of `out` and returns its length: 0 where there is none.
 pub(crate) fn word(place: usize, out: &mut [u8]) -> usize
     ensures { λ r. ⌜ Counts r (now (out .exit)) ⌝ }
 {
     os::arg(place, out)
 }
 
-// A word that leaves the choice to the program: none, or a minus alone.
+// Returns whether a word leaves the choice to the program: none, or a minus alone.
 pub(crate) fn is_left_out(word: &[u8]) -> bool {
     if word.len() == 0 {
         return true;
@@ -37,7 +36,7 @@ pub(crate) fn is_left_out(word: &[u8]) -> bool {
     word.len() == 1 && word[0] == b'-'
 }
 
-// The nibble of a digit, of which A to F may be small, or 16.
+// Returns the nibble of a digit, of which A to F may be small, or 16.
 fn nibble(c: u8) -> u16 {
     if b'0' <= c && c <= b'9' {
         return (c - b'0') as u16;
@@ -51,7 +50,7 @@ fn nibble(c: u8) -> u16 {
     NO_NIBBLE
 }
 
-// The number that a word of four hex digits is, or the one to take where the word is left out.
+// Returns the number that a word of four hex digits is, or the one to take where the word is left out.
 pub(crate) fn hex(word: &[u8], otherwise: u16) -> Number {
     if is_left_out(word) {
         return Number {
@@ -70,7 +69,7 @@ pub(crate) fn hex(word: &[u8], otherwise: u16) -> Number {
     )
 }
 
-// No number.
+// Returns no number.
 fn none() -> Number {
     Number {
         is: false,
@@ -78,7 +77,7 @@ fn none() -> Number {
     }
 }
 
-// Four nibbles as one number.
+// Returns four nibbles as one number.
 fn joined(a: u16, b: u16, c: u16, d: u16) -> Number {
     if NO_NIBBLE <= a {
         return none();
@@ -98,7 +97,7 @@ fn joined(a: u16, b: u16, c: u16, d: u16) -> Number {
     }
 }
 
-// A line to standard error.
+// Writes a line to standard error.
 pub(crate) fn say(text: &[u8]) {
     io::write_all(libc::STDERR_FILENO, b"trailer: ");
     io::write_all(libc::STDERR_FILENO, text);

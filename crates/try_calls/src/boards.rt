@@ -47,15 +47,10 @@ pub fn serial(row: &[u8], serial: &[u8]) {
 fn board_of(row: &[u8], serial: &[u8]) -> Board {
     let started = Board::start_factory(PRODUCT, VERSION, serial).board;
     let board = started.store(sample(row)).board;
-    let identity = board.identity;
-    let readings = board.readings;
+    let mut core = board.core;
     let held = board.held;
-    Board {
-        identity,
-        table: filled::table_of(row, false),
-        readings,
-        held,
-    }
+    core.table = filled::table_of(row, false);
+    Board { core, held }
 }
 
 // A reading of a row, or 0.
@@ -152,9 +147,9 @@ pub fn start(row: &[u8], serial: &[u8]) {
     let started = Board::start(args::id(row, 1), args::id(row, 2), serial, table);
     let verdict = started.verdict;
     judged(verdict);
-    let board = started.board;
-    identity(board.identity);
-    filled::differences(board.table);
+    let core = started.board.core;
+    identity(core.identity);
+    filled::differences(core.table);
 }
 
 // Product, version and serial.

@@ -3,16 +3,17 @@ use mathlib.Core.Path.{_≡_, sym, _∙_}
 use Prim.Native.Nat.{_≤_, _-_}
 use borrow.Author.Tests.{not-true, not-false}
 use lib.ListN.{length, length-take}
+use Rattle.restore.specs.Calls.{listRoom}
 use Rattle.rehearsal.proofs.Rehearsing.{list-len, refused-unready, refused-tables, ended-is}
 use borrow.Author.Needs.{needs}
 use native.Mathlib.Omega.{arith}
 use Rattle.rehearsal.proofs.rehearse.Statement.{statement}
 use Rattle.rehearsal.proofs.rehearse.Tie as tie
 
-long : (c : tie.After-list2) → length (c .list2 .last .1 .1 .0) ≡ 390
+long : (c : tie.After-list2) → length (c .list2 .last .1 .1 .0) ≡ listRoom
 long c = search needs
 
-few : (c : tie.After-start) → c .before .before .listed .given .0 .0 ≤ 390
+few : (c : tie.After-start) → c .before .before .listed .given .0 .0 ≤ listRoom
 few c = list-len (c .before .before .before .before .before .before .before .before .before .before .args .board) (c .before .before .before .before .before .before .before .before .before .before .args .to) (c .before .before .before .before .before .before .before .before .before .before .args .size) (c .before .before .before .before .before .list2 .ensures) _ _ (c .before .before .listed .given .1) .few
 
 is-ready-requires : tie.Need-is-ready-requires

@@ -17,11 +17,11 @@ tells-requires-3 c κs = tt
 restarts-requires : tie.Need-restarts-requires
 restarts-requires c κs = tt
 
-gets-requires : tie.Need-gets-requires
-gets-requires c κs = c .before .before .pre
+answer-requires : tie.Need-answer-requires
+answer-requires c κs = c .before .before .pre
 
-sets-requires : tie.Need-sets-requires
-sets-requires c κs = c .before .before .pre
+answer-requires-2 : tie.Need-answer-requires-2
+answer-requires-2 c κs = c .before .before .pre
 
 silent-requires : tie.Need-silent-requires
 silent-requires c κs = tt
@@ -47,11 +47,11 @@ returns-4 c = c .restarts .ensures ∙ rw (c .before .match .keys4)
 
 returns-5 : tie.Need-returns-5
 unfolding frameAnswer
-returns-5 c = c .gets .ensures ∙ rw (c .before .match .keys5)
+returns-5 c = c .answer .ensures ∙ rw (c .before .match .keys5)
 
 returns-6 : tie.Need-returns-6
 unfolding frameAnswer
-returns-6 c = c .sets .ensures ∙ rw (c .before .match .keys6)
+returns-6 c = c .answer2 .ensures ∙ rw (c .before .match .keys6)
 
 returns-7 : tie.Need-returns-7
 unfolding frameAnswer
@@ -72,8 +72,8 @@ frame-answer-spec =
     tells-requires-2
     tells-requires-3
     restarts-requires
-    gets-requires
-    sets-requires
+    answer-requires
+    answer-requires-2
     silent-requires
     unknown-command-requires
     returns

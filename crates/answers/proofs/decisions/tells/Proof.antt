@@ -21,7 +21,7 @@ sends-requires c κs = tt
 
 returns-2 : tie.Need-returns-2
 unfolding tells
-returns-2 c = c .sends .ensures ∙ rw (eq-eqb _ _ (c .before .before .if1 .left), c .before .number .ensures) (sends-is _ _ _ _ _)
+returns-2 c = c .sends .ensures ∙ rw (eq-eqb _ _ (c .before .before .if1 .left), c .before .number .ensures) (sends-is _ _ _ _)
 
 pub tells-spec : {M : Type 1} → statement M
 tells-spec =

@@ -11,7 +11,7 @@ sends-requires : tie.Need-sends-requires
 sends-requires c κs = tt
 
 returns : tie.Need-returns
-returns c = c .sends .ensures ∙ rw (c .before .one .ensures) (sends-is _ _ _ _ _)
+returns c = c .sends .ensures ∙ rw (c .before .one .ensures) (sends-is _ _ _ _)
 
 pub unknown-command-spec : {M : Type 1} → statement M
 unknown-command-spec = tie.close (tie.spec one-requires sends-requires returns)

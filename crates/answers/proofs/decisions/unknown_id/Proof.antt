@@ -11,7 +11,7 @@ sends-requires : tie.Need-sends-requires
 sends-requires c κs = tt
 
 returns : tie.Need-returns
-returns c = c .sends .ensures ∙ rw (c .before .bare .ensures) (sends-is _ _ _ _ _)
+returns c = c .sends .ensures ∙ rw (c .before .bare .ensures) (sends-is _ _ _ _)
 
 pub unknown-id-spec : {M : Type 1} → statement M
 unknown-id-spec = tie.close (tie.spec bare-requires sends-requires returns)

@@ -12,7 +12,7 @@ use Rattle.answers.proofs.gets.get_other.Statement.{statement}
 use Rattle.answers.proofs.gets.get_other.Tie as tie
 
 -- what the look-up answers
-looked : (c : tie.After-read-only) → c .read-only .result ≡ lookedOf (readOnly (c .before .args .identity) (c .before .args .readings) (c .before .args .id))
+looked : (c : tie.After-read-only) → c .read-only .result ≡ lookedOf (readOnly (c .before .args .core .identity) (c .before .args .core .readings) (c .before .args .id))
 looked c = c .read-only .ensures ∙ sym (read-given _ _ _ (c .before .pre))
 
 read-only-requires : tie.Need-read-only-requires
@@ -36,13 +36,13 @@ returns : tie.Need-returns
 returns c =
     let c4 = c .before .before .before .before in
     let known = ap (λ (l : Looked). l .verdict) (sym (looked c4)) ∙ c .before .enum-told .given .1 in
-    c .says .ensures ∙ rw (looked c4) (gets-some _ _ _ _ known)
+    c .says .ensures ∙ rw (looked c4) (gets-some _ _ _ known)
 
 returns-2 : tie.Need-returns-2
 returns-2 c =
     let c4 = c .before .before .before .before in
     let unknown = ap (λ (l : Looked). l .verdict) (sym (looked c4)) ∙ c .before .enum-told2 .given .1 in
-    c .unknown-id .ensures ∙ ap decidedOf (gets-none _ _ _ _ unknown)
+    c .unknown-id .ensures ∙ ap decidedOf (gets-none _ _ _ unknown)
 
 pub get-other-spec : {M : Type 1} → statement M
 get-other-spec =

@@ -6,14 +6,14 @@ use Rattle.endian.proofs.Little.{length-little}
 use Rattle.answers.proofs.gets.get_setting.Statement.{statement}
 use Rattle.answers.proofs.gets.get_setting.Tie as tie
 
-held-requires : tie.Need-held-requires
-held-requires c κs = c .pre
+now-held-requires : tie.Need-now-held-requires
+now-held-requires c κs = c .pre
 
 says-requires : tie.Need-says-requires
-says-requires c κs = rw (c .held .ensures) (value-short _ (rw (length-little _ _) (omega (arith, c .before .pre .narrow))))
+says-requires c κs = rw (c .now-held .ensures) (value-short _ (rw (length-little _ _) (omega (arith, c .before .pre .narrow))))
 
 returns : tie.Need-returns
-returns c = c .says .ensures ∙ rw (c .before .held .ensures) (says-is _ _ _ _ _ _ _)
+returns c = c .says .ensures ∙ rw (c .before .now-held .ensures) (says-is _ _ _ _ _ _)
 
 pub get-setting-spec : {M : Type 1} → statement M
-get-setting-spec = tie.close (tie.spec held-requires says-requires returns)
+get-setting-spec = tie.close (tie.spec now-held-requires says-requires returns)

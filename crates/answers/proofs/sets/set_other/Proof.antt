@@ -11,7 +11,7 @@ use Rattle.answers.proofs.sets.set_other.Statement.{statement}
 use Rattle.answers.proofs.sets.set_other.Tie as tie
 
 -- what the look-up answers
-looked : (c : tie.After-read-only) → c .read-only .result ≡ lookedOf (readOnly (c .before .args .identity) (c .before .args .readings) (c .before .args .id))
+looked : (c : tie.After-read-only) → c .read-only .result ≡ lookedOf (readOnly (c .before .args .core .identity) (c .before .args .core .readings) (c .before .args .id))
 looked c = c .read-only .ensures ∙ sym (read-given _ _ _ (c .before .pre))
 
 read-only-requires : tie.Need-read-only-requires
@@ -35,12 +35,12 @@ unknown-id-requires c κs = tt
 returns : tie.Need-returns
 returns c =
     let known = ap (λ (l : Looked). l .verdict) (sym (looked (c .before .before .before .before))) ∙ c .before .before .enum-told .given .1 in
-    c .sends .ensures ∙ rw (c .before .bare .ensures) (sends-is _ _ _ _ _) ∙ ap decidedOf (sets-some _ _ _ _ known)
+    c .sends .ensures ∙ rw (c .before .bare .ensures) (sends-is _ _ _ _) ∙ ap decidedOf (sets-some _ _ _ known)
 
 returns-2 : tie.Need-returns-2
 returns-2 c =
     let unknown = ap (λ (l : Looked). l .verdict) (sym (looked (c .before .before .before))) ∙ c .before .enum-told2 .given .1 in
-    c .unknown-id .ensures ∙ ap decidedOf (sets-none _ _ _ _ unknown)
+    c .unknown-id .ensures ∙ ap decidedOf (sets-none _ _ _ unknown)
 
 pub set-other-spec : {M : Type 1} → statement M
 set-other-spec =

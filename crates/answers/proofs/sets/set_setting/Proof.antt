@@ -7,14 +7,14 @@ use Rattle.endian.proofs.Little.{length-little}
 use Rattle.answers.proofs.sets.set_setting.Statement.{statement}
 use Rattle.answers.proofs.sets.set_setting.Tie as tie
 
-held-requires : tie.Need-held-requires
-held-requires c κs = c .before .before .before .pre
+now-held-requires : tie.Need-now-held-requires
+now-held-requires c κs = c .before .before .before .pre
 
 says-requires : tie.Need-says-requires
-says-requires c κs = rw (c .held .ensures) (value-short _ (rw (length-little _ _) (omega (arith, c .before .before .before .before .pre .narrow))))
+says-requires c κs = rw (c .now-held .ensures) (value-short _ (rw (length-little _ _) (omega (arith, c .before .before .before .before .pre .narrow))))
 
 returns : tie.Need-returns
-returns c = c .says .ensures ∙ rw (c .before .held .ensures) (says-is _ _ _ _ _ _ _) ∙ ap decidedOf (sets-wrong _ _ _ _ (c .before .before .if1 .taken))
+returns c = c .says .ensures ∙ rw (c .before .now-held .ensures) (says-is _ _ _ _ _ _) ∙ ap decidedOf (sets-wrong _ _ _ (c .before .before .if1 .taken))
 
 number-of-requires : tie.Need-number-of-requires
 number-of-requires c κs = let start = c .before .before .before in
@@ -25,18 +25,18 @@ set-requires : tie.Need-set-requires
 set-requires c κs = tt
 
 stored-requires : tie.Need-stored-requires
-stored-requires c κs = c .before .before .before .before .before .before .pre
+stored-requires c κs = c .before .before .before .before .before .before .before .pre
 
 returns-2 : tie.Need-returns-2
 returns-2 c =
-    let c3 = c .before .before .before in
-    c .stored .ensures ∙ ap decidedOf (sets-right _ _ _ _ (c3 .before .if1 .left) (c3 .number-of .ensures) (c .before .before .set .ensures))
+    let c4 = c .before .before .before .before in
+    c .stored .ensures ∙ ap decidedOf (sets-right _ _ _ (c4 .before .if1 .left) (c4 .number-of .ensures) (c .before .before .set .ensures))
 
 pub set-setting-spec : {M : Type 1} → statement M
 set-setting-spec =
     tie.close
     (tie.spec
-    held-requires
+    now-held-requires
     says-requires
     returns
     number-of-requires

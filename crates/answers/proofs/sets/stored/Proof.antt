@@ -26,10 +26,10 @@ says-requires-2 : tie.Need-says-requires-2
 says-requires-2 c κs = rw (c .wide2 .ensures) (value-short _ (rw (length-little _ _) (omega (arith, c .before .before .before .before .pre .narrow))))
 
 returns : tie.Need-returns
-returns c = c .says .ensures ∙ rw (c .before .wide .ensures) (says-is _ _ _ _ _ _ _) ∙ stored-is _ _ _ _ (c .before .before .enum-told .given .1)
+returns c = c .says .ensures ∙ rw (c .before .wide .ensures) (says-is _ _ _ _ _ _) ∙ stored-is _ _ _ (c .before .before .enum-told .given .1)
 
 returns-2 : tie.Need-returns-2
-returns-2 c = c .says2 .ensures ∙ rw (c .before .wide2 .ensures) (says-is _ _ _ _ _ _ _) ∙ stored-is _ _ _ _ (c .before .before .before .answer .given .1)
+returns-2 c = c .says2 .ensures ∙ rw (c .before .wide2 .ensures) (says-is _ _ _ _ _ _) ∙ stored-is _ _ _ (c .before .before .before .answer .given .1)
 
 pub stored-spec : {M : Type 1} → statement M
 stored-spec =

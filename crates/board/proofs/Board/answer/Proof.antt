@@ -3,7 +3,7 @@ use mathlib.Core.Path.{sym, _∙_}
 use borrow.Author.Tests.{not-true, not-false}
 use borrow.Author.Needs.{needs}
 use Rattle.laws.proofs.Promise.{gives-none}
-use Rattle.board.proofs.Lines.{answering-short, answering-unfit, answering-fit}
+use Rattle.board.proofs.Pieces.{answering-short, answering-unfit, answering-fit}
 use Rattle.board.proofs.Board.answer.Statement.{statement}
 use Rattle.board.proofs.Board.answer.Tie as tie
 
@@ -13,17 +13,17 @@ unanswered-requires c κs = tt
 returns : tie.Need-returns
 returns c = rw (c .unanswered .ensures) (gives-none _ (answering-short _ _ _ (c .before .if1 .taken)))
 
-is-fit-requires : tie.Need-is-fit-requires
-is-fit-requires c κs = tt
+is-allowed-requires : tie.Need-is-allowed-requires
+is-allowed-requires c κs = tt
 
 unanswered-requires-2 : tie.Need-unanswered-requires-2
 unanswered-requires-2 c κs = tt
 
 returns-2 : tie.Need-returns-2
-returns-2 c = rw (c .unanswered2 .ensures) (gives-none _ (answering-unfit _ _ _ (c .before .before .before .if1 .left) (sym (c .before .before .is-fit .ensures) ∙ not-true _ (c .before .if2 .taken))))
+returns-2 c = rw (c .unanswered2 .ensures) (gives-none _ (answering-unfit _ _ _ (c .before .before .before .before .if1 .left) (sym (c .before .before .is-allowed .ensures) ∙ not-true _ (c .before .if2 .taken))))
 
 heard-requires : tie.Need-heard-requires
-heard-requires c κs = (c .before .before .before .if1 .left, sym (c .before .before .is-fit .ensures) ∙ not-false _ (c .before .if2 .left))
+heard-requires c κs = (c .before .before .before .before .if1 .left, sym (c .before .before .is-allowed .ensures) ∙ not-false _ (c .before .if2 .left))
 
 same-length : tie.Need-same-length
 same-length c = search needs
@@ -31,9 +31,9 @@ same-length c = search needs
 returns-3 : tie.Need-returns-3
 returns-3 c =
     let c4 = c .before .before .before .before in
-    let ok = sym (c4 .before .is-fit .ensures) ∙ not-false _ (c4 .if2 .left) in
-    let board = c4 .before .before .before .before .before .args .self in
-    rw (answering-fit board _ _ (c4 .before .before .if1 .left) ok) (c .before .before .heard .ensures)
+    let ok = sym (c4 .before .is-allowed .ensures) ∙ not-false _ (c4 .if2 .left) in
+    let board = c4 .before .before .before .before .before .before .args .self in
+    rw (answering-fit board _ _ (c4 .before .before .before .if1 .left) ok) (c .before .before .heard .ensures)
 
 pub answer-spec : {M : Type 1} → statement M
 answer-spec =
@@ -41,7 +41,7 @@ answer-spec =
     (tie.spec
     unanswered-requires
     returns
-    is-fit-requires
+    is-allowed-requires
     unanswered-requires-2
     returns-2
     heard-requires

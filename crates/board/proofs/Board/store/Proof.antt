@@ -29,13 +29,12 @@ returns c = sym (store-refused _ _ (stray c))
 
 readings-of-requires : tie.Need-readings-of-requires
 readings-of-requires c κs =
-    let c6 = c .before .before .before .before .before .before in
-    and-right (boardAllowed (c6 .args .self)) _ (fits (c .before .before .before))
+    let c2 = c .before .before in
+    and-right (boardAllowed (c2 .before .before .before .args .self)) _ (fits c2)
 
 returns-2 : tie.Need-returns-2
 returns-2 c =
-    let c4 = c .before .before .before .before in
-    rw (c .readings-of .ensures) (sym (store-accepted _ _ (fits c4)))
+    rw (c .readings-of .ensures) (sym (store-accepted _ _ (fits (c .before .before .before))))
 
 pub store-spec : {M : Type 1} → statement M
 store-spec =

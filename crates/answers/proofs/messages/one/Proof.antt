@@ -1,0 +1,17 @@
+-- `answers::messages::one` meets its contract. Assumes nothing.
+use mathlib.Core.Path.{refl}
+use borrow.Author.Needs.{needs}
+use Rattle.laws.specs.Promise.{overlaid}
+use Rattle.answers.specs.AsHeld.{messageOf, noData}
+use Rattle.answers.proofs.messages.one.Statement.{statement}
+use Rattle.answers.proofs.messages.one.Tie as tie
+
+array-write-bytes : tie.Need-array-write-bytes
+array-write-bytes c = search needs
+
+returns : tie.Need-returns
+unfolding messageOf overlaid noData
+returns c = refl
+
+pub one-spec : {M : Type 1} → statement M
+one-spec = tie.close (tie.spec array-write-bytes returns)

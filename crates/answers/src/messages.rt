@@ -1,0 +1,93 @@
+ghost use mathlib.Core.Path.{_≡_};
+ghost use mathlib.Core.List.{[], _∷_, _++_};
+ghost use Prim.Native.Nat.{_≤_};
+ghost use lib.ListN.{take};
+ghost use Rattle.endian.specs.Numbers.{little};
+ghost use Rattle.answers.specs.Answers.{said};
+ghost use Rattle.answers.specs.AsHeld.{messageOf, saidOf};
+use crate::Message;
+use who::Value;
+
+// Returns an empty message, for where none is sent.
+pub(crate) fn none() -> Message
+    ensures { λ r. ⌜ r ≡ messageOf 0 [] ⌝ }
+{
+    Message {
+        command: 0,
+        len: 0,
+        bytes: [0u8; paper::MOST_DATA],
+    }
+}
+
+// Returns a message of one byte: the command that is not known.
+pub(crate) fn one(command: u8, byte: u8) -> Message
+    ensures { λ r. ⌜ r ≡ messageOf command (byte ∷ []) ⌝ }
+{
+    let mut bytes = [0u8; paper::MOST_DATA];
+    bytes[0] = byte;
+    Message {
+        command,
+        len: 1,
+        bytes,
+    }
+}
+
+// Returns a message of one number: a version or a product.
+pub(crate) fn number(command: u8, n: u16) -> Message
+    ensures { λ r. ⌜ r ≡ messageOf command (little 2 n) ⌝ }
+{
+    let mut bytes = [0u8; paper::MOST_DATA];
+    bytes[0] = (n % 256) as u8;
+    bytes[1] = (n / 256 % 256) as u8;
+    Message {
+        command,
+        len: 2,
+        bytes,
+    }
+}
+
+// Returns a message of an id and a flag, with no value.
+pub(crate) fn bare(command: u8, id: u16, flag: u8) -> Message
+    ensures { λ r. ⌜ r ≡ messageOf command (said id flag []) ⌝ }
+{
+    let mut bytes = [0u8; paper::MOST_DATA];
+    bytes[0] = (id % 256) as u8;
+    bytes[1] = (id / 256 % 256) as u8;
+    bytes[2] = flag;
+    Message {
+        command,
+        len: 3,
+        bytes,
+    }
+}
+
+// Returns the first three bytes of `front`, and 32 after them.
+fn joined(front: [u8; paper::MOST_DATA], rest: [u8; paper::MOST_SERIAL]) -> [u8; paper::MOST_DATA]
+    ensures { λ r. ⌜ r ≡ take 3 front ++ rest ⌝ }
+{
+    let mut bytes = front;
+    let mut i = 0;
+    while i < paper::MOST_SERIAL {
+        bytes[i + 3] = rest[i];
+        i += 1;
+    }
+    bytes
+}
+
+// Returns a message of an id, a flag and a value.
+pub(crate) fn saying(command: u8, id: u16, flag: u8, value: Value) -> Message
+    requires { ⌜ value .len ≤ 32 ⌝ }
+    ensures { λ r. ⌜ r ≡ saidOf command id flag value ⌝ }
+{
+    let mut front = [0u8; paper::MOST_DATA];
+    front[0] = (id % 256) as u8;
+    front[1] = (id / 256 % 256) as u8;
+    front[2] = flag;
+    let len = value.len;
+    let rest = value.bytes;
+    Message {
+        command,
+        len: len + 3,
+        bytes: joined(front, rest),
+    }
+}

@@ -1,0 +1,60 @@
+-- The laws of the box's hearing: those of the stream's call, under its own name. Assumes nothing.
+use mathlib.Core.Path.{_≡_, refl}
+use mathlib.Core.Bool.{true, false}
+use mathlib.Core.List.{List, [], _∷_, _++_, append-nil}
+use Prim.Native.Nat.{ℕ, _≤_, _<_}
+use native.Mathlib.Nat.{add-zero}
+use native.Mathlib.Omega.{arith}
+use borrow.Author.Tests.{le-ltb}
+use lib.ListN.{length, take}
+use lib.Seq.{take-all}
+use lib.Dec.{leb, ltb}
+use Rattle.laws.specs.Cutting.{Offer, calls, ready}
+use Rattle.stream.specs.Stream.{leftBy, framesFrom}
+use Rattle.stream.specs.Calls.{allowed, unfinished, heldOf, unheard, heardOf, hearing}
+use Rattle.stream.specs.Laws.{Cut}
+use Rattle.stream.specs.declared.Held.{Held}
+use Rattle.stream.specs.declared.Event.{Event}
+use Rattle.stream.proofs.Answers.{hearing-short, hearing-stray, hearing-heard}
+use Rattle.stream.proofs.Theorems.{any-cutting, all-is-taken, refused-is-small}
+use Rattle.listen.specs.Hearing.{boxHearing, boxHears}
+
+-- the stream's call is the box's
+pub box-is : boxHearing ≡ hearing
+unfolding boxHearing
+box-is = refl
+
+module _ (held : Held) (piece : List ℕ) (room : ℕ) where
+  pub box-short : room < 35 → boxHearing held piece room ≡ unheard held 11
+  unfolding boxHearing
+  box-short = hearing-short held piece room
+
+  pub box-stray : 35 ≤ room → allowed held ≡ false → boxHearing held piece room ≡ unheard held 12
+  unfolding boxHearing
+  box-stray = hearing-stray held piece room
+
+  pub box-heard : 35 ≤ room → allowed held ≡ true → boxHearing held piece room ≡ heardOf (unfinished held) piece
+  unfolding boxHearing
+  box-heard = hearing-heard held piece room
+
+-- a frame is refused by one of the numbers 1 to 4, and no other
+pub small-refusal : (held : Held) → allowed held ≡ true → (piece : List ℕ) (room : ℕ) → 35 ≤ room
+    → (n : ℕ) → boxHearing held piece room .answer .event ≡ Event.Refused n → ltb 4 n ≡ false
+unfolding boxHearing
+small-refusal held ok piece room enough n e = le-ltb 4 n (refused-is-small held piece room n ok enough e)
+
+-- a row of calls, one that takes every byte, and a row of one
+pub box-cutting : (earlier bytes : List ℕ) (offers : List (Offer ℕ)) → Cut earlier bytes (calls boxHears (heldOf (leftBy earlier)) bytes offers)
+unfolding boxHearing
+box-cutting = any-cutting
+
+pub box-takes-all : (earlier bytes : List ℕ) (offers : List (Offer ℕ)) → ready (λ room. leb 35 room) offers ≡ true → length bytes ≤ length offers
+    → calls boxHears (heldOf (leftBy earlier)) bytes offers
+    ≡ record { state = heldOf (leftBy (earlier ++ bytes)); events = framesFrom (leftBy earlier) bytes; taken = length bytes }
+unfolding boxHearing
+box-takes-all = all-is-taken
+
+pub one-cut : (earlier piece : List ℕ) (room : ℕ) → Cut earlier piece (boxHears (heldOf (leftBy earlier)) room piece)
+one-cut earlier piece room =
+    let whole : take (length piece) piece ≡ piece = take-all (length piece) piece (omega arith) in
+    rw (whole, append-nil, add-zero) at (box-cutting earlier piece (record { count = length piece; with = room } ∷ []))
