@@ -1,6 +1,6 @@
 -- The worked lines hold by computation: each definition that they pass through is opened and run.
 use mathlib.Core.Path.{refl}
-use Rattle.laws.specs.Promise.{overlaid}
+use Rattle.laws.specs.Promise.{overlaid, frontOf}
 use Rattle.wire.specs.Digits.{digit, nibble}
 use Rattle.wire.specs.Frame.{check, body, frame}
 use Rattle.wire.specs.Reading.{bodySays}

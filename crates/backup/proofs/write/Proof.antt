@@ -9,7 +9,7 @@ use lib.ListN.{length}
 use denote.Ref.{now}
 use Rattle.laws.specs.Promise.{overlaid}
 use Rattle.laws.proofs.Promise.{gives-none, gives-bytes}
-use Rattle.lines.proofs.Adding.{copied}
+use Rattle.laws.proofs.Promise.{copied}
 use Rattle.backup.specs.Text.{header, places, linesFor, textOf}
 use Rattle.backup.proofs.Places.{header-long}
 use Rattle.backup.proofs.Calls.{write-short, write-stray, write-made}
