@@ -16,14 +16,11 @@ use Rattle.backup.specs.Text.{header, places, textOf, refused, linesSay,
 use Rattle.backup.proofs.Places.{header-long}
 use Rattle.backup.specs.Calls.{unwritten, writtenAs, writing, readAs, reading}
 
--- a text that begins with a line is as long at least
-front-inside : (front text : List ℕ) → same (take (length front) text) front ≡ true → length front ≤ length text
-front-inside front text e =
-    let size : length (take (length front) text) ≡ length front = ap length (same-back (take (length front) text) front e) in
-    omega (arith, length-take (length front) text)
-
+-- a text that begins with the header is as long at least
 pub header-inside : (text : List ℕ) → same (take (length header) text) header ≡ true → 12 ≤ length text
-header-inside text e = omega (arith, header-long, front-inside header text e)
+header-inside text e =
+    let size : length (take (length header) text) ≡ length header = ap length (same-back (take (length header) text) header e) in
+    omega (arith, header-long, length-take (length header) text)
 
 pub header-cut : (text : List ℕ) → length text < 12 → false ≡ same (take (length header) text) header
 header-cut text h = by (same (take (length header) text) header) refl

@@ -11,7 +11,7 @@ use Rattle.tables.specs.declared.Table.{Table}
 use Rattle.rows.specs.Row.{rowOf}
 use Rattle.rows.specs.Calls.{judging}
 use Rattle.rows.specs.declared.Judged.{Judged}
-use Rattle.rows.proofs.Judging.{Numbered, numbered}
+use Rattle.rows.proofs.Judging.{numbered}
 use Rattle.backup.specs.Text.{places, refused, endSays, following, linesSay}
 use Rattle.backup.proofs.Places.{places-long, places-turn}
 
@@ -28,9 +28,9 @@ lines-next k ks line t text x e = rw e
 -- a row that is good is no longer than its text
 pub row-inside : (k : ℕ) (text : List ℕ) (n len : ℕ) → k < count → judging k text ≡ Judged.Number n len → len ≤ length text
 row-inside k text n len h e =
-    let r : Numbered k text n len = numbered k text n len h e in
-    let size : length text ≡ length (rowOf (idAt k) n) + length (drop len text) = ap length (r .begins .text-is) ∙ length-append (rowOf (idAt k) n) (drop len text) in
-    omega (arith, r .len-is)
+    let r = numbered k text n len h e in
+    let size : length text ≡ length (rowOf (idAt k) n) + length (drop len text) = ap length (r .0 .text-is) ∙ length-append (rowOf (idAt k) n) (drop len text) in
+    omega (arith, r .1)
 
 -- the lines that are left to read
 pub record Lined (text held : List ℕ) (at index : ℕ) : Type 0 where

@@ -1,18 +1,20 @@
 -- The writer and the reader of a text undo each other. Assumes nothing.
-use mathlib.Core.Path.{_≡_, refl, sym, ap, ap₂, subst, _∙_}
+use mathlib.Core.Path.{_≡_, refl, sym, ap, ap₂, _∙_}
 use mathlib.Core.Bool.{Bool, true, false, cond, _&&_}
-use mathlib.Core.List.{List, [], _∷_, _++_}
+use mathlib.Core.List.{List, [], _∷_, _++_, append-nil, append-assoc}
 use Prim.Native.Nat.{ℕ, zero, suc, _+_, _*_, _≤_, _<_}
+use native.Mathlib.Nat.{add-zero}
 use native.Mathlib.Omega.{arith}
-use borrow.Author.Tests.{eqb-true, ltb-true}
-use lib.ListN.{length, getD, take, drop, set, length-append, length-set, take-append-drop}
+use borrow.Author.Tests.{eqb-true, ltb-true, ne-eqb}
+use lib.ListN.{length, take, drop, length-append, length-set, take-append-drop}
 use lib.Seq.{take-append-seam, drop-append-seam, take-all, take-suc, take-suc-set, getD-set-same, getD-set-other}
 use lib.Dec.{ltb, eqb}
 use Rattle.paper.specs.Numbers as paper
 use Rattle.laws.specs.Lists.{every, same}
-use Rattle.laws.proofs.Bools.{and-left, and-right}
+use Rattle.laws.proofs.Bools.{and-left, and-right, both}
 use Rattle.laws.proofs.Lists.{same-back, same-self}
 use Rattle.settings.specs.Columns.{count, idAt}
+use Rattle.settings.specs.Rules.{inRange}
 use Rattle.settings.proofs.Theorems.{rows-hold}
 use Rattle.tables.specs.Rules.{allowed, numberAt, changed, factory}
 use Rattle.tables.specs.declared.Table.{Table}
@@ -22,11 +24,11 @@ use Rattle.rows.specs.Calls.{judging}
 use Rattle.rows.specs.Laws.{number}
 use Rattle.rows.specs.declared.Judged.{Judged}
 use Rattle.rows.proofs.Ranges.{range-wide}
-use Rattle.rows.proofs.Judging.{Numbered, numbered}
+use Rattle.rows.proofs.Judging.{numbered}
 use Rattle.rows.proofs.Theorems.{row-is-judged-exactly, row-is-short}
 use Rattle.backup.specs.Text.{linesFor, textFor, Says, good, refused, endSays, following, linesSay, saysFor, placesFrom, places, header, textOf}
-use Rattle.backup.specs.Calls.{writtenAs, reading, readAs}
-use Rattle.backup.specs.Laws.{arePlaces, filled, IsText, ReadExactly, OtherHeaderIsRefused, WrittenIsRead, ReadIsWritten, TextIsShort}
+use Rattle.backup.specs.Calls.{writtenAs, readAs}
+use Rattle.backup.specs.Laws.{arePlaces, filled, IsText, ReadExactly, RefusedInOrder, WrittenIsRead, ReadIsWritten, TextIsShort}
 use Rattle.backup.specs.declared.Checked.{Checked}
 use Rattle.backup.specs.declared.Backup.{Backup}
 use Rattle.backup.proofs.Places.{places-long, are-places, header-long}
@@ -59,29 +61,50 @@ unfolding filled
 filled-long [] s t = refl
 filled-long (k ∷ ks) s t = filled-long ks (changed s k (numberAt t k)) t ∙ length-set (s .numbers) k (numberAt t k)
 
+-- lines of numbers in their own ranges are read, and what follows them is read after them
+lines-read : (t : Table) (ks more : List ℕ) (line : ℕ) (s : Table) (rest : List ℕ) → arePlaces ks ≡ true → every (λ k. inRange k (numberAt t k)) ks ≡ true
+    → linesSay (ks ++ more) line s (linesFor ks t ++ rest) ≡ linesSay more (line + length ks) (filled ks s t) rest
+unfolding filled
+lines-read t [] more line s rest are fits = ap₂ (λ (l : List ℕ) (n : ℕ). linesSay more n s (l ++ rest)) (lines-none t) (sym (add-zero line))
+lines-read t (k ∷ ks) more line s rest are fits =
+    let row : List ℕ = rowOf (idAt k) (numberAt t k) in
+    let later : List ℕ = linesFor ks t ++ rest in
+    let below : k < count = first-below k ks are in
+    let here : inRange k (numberAt t k) ≡ true = and-left (inRange k (numberAt t k)) _ fits in
+    let most : numberAt t k ≤ 65535 = range-wide k (numberAt t k) below here in
+    let judged : judging k (row ++ later) ≡ Judged.Number (numberAt t k) (length row) =
+    row-is-judged-exactly k (row ++ later) _ below .1 (number (record { id-holds = rows-hold k below .id-holds; number-holds = omega arith; text-is = refl }) here) in
+    let next : suc line + length ks ≡ line + suc (length ks) = omega arith in
+    ap (linesSay (k ∷ (ks ++ more)) line s) (ap (λ (l : List ℕ). l ++ rest) (lines-more k ks t) ∙ append-assoc row (linesFor ks t) rest)
+    ∙ lines-next k (ks ++ more) line s (row ++ later) _ judged
+    ∙ ap (linesSay (ks ++ more) (suc line) (changed s k (numberAt t k))) (drop-append-seam row later)
+    ∙ lines-read t ks more (suc line) (changed s k (numberAt t k)) rest (later-places k ks are) (and-right (inRange k (numberAt t k)) _ fits)
+    ∙ ap (λ (n : ℕ). linesSay more n (filled ks (changed s k (numberAt t k)) t) rest) next
+
+module _ (header ks : List ℕ) (t : Table) (are : arePlaces ks ≡ true) (fits : every (λ k. inRange k (numberAt t k)) ks ≡ true) where
+  text-read : (more rest : List ℕ) → saysFor header (ks ++ more) (textFor header ks t ++ rest) ≡ linesSay more (2 + length ks) (filled ks factory t) rest
+  unfolding textFor
+  text-read more rest =
+      ap (saysFor header (ks ++ more)) (append-assoc header (linesFor ks t) rest)
+      ∙ says-rest header (ks ++ more) (header ++ (linesFor ks t ++ rest)) (ap (λ (l : List ℕ). same l header) (take-append-seam header (linesFor ks t ++ rest)) ∙ same-self header)
+      ∙ ap (linesSay (ks ++ more) 2 factory) (drop-append-seam header (linesFor ks t ++ rest)) ∙ lines-read t ks more 2 factory rest are fits
+
+  text-end : (rest : List ℕ) → saysFor header ks (textFor header ks t ++ rest) ≡ endSays (filled ks factory t) (length rest)
+  text-end rest =
+      ap (λ (l : List ℕ). saysFor header l (textFor header ks t ++ rest)) (sym (append-nil ks)) ∙ text-read [] rest ∙ lines-end (2 + length ks) (filled ks factory t) rest
+
+  text-done : saysFor header ks (textFor header ks t) ≡ endSays (filled ks factory t) 0
+  text-done = ap (saysFor header ks) (sym (append-nil (textFor header ks t))) ∙ text-end []
+
 -- what is written is read
 module _ (t : Table) (ok : allowed t ≡ true) where
-  line-judged : (k : ℕ) (rest : List ℕ) → k < count → judging k (rowOf (idAt k) (numberAt t k) ++ rest) ≡ Judged.Number (numberAt t k) (length (rowOf (idAt k) (numberAt t k)))
-  line-judged k rest h =
-      let most : numberAt t k ≤ 65535 = range-wide k (numberAt t k) h (range-at t ok k h) in
-      row-is-judged-exactly k (rowOf (idAt k) (numberAt t k) ++ rest) _ h .1
-      (number (record { id-holds = rows-hold k h .id-holds; number-holds = omega arith; text-is = refl }) (range-at t ok k h))
-
-  lines-good : (ks : List ℕ) (line : ℕ) (s : Table) → arePlaces ks ≡ true → filled ks s t ≡ t → linesSay ks line s (linesFor ks t) ≡ good t
-  unfolding filled endSays
-  lines-good [] line s are e = ap (linesSay [] line s) (lines-none t) ∙ lines-end line s [] ∙ ap (λ (u : Table). endSays u 0) e ∙ rw ok
-  lines-good (k ∷ ks) line s are e =
-      let row : List ℕ = rowOf (idAt k) (numberAt t k) in
-      ap (linesSay (k ∷ ks) line s) (lines-more k ks t)
-      ∙ lines-next k ks line s (row ++ linesFor ks t) _ (line-judged k (linesFor ks t) (first-below k ks are))
-      ∙ ap (linesSay ks (suc line) (changed s k (numberAt t k))) (drop-append-seam row (linesFor ks t))
-      ∙ lines-good ks (suc line) (changed s k (numberAt t k)) (later-places k ks are) e
+  in-ranges : (ks : List ℕ) → arePlaces ks ≡ true → every (λ k. inRange k (numberAt t k)) ks ≡ true
+  in-ranges [] are = refl
+  in-ranges (k ∷ ks) are = both _ _ (range-at t ok k (first-below k ks are)) (in-ranges ks (later-places k ks are))
 
   text-good : (header ks : List ℕ) → arePlaces ks ≡ true → filled ks factory t ≡ t → saysFor header ks (textFor header ks t) ≡ good t
-  unfolding textFor
-  text-good header ks are e =
-      says-rest header ks (header ++ linesFor ks t) (ap (λ (l : List ℕ). same l header) (take-append-seam header (linesFor ks t)) ∙ same-self header)
-      ∙ ap (linesSay ks 2 factory) (drop-append-seam header (linesFor ks t)) ∙ lines-good ks 2 factory are e
+  unfolding endSays
+  text-good header ks are e = text-done header ks t are (in-ranges ks are) ∙ ap (λ (u : Table). endSays u 0) e ∙ rw ok
 
   lines-short : (ks : List ℕ) → arePlaces ks ≡ true → length (linesFor ks t) ≤ rowRoom * length ks
   lines-short [] are = rw (lines-none t) (omega arith)
@@ -129,7 +152,7 @@ module _ (k : ℕ) (ks : List ℕ) (are : arePlaces (k ∷ ks) ≡ true) (s t : 
         is-allowed = b .is-allowed;
         is-filled = ap (λ (m : ℕ). filled ks (changed s k m) t) here ∙ b .is-filled;
         is-lines =
-            numbered k text n len (first-below k ks are) e .begins .text-is
+            numbered k text n len (first-below k ks are) e .0 .text-is
             ∙ ap₂ (λ (m : ℕ) (l : List ℕ). rowOf (idAt k) m ++ l) (sym here) (b .is-lines) ∙ sym (lines-more k ks t);
       }
 
@@ -163,12 +186,20 @@ pub read-exactly : ReadExactly
 read-exactly header ks t text are =
     (text-built header ks t text are, λ b. ap (saysFor header ks) (b .is-text) ∙ text-good t (b .is-allowed) header ks are (b .is-filled))
 
-pub other-refused : OtherHeaderIsRefused
-other-refused header ks text differs = by (same (take (length header) text) header) refl
+pub refused-order : RefusedInOrder
+unfolding endSays
+refused-order header ks t rest are fits =
+    record {
+      at-header = λ places text differs. by places text differs (same (take (length header) text) header) refl;
+      at-line = λ k more number e. text-read header ks t are fits (k ∷ more) rest ∙ lines-next k more (2 + length ks) (filled ks factory t) rest _ e;
+      at-end = λ some. text-end header ks t are fits rest ∙ rw (ne-eqb (length rest) 0 (λ e. let z : length rest ≡ 0 = e in absurd (omega arith)));
+      at-pair = λ e. text-done header ks t are fits ∙ rw e;
+    }
   where
-    by : (b : Bool) → same (take (length header) text) header ≡ b → saysFor header ks text ≡ refused paper.otherHeader 1
-    by false p = says-other header ks text p
-    by true p =
+    by : (places text : List ℕ) → ((more : List ℕ) → text ≡ header ++ more → ⊥) → (b : Bool) → same (take (length header) text) header ≡ b
+        → saysFor header places text ≡ refused paper.otherHeader 1
+    by places text differs false p = says-other header places text p
+    by places text differs true p =
         absurd
         (differs (drop (length header) text)
         (sym (take-append-drop (length header) text) ∙ ap (λ (l : List ℕ). l ++ drop (length header) text) (same-back (take (length header) text) header p)))

@@ -4,14 +4,14 @@ use Rattle.wire.specs.Digits.{digit}
 use Rattle.lines.specs.Numbers.{decimalFrom}
 use Rattle.rows.specs.Row.{rowOf}
 use Rattle.backup.specs.Text.{linesFor, textFor, placesFrom, places, header, textOf}
-use Rattle.backup.specs.Laws.{ReadExactly, OtherHeaderIsRefused, WrittenIsRead, ReadIsWritten, TextIsShort, FactoryIsPrinted}
-use Rattle.backup.proofs.RoundTrip.{read-exactly, other-refused, written-read, read-written, text-fits}
+use Rattle.backup.specs.Laws.{ReadExactly, RefusedInOrder, WrittenIsRead, ReadIsWritten, TextIsShort, FactoryIsPrinted}
+use Rattle.backup.proofs.RoundTrip.{read-exactly, refused-order, written-read, read-written, text-fits}
 
 pub text-is-read-exactly : ReadExactly
 text-is-read-exactly = read-exactly
 
-pub other-header-is-refused : OtherHeaderIsRefused
-other-header-is-refused = other-refused
+pub refused-in-order : RefusedInOrder
+refused-in-order = refused-order
 
 pub written-is-read : WrittenIsRead
 written-is-read = written-read

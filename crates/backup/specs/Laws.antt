@@ -1,17 +1,20 @@
 -- What is proved of the definitions, as statements to hold against the paper. Each is proved under its name in proofs/Theorems.antt.
 -- Assumes nothing.
-use Prim.Native.Nat.{ℕ, _≤_}
+use Prim.Native.Nat.{ℕ, _+_, _≤_, _<_}
 use Prim.Native.String.{String}
 use mathlib.Core.Path.{_≡_}
-use mathlib.Core.Bool.{Bool, true, _&&_}
+use mathlib.Core.Bool.{Bool, true, false, _&&_}
 use mathlib.Core.List.{List, [], _∷_, _++_}
 use lib.ListN.{length}
 use lib.Dec.{ltb}
 use Rattle.laws.specs.Lists.{every}
 use Rattle.settings.specs.Columns.{count}
+use Rattle.settings.specs.Rules.{inRange}
 use Rattle.tables.specs.Rules.{allowed, numberAt, changed, factory}
 use Rattle.tables.specs.declared.Table.{Table}
 use Rattle.lines.specs.Lines.{chars}
+use Rattle.rows.specs.Calls.{judging}
+use Rattle.rows.specs.declared.Judged.{Judged}
 use Rattle.paper.specs.Numbers as paper
 use Rattle.paper.specs.Numbers.{textRoom}
 use Rattle.backup.specs.Text.{textFor, textOf, good, refused, saysFor}
@@ -37,9 +40,18 @@ abbrev pub ReadExactly : Type 0
 ReadExactly = (header places : List ℕ) (table : Table) (text : List ℕ) → arePlaces places ≡ true
     → (saysFor header places text ≡ good table → IsText header places table text) × (IsText header places table text → saysFor header places text ≡ good table)
 
--- 13 is given where the text has another first line.
-abbrev pub OtherHeaderIsRefused : Type 0
-OtherHeaderIsRefused = (header places text : List ℕ) → ((rest : List ℕ) → text ≡ header ++ rest → ⊥) → saysFor header places text ≡ refused paper.otherHeader 1
+-- Otherwise it is refused: 13 where it has another first line; after good lines, as the next one is judged, with its line; 18 where bytes
+-- follow the last line; 17 where the table that is read is not allowed.
+pub record IsRefused (header done : List ℕ) (table : Table) (rest : List ℕ) : Type 0 where
+  pub at-header : (places text : List ℕ) → ((rest : List ℕ) → text ≡ header ++ rest → ⊥) → saysFor header places text ≡ refused paper.otherHeader 1
+  pub at-line : (k : ℕ) (more : List ℕ) (number : ℕ) → judging k rest ≡ Judged.Refused number
+      → saysFor header (done ++ k ∷ more) (textFor header done table ++ rest) ≡ refused number (2 + length done)
+  pub at-end : 0 < length rest → saysFor header done (textFor header done table ++ rest) ≡ refused paper.moreBytes 0
+  pub at-pair : allowed (filled done factory table) ≡ false → saysFor header done (textFor header done table) ≡ refused paper.pairDisagrees 0
+
+abbrev pub RefusedInOrder : Type 0
+RefusedInOrder = (header done : List ℕ) (table : Table) (rest : List ℕ) → arePlaces done ≡ true → every (λ k. inRange k (numberAt table k)) done ≡ true
+    → IsRefused header done table rest
 
 -- 2. Reading a written backup gives the table back. (A table has its numbers in every value of the type, which `length` says.)
 abbrev pub WrittenIsRead : Type 0

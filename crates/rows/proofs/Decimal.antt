@@ -9,11 +9,11 @@ use native.Mathlib.Omega.{arith}
 use native.Mathlib.Nat.{zero-add, add-zero, pow-le-pow-right}
 use borrow.Author.Tests.{lt-ltb, eq-eqb, ne-eqb, eqb-false, leb-true, le-leb}
 use lib.ListN.{length, getD, drop, drop-of-length-le}
-use lib.Dec.{ltb, leb, eqb}
+use lib.Dec.{leb, eqb}
 use Rattle.laws.specs.Lists.{every}
 use Rattle.laws.proofs.Bools.{and-left, and-right, both}
 use Rattle.laws.proofs.Lists.{drop-turn, every-at}
-use Rattle.lines.specs.Numbers.{lastDigit, decimalFrom, decimal}
+use Rattle.lines.specs.Numbers.{decimalFrom, decimal}
 use Rattle.lines.specs.Laws.{isDigit, readOn, AreDigits}
 use Rattle.lines.proofs.Digits.{room, one-digit, more-digits, digits-under}
 use Rattle.lines.proofs.Theorems.{decimal-is-read}

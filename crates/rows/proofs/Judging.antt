@@ -1,6 +1,5 @@
 -- Laws of a row judged for the setting that is due. Assumes nothing.
 use mathlib.Core.Path.{_≡_, refl, sym, ap, subst, _∙_}
-use mathlib.Core.Logic.{_≢_}
 use mathlib.Core.Bool.{Bool, true, false, cond}
 use mathlib.Core.List.{List}
 use Prim.Native.Nat.{ℕ, _<_}
@@ -53,19 +52,16 @@ judged-exactly k text answer h =
     (λ e. subst (Judges k text) (judged-here k text h ∙ e) (judges k text (reading text) (reads text)), λ j. sym (judged-here k text h) ∙ given k text answer j)
 
 -- a row that has a number for its place is at the front, and the rest follows it
-pub record Numbered (k : ℕ) (text : List ℕ) (n len : ℕ) : Type 0 where
-  pub begins : Begins text (idAt k) n (drop len text)
-  pub len-is : len ≡ length (rowOf (idAt k) n)
-
-pub numbered : (k : ℕ) (text : List ℕ) (n len : ℕ) → k < count → judging k text ≡ Judged.Number n len → Numbered k text n len
+pub numbered : (k : ℕ) (text : List ℕ) (n len : ℕ) → k < count → judging k text ≡ Judged.Number n len
+    → Begins text (idAt k) n (drop len text) × (len ≡ length (rowOf (idAt k) n))
 numbered k text n len h e = by (Judged.Number n len) (judged-exactly k text (Judged.Number n len) h .0 e) refl
   where
-    by : (x : Judged) → Judges k text x → x ≡ Judged.Number n len → Numbered k text n len
+    by : (x : Judged) → Judges k text x → x ≡ Judged.Number n len → Begins text (idAt k) n (drop len text) × (len ≡ length (rowOf (idAt k) n))
     by (Judged.Number m size) (number {rest = rest} b f) is =
         let same : m ≡ n = cc in
         let long : length (rowOf (idAt k) m) ≡ len = cc in
         let begins : Begins text (idAt k) n rest = subst (λ (i : ℕ). Begins text (idAt k) i rest) same b in
         let len-is : len ≡ length (rowOf (idAt k) n) = sym long ∙ ap (λ (i : ℕ). length (rowOf (idAt k) i)) same in
         let left : rest ≡ drop len text = sym (ap (drop len) (begins .text-is) ∙ drop-at (rowOf (idAt k) n) rest len (sym len-is)) in
-        record { begins = subst (Begins text (idAt k) n) left begins; len-is = len-is }
+        (subst (Begins text (idAt k) n) left begins, len-is)
     by (Judged.Refused m) j is = let z : _≡_ {A = ℕ} 0 1 = cc in absurd (omega arith)

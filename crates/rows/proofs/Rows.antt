@@ -1,6 +1,6 @@
 -- Laws of a row: what is written is read, and what is read is written. Assumes nothing.
 use mathlib.Core.Path.{_≡_, refl, sym, ap, ap₂, subst, _∙_}
-use mathlib.Core.Bool.{Bool, true, false, cond, not, _&&_, false≢true}
+use mathlib.Core.Bool.{Bool, true, false, cond, not, _&&_, and-false, false≢true}
 use mathlib.Core.List.{List, [], _∷_, _++_, append-assoc}
 use Prim.Native.Nat.{ℕ, suc, _+_, _*_, _/_, _%_, _≤_, _<_}
 use native.Mathlib.Omega.{arith}
@@ -42,15 +42,11 @@ module _ (id n room : ℕ) where
   write-made h = rw (le-ltb room rowRoom h)
 
 -- a line so built, by the parts of the test; one of fewer than six characters has no number
-no-right : (a : Bool) → (a && false) ≡ false
-no-right true = refl
-no-right false = refl
-
 pub short-row : (line : List ℕ) → length line < 6 → isRow line ≡ false
 unfolding isRow isNumber
 short-row line h =
     let none : length (drop 5 line) < 1 = rw (length-drop 5 line) (omega arith) in
-    rw (lt-leb 1 (length (drop 5 line)) none, no-right) (no-right (every isDigit (take 4 line)))
+    rw (lt-leb 1 (length (drop 5 line)) none, and-false) (and-false (every isDigit (take 4 line)))
 
 module _ (line : List ℕ) (ok : isRow line ≡ true) where
   pub row-long : 6 ≤ length line

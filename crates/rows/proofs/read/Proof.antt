@@ -1,5 +1,5 @@
 -- `rows::read` meets its contract. Assumes nothing.
-use mathlib.Core.Path.{sym, _∙_}
+use mathlib.Core.Path.{_∙_}
 use borrow.Author.Needs.{needs}
 use borrow.Author.Tests.{not-true, not-false}
 use Rattle.rows.proofs.Rows.{line-inside, read-built, read-other, read-row}

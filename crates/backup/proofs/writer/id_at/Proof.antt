@@ -1,9 +1,8 @@
 -- `backup::writer::id_at` meets its contract. Assumes nothing.
-use mathlib.Core.Path.{_≡_, sym, ap, _∙_}
+use mathlib.Core.Path.{sym, ap, _∙_}
 use Prim.Native.Nat.{ℕ}
 use borrow.Author.Needs.{needs}
 use Rattle.settings.proofs.Theorems.{place-is-found}
-use Rattle.settings.specs.Calls.{settingAt}
 use Rattle.settings.specs.declared.Found.{Found}
 use Rattle.backup.proofs.writer.id_at.Statement.{statement}
 use Rattle.backup.proofs.writer.id_at.Tie as tie
@@ -24,15 +23,12 @@ enum-told c = search needs
 returns : tie.Need-returns
 returns c =
     let s = c .before .before .before .before in
-    let is : Found.At (c .before .found .given .0 .0) ≡ Found.At (settingAt (s .args .index)) =
-    sym (c .before .found .given .1) ∙ c .before .before .before .at .ensures ∙ place-is-found _ (s .pre) in
-    ap idOf is
+    ap idOf (sym (c .before .found .given .1) ∙ c .before .before .before .at .ensures ∙ place-is-found _ (s .pre))
 
 returns-2 : tie.Need-returns-2
 returns-2 c =
     let s = c .before .before .before in
-    let is : Found.Nothing ≡ Found.At (settingAt (s .args .index)) = sym (c .enum-told .given .1) ∙ c .before .before .at .ensures ∙ place-is-found _ (s .pre) in
-    ap idOf is
+    ap idOf (sym (c .enum-told .given .1) ∙ c .before .before .at .ensures ∙ place-is-found _ (s .pre))
 
 pub id-at-spec : {M : Type 1} → statement M
 id-at-spec = tie.close (tie.spec at-requires enum-known-found enum-told returns returns-2)

@@ -1,11 +1,10 @@
 -- `backup::writer::put_line` meets its contract. Assumes nothing.
-use mathlib.Core.Path.{_≡_, refl, sym, ap, _∙_}
+use mathlib.Core.Path.{_≡_, sym, ap}
 use Prim.Native.Nat.{ℕ, _+_, _<_}
 use native.Mathlib.Omega.{arith}
 use borrow.Author.Needs.{needs}
 use lib.ListN.{length}
 use denote.Ref.{now}
-use Rattle.rows.specs.declared.Written.{Written}
 use Rattle.rows.specs.Row.{rowOf}
 use Rattle.rows.proofs.Theorems.{row-is-short}
 use Rattle.backup.proofs.Listing.{row-answered, row-stored}
