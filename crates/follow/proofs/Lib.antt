@@ -1,5 +1,5 @@
 -- Laws of the definitions of specs/, and what the proofs of the functions cite.
-pub mod Verdicts
+pub mod Effects
 pub mod Standing
 pub mod Matching
 pub mod Counting

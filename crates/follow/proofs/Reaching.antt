@@ -19,15 +19,15 @@ use Rattle.restore.specs.Calls.{bothAllowed, dueIn}
 use Rattle.restore.specs.declared.Wanted.{Wanted}
 use Rattle.restore.specs.declared.Due.{Due}
 use Rattle.reply.specs.Events.{Event, noAnswer}
-use Rattle.follow.specs.Following.{verdictOn, standing, moved, advanced, begun, followerAllowed}
+use Rattle.follow.specs.Following.{effectOf, standing, moved, advanced, begun, followerAllowed}
 use Rattle.follow.specs.Calls.{answered, starting}
 use Rattle.follow.specs.Laws.{run, Reached, AllowedIsReached, ownData, matched, CountIsMatched, calls, CountIsTold, DoneIsAll, EqualIsNone, ownReply, AllConfirmed}
 use Rattle.follow.specs.declared.Follower.{Follower}
 use Rattle.follow.specs.declared.Followed.{Followed}
 use Rattle.follow.specs.declared.Outcome.{Outcome}
-use Rattle.follow.specs.declared.verdict.Verdict.{Verdict}
+use Rattle.follow.specs.declared.effect.Effect.{Effect}
 use Rattle.follow.proofs.Standing.{standing-is, told-good, following-good}
-use Rattle.follow.proofs.Matching.{frame-read, verdict-is, own-matches}
+use Rattle.follow.proofs.Matching.{frame-read, effect-is, own-matches}
 use Rattle.follow.proofs.Counting.{drop-next, at, due-left, sound-due, waits-moves, count-matched, going-few, ended-few, some-left, all-done, Goes, goes-far, begins}
 
 more-than-none : (n : ℕ) → n ≢ 0 → 0 < n
@@ -72,7 +72,7 @@ module _ (from to : Table) (ok : bothAllowed from to ≡ true) where
   -- the board's own replies to the Sets that are left, one after another
   own-moves : (n : ℕ) (w : Wanted) → dueIn from to n ≡ Due.Set w → advanced (at from to ok n false) (ownReply w) ≡ at from to ok (suc n) false
   own-moves n w due =
-      let confirms : verdictOn w (ownReply w) ≡ Verdict.Confirms = rw (own-matches w) at (verdict-is w (sound-due from to ok n w due) (ownReply w) (frame-read (own-bytes w))) in
+      let confirms : effectOf w (ownReply w) ≡ Effect.Confirms = rw (own-matches w) at (effect-is w (sound-due from to ok n w due) (ownReply w) (frame-read (own-bytes w))) in
       waits-moves from to ok n w due (ownReply w) ∙ ap (moved (at from to ok n false)) confirms
 
   all-own : (m n : ℕ) → n + m ≤ length (dueSets from to) → run (at from to ok n false) (map ownReply (take m (drop n (dueSets from to)))) ≡ at from to ok (n + m) false

@@ -5,8 +5,8 @@ use mathlib.Core.Path.{_≡_}
 use mathlib.Core.Logic.{_↔_}
 use mathlib.Core.Bool.{Bool, true, false, cond, _&&_}
 use mathlib.Core.List.{List, [], _∷_, map}
-use lib.ListN.{length, take, getD}
-use lib.Dec.{eqb, leb}
+use lib.ListN.{length}
+use lib.Dec.{eqb}
 use Rattle.laws.specs.Lists.{same}
 use Rattle.wire.specs.Numbers.{little}
 use Rattle.tables.specs.declared.Table.{Table}
@@ -15,7 +15,7 @@ use Rattle.answers.specs.Answers.{said}
 use Rattle.restore.specs.Order.{dueSets}
 use Rattle.restore.specs.Calls.{bothAllowed}
 use Rattle.restore.specs.declared.Wanted.{Wanted}
-use Rattle.reply.specs.Events.{Event, heard, refusedFrame, noAnswer, OnStream, isFlag}
+use Rattle.reply.specs.Events.{Event, heard, refusedFrame, noAnswer, OnStream, answers}
 use Rattle.follow.specs.Following.{standing, advanced, begun, followerAllowed}
 use Rattle.follow.specs.Calls.{starting, following}
 use Rattle.follow.specs.declared.Follower.{Follower}
@@ -47,10 +47,9 @@ matches due (heard command bytes) = eqb command setCode && same bytes (ownData d
 matches due refusedFrame = false
 matches due noAnswer = false
 
--- no Set is due any more after a Set reply of the due id with a status, or silence
+-- no Set is due any more after any answer to it, or silence
 abbrev pub ends : Wanted → Event → Bool
-ends due (heard command bytes) =
-    eqb command setCode && (leb 3 (length bytes) && (same (take 2 bytes) (little 2 (due .setting .id)) && isFlag (getD bytes 2 0)))
+ends due (heard command bytes) = answers setCode (due .setting .id) command bytes
 ends due refusedFrame = false
 ends due noAnswer = true
 

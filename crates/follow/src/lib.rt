@@ -6,8 +6,8 @@ ghost use Rattle.follow.specs.Calls.{starting, following};
 use restore::Wanted;
 use tables::Table;
 
+mod effect;
 mod state;
-mod verdict;
 
 // A restore on its way: the two tables that it started from, how many of the list's Sets the board has confirmed, and whether it has
 // stopped. What is due, and whether all is done, follows from these.

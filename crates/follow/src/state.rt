@@ -1,4 +1,4 @@
-// The follower's state: whether it is one that a start and events give, how far it is, and what a verdict makes of it.
+// The follower's state: whether it is one that a start and events give, how far it is, and what an event makes of it.
 ghost use mathlib.Core.Path.{_≡_};
 ghost use mathlib.Core.Bool.{true, cond};
 ghost use lib.Dec.{eqb};
@@ -10,8 +10,8 @@ ghost use Rattle.follow.specs.declared.Outcome.{Outcome};
 use crate::Followed;
 use crate::Follower;
 use crate::Outcome;
-use crate::verdict;
-use crate::verdict::Verdict;
+use crate::effect;
+use crate::effect::Effect;
 use restore::Due;
 use restore::Wanted;
 use tables::Table;
@@ -91,26 +91,26 @@ fn with(follower: Follower, confirmed: usize, stopped: bool) -> Follower
     }
 }
 
-// What a follower that waits makes of a verdict on the Set that is due.
-fn moved_by(follower: Follower, verdict: Verdict) -> Follower
+// A follower that waited, after the effect of an event.
+fn moved_by(follower: Follower, effect: Effect) -> Follower
     requires { ⌜ followerAllowed follower ≡ true ⌝ }
-    ensures { λ r. ⌜ r ≡ moved follower verdict ⌝ }
+    ensures { λ r. ⌜ r ≡ moved follower effect ⌝ }
 {
-    match verdict {
-        Verdict::Confirms => with(follower, follower.confirmed + 1, follower.stopped),
-        Verdict::Stops => with(follower, follower.confirmed, true),
-        Verdict::Waits => follower,
+    match effect {
+        Effect::Confirms => with(follower, follower.confirmed + 1, follower.stopped),
+        Effect::Stops => with(follower, follower.confirmed, true),
+        Effect::Waits => follower,
     }
 }
 
-// A frame heard: one that waits takes its verdict, an ended one stays.
+// A frame heard: it has its effect on one that waits, and an ended one stays.
 pub(crate) fn hearing(follower: Follower, command: u8, bytes: &[u8]) -> Follower
     requires { ⌜ followerAllowed follower ≡ true ⌝ }
     ensures { λ r. ⌜ r ≡ advanced follower (heard command (now (bytes .entry))) ⌝ }
 {
     let outcome = standing_of(follower);
     match outcome {
-        Outcome::Waiting(due) => moved_by(follower, verdict::on_reply(due, command, bytes)),
+        Outcome::Waiting(due) => moved_by(follower, effect::on_reply(due, command, bytes)),
         Outcome::Equal => follower,
         Outcome::Done => follower,
         Outcome::Stopped(_) => follower,
@@ -125,7 +125,7 @@ pub(crate) fn unheard(follower: Follower) -> Follower
 {
     let outcome = standing_of(follower);
     match outcome {
-        Outcome::Waiting(_) => moved_by(follower, Verdict::Stops),
+        Outcome::Waiting(_) => moved_by(follower, Effect::Stops),
         Outcome::Equal => follower,
         Outcome::Done => follower,
         Outcome::Stopped(_) => follower,

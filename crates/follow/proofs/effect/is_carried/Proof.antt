@@ -1,8 +1,8 @@
--- `follow::verdict::is_carried` meets its contract. Assumes nothing.
+-- `follow::effect::is_carried` meets its contract. Assumes nothing.
 use Prim.Native.Nat.{_-_}
-use Rattle.follow.proofs.Verdicts.{carries-other, carries-number}
-use Rattle.follow.proofs.verdict.is_carried.Statement.{statement}
-use Rattle.follow.proofs.verdict.is_carried.Tie as tie
+use Rattle.follow.proofs.Effects.{carries-other, carries-number}
+use Rattle.follow.proofs.effect.is_carried.Statement.{statement}
+use Rattle.follow.proofs.effect.is_carried.Tie as tie
 
 returns : tie.Need-returns
 returns c = carries-other _ _ (c .if1 .taken)

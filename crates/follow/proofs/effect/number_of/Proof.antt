@@ -1,13 +1,13 @@
--- `follow::verdict::number_of` meets its contract. Assumes nothing.
+-- `follow::effect::number_of` meets its contract. Assumes nothing.
 use Prim.Native.Nat.{_-_, _<_}
 use mathlib.Core.Logic.{_≢_}
 use denote.Ref.{now}
 use lib.ListN.{length}
 use Rattle.wire.proofs.Little.{one-number, two-number}
-use Rattle.follow.proofs.Verdicts.{more-than-one}
+use Rattle.follow.proofs.Effects.{more-than-one}
 use native.Mathlib.Omega.{arith}
-use Rattle.follow.proofs.verdict.number_of.Statement.{statement}
-use Rattle.follow.proofs.verdict.number_of.Tie as tie
+use Rattle.follow.proofs.effect.number_of.Statement.{statement}
+use Rattle.follow.proofs.effect.number_of.Tie as tie
 
 two-long : (s : tie.Start) → length (now (s .args .value)) ≢ 1 → 1 < length (now (s .args .value))
 two-long s other = more-than-one _ (s .pre .0) other
