@@ -4,7 +4,6 @@ use mathlib.Core.Logic.{inr}
 use mathlib.Core.Bool.{Bool, true, false, cond, _&&_, false≢true}
 use mathlib.Core.List.{List}
 use Prim.Native.Nat.{ℕ, _^_, _<_}
-use native.Mathlib.Omega.{arith}
 use borrow.Author.Tests.{eqb-true, eq-eqb}
 use lib.ListN.{length, drop, getD}
 use lib.Dec.{eqb, ltb}
@@ -22,7 +21,7 @@ use Rattle.reply.specs.Events.{Event, heard, refusedFrame, noAnswer}
 use Rattle.reply.specs.Laws.{Says, says-good, says-bad, says-nothing}
 use Rattle.reply.specs.declared.Status.{Status}
 use Rattle.reply.specs.declared.Heeded.{Heeded}
-use Rattle.reply.proofs.Flags.{said-answers, none-answers}
+use Rattle.reply.proofs.Flags.{flag-good, said-answers, none-answers}
 use Rattle.reply.proofs.Theorems.{heed-is-said}
 use Rattle.restore.specs.declared.Wanted.{Wanted}
 use Rattle.follow.specs.Following.{carries, onHeeded, onReply, effectOf}
@@ -33,13 +32,6 @@ use Rattle.follow.proofs.Effects.{heeded-is}
 no-test : (b : Bool) → (b ≡ true → ⊥) → b ≡ false
 no-test true h = absurd (h refl)
 no-test false h = refl
-
--- flag 00 is that of one status
-flag-good : (status : Status) → flagOf status ≡ 0 → status ≡ Status.Good
-flag-good Status.Good e = refl
-flag-good Status.UnknownId e = absurd (omega arith)
-flag-good Status.NotSupported e = absurd (omega arith)
-flag-good Status.ParameterError e = absurd (omega arith)
 
 -- a Set that a table wants: its id and its number have their room
 pub record Sound (due : Wanted) : Type 0 where

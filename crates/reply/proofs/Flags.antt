@@ -4,6 +4,7 @@ use mathlib.Core.Logic.{_≢_, ⊎-elim}
 use mathlib.Core.Bool.{Bool, true, false, _&&_, _||_}
 use mathlib.Core.List.{List}
 use Prim.Native.Nat.{ℕ}
+use native.Mathlib.Omega.{arith}
 use borrow.Author.Tests.{eq-eqb, eqb-true}
 use lib.ListN.{getD}
 use lib.Dec.{eqb}
@@ -28,6 +29,13 @@ flag-status Status.Good = refl
 flag-status Status.UnknownId = refl
 flag-status Status.NotSupported = refl
 flag-status Status.ParameterError = refl
+
+-- flag 00 is that of one status
+pub flag-good : (status : Status) → flagOf status ≡ 0 → status ≡ Status.Good
+flag-good Status.Good e = refl
+flag-good Status.UnknownId e = absurd (omega arith)
+flag-good Status.NotSupported e = absurd (omega arith)
+flag-good Status.ParameterError e = absurd (omega arith)
 
 module _ (code id command : ℕ) (bytes : List ℕ) where
   pub said-answers : (status : Status) → command ≡ code → bytes ≡ said id (flagOf status) (rest bytes) → answers code id command bytes ≡ true

@@ -1,11 +1,11 @@
--- `collect::verdict::number_of` meets its contract. Assumes nothing.
+-- `collect::intake::number_of` meets its contract. Assumes nothing.
 use denote.Ref.{now}
 use Rattle.collect.specs.Collecting.{fits}
 use Rattle.wire.proofs.Little.{one-number, two-number}
 use borrow.Author.Needs.{needs}
 use native.Mathlib.Omega.{arith}
-use Rattle.collect.proofs.verdict.number_of.Statement.{statement}
-use Rattle.collect.proofs.verdict.number_of.Tie as tie
+use Rattle.collect.proofs.intake.number_of.Statement.{statement}
+use Rattle.collect.proofs.intake.number_of.Tie as tie
 
 shared-slice-read-result : tie.Need-shared-slice-read-result
 shared-slice-read-result c = search needs

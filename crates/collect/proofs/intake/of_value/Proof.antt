@@ -1,4 +1,4 @@
--- `collect::verdict::of_value` meets its contract. Assumes nothing.
+-- `collect::intake::of_value` meets its contract. Assumes nothing.
 use mathlib.Core.Path.{_≡_, refl, sym, ap, _∙_}
 use borrow.Author.Tests.{not-true, not-false}
 use denote.Ref.{now}
@@ -6,12 +6,12 @@ use lib.ListN.{length, drop, length-drop}
 use Rattle.laws.proofs.Lists.{part-to-end}
 use Rattle.wire.specs.Numbers.{fromLittle}
 use Rattle.collect.specs.Collecting.{fits}
-use Rattle.collect.specs.declared.verdict.Verdict.{Verdict}
+use Rattle.collect.specs.declared.intake.Intake.{Intake}
 use Rattle.collect.proofs.Deciding.{width-between, value-other, value-unfit, value-taken}
 use borrow.Author.Needs.{needs}
 use native.Mathlib.Omega.{arith}
-use Rattle.collect.proofs.verdict.of_value.Statement.{statement}
-use Rattle.collect.proofs.verdict.of_value.Tie as tie
+use Rattle.collect.proofs.intake.of_value.Statement.{statement}
+use Rattle.collect.proofs.intake.of_value.Tie as tie
 
 -- the number after the first three bytes
 number-is : (c : tie.After-number-of) → c .number-of .result ≡ fromLittle (drop 3 (now (c .before .before .before .before .before .before .args .bytes)))
@@ -54,7 +54,7 @@ returns-3 : tie.Need-returns-3
 returns-3 c =
     let s = c .before .before .before .before .before .before .before .before in
     let fit = sym (c .before .is-fit .ensures ∙ ap (fits _ _) (number-is (c .before .before))) ∙ not-false _ (c .if2 .left) in
-    ap Verdict.Takes (number-is (c .before .before)) ∙ value-taken _ _ (now (s .args .bytes)) _ (c .before .before .before .before .before .before .setting-at .ensures) (s .pre) (c .before .before .before .before .if1 .left) fit
+    ap Intake.Takes (number-is (c .before .before)) ∙ value-taken _ _ (now (s .args .bytes)) _ (c .before .before .before .before .before .before .setting-at .ensures) (s .pre) (c .before .before .before .before .if1 .left) fit
 
 pub of-value-spec : {M : Type 1} → statement M
 of-value-spec =
