@@ -26,9 +26,9 @@ use Rattle.reply.specs.Events.{Event, OnStream, a-frame, a-refusal, a-silence}
 use Rattle.follow.specs.Following.{effectOf, standing, moved, after, advanced, begun, followerAllowed}
 use Rattle.follow.specs.Laws.{run, matches, ends, matched}
 use Rattle.follow.specs.declared.Follower.{Follower}
-use Rattle.follow.specs.declared.Outcome.{Outcome}
+use Rattle.follow.specs.declared.Standing.{Standing}
 use Rattle.follow.specs.declared.effect.Effect.{Effect}
-use Rattle.follow.proofs.Standing.{standing-is, advanced-is}
+use Rattle.follow.proofs.Standings.{standing-is, advanced-is}
 use Rattle.follow.proofs.Matching.{Sound, AsRead, frame-read, broken-read, silence-read, effect-is}
 
 -- the first of some events, and the others
@@ -97,18 +97,18 @@ module _ (from to : Table) (ok : bothAllowed from to ≡ true) where
   stays f h (e ∷ more) = rw (h e) (stays f h more)
 
   stopped-stays : (n : ℕ) (w : Wanted) → dueIn from to n ≡ Due.Set w → (e : Event) → advanced (at n true) e ≡ at n true
-  stopped-stays n w due e = sym (advanced-is (at n true) e (Outcome.Stopped w) (sym (standing-is (at n true) (Due.Set w) due)))
+  stopped-stays n w due e = sym (advanced-is (at n true) e (Standing.Stopped w) (sym (standing-is (at n true) (Due.Set w) due)))
 
   none-stays : (n : ℕ) (stopped : Bool) → dueIn from to n ≡ Due.Nothing → (e : Event) → advanced (at n stopped) e ≡ at n stopped
   none-stays n stopped due e = by (eqb n 0) refl
     where
       by : (b : Bool) → eqb n 0 ≡ b → advanced (at n stopped) e ≡ at n stopped
-      by true z = sym (advanced-is (at n stopped) e Outcome.Equal (sym (standing-is (at n stopped) Due.Nothing due) ∙ rw z))
-      by false z = sym (advanced-is (at n stopped) e Outcome.Done (sym (standing-is (at n stopped) Due.Nothing due) ∙ rw z))
+      by true z = sym (advanced-is (at n stopped) e Standing.Equal (sym (standing-is (at n stopped) Due.Nothing due) ∙ rw z))
+      by false z = sym (advanced-is (at n stopped) e Standing.Done (sym (standing-is (at n stopped) Due.Nothing due) ∙ rw z))
 
   -- one that waits moves by the verdict
   pub waits-moves : (n : ℕ) (w : Wanted) → dueIn from to n ≡ Due.Set w → (e : Event) → advanced (at n false) e ≡ moved (at n false) (effectOf w e)
-  waits-moves n w due e = sym (advanced-is (at n false) e (Outcome.Waiting w) (sym (standing-is (at n false) (Due.Set w) due)))
+  waits-moves n w due e = sym (advanced-is (at n false) e (Standing.Waiting w) (sym (standing-is (at n false) (Due.Set w) due)))
 
   -- what is confirmed is what matched of the Sets that were left
   counted : (n : ℕ) (l : List Wanted) (events : List Event) → drop n (dueSets from to) ≡ l → OnStream events
@@ -195,12 +195,12 @@ moved-from f Effect.Confirms = (refl, refl)
 moved-from f Effect.Stops = (refl, refl)
 moved-from f Effect.Waits = (refl, refl)
 
-after-from : (f : Follower) (e : Event) (o : Outcome) → (after f e o .from ≡ f .from) × (after f e o .to ≡ f .to)
-after-from f e (Outcome.Waiting due) = moved-from f (effectOf due e)
-after-from f e Outcome.Equal = (refl, refl)
-after-from f e Outcome.Done = (refl, refl)
-after-from f e (Outcome.Stopped due) = (refl, refl)
-after-from f e (Outcome.Refused number) = (refl, refl)
+after-from : (f : Follower) (e : Event) (o : Standing) → (after f e o .from ≡ f .from) × (after f e o .to ≡ f .to)
+after-from f e (Standing.Waiting due) = moved-from f (effectOf due e)
+after-from f e Standing.Equal = (refl, refl)
+after-from f e Standing.Done = (refl, refl)
+after-from f e (Standing.Stopped due) = (refl, refl)
+after-from f e (Standing.Refused number) = (refl, refl)
 
 -- a follower of allowed tables that is allowed
 pub record Goes (from to : Table) (f : Follower) : Type 0 where

@@ -19,7 +19,7 @@ use Rattle.restore.specs.Calls.{bothAllowed, dueIn}
 use Rattle.restore.specs.declared.Wanted.{Wanted}
 use Rattle.restore.specs.declared.Due.{Due}
 use Rattle.follow.specs.declared.Follower.{Follower}
-use Rattle.follow.specs.declared.Outcome.{Outcome}
+use Rattle.follow.specs.declared.Standing.{Standing}
 use Rattle.follow.specs.declared.effect.Effect.{Effect}
 
 -- "the due number in its width"
@@ -42,12 +42,12 @@ effectOf due refusedFrame = Effect.Waits
 effectOf due noAnswer = Effect.Stops
 
 -- how far a follower is, by the Set that is due after those confirmed; 12 where a table is not allowed
-abbrev pub standsAt : Bool → ℕ → Due → Outcome
-standsAt stopped confirmed (Due.Set due) = cond stopped (Outcome.Stopped due) (Outcome.Waiting due)
-standsAt stopped confirmed Due.Nothing = cond (eqb confirmed 0) Outcome.Equal Outcome.Done
-standsAt stopped confirmed (Due.Refused number) = Outcome.Refused number
+abbrev pub standsAt : Bool → ℕ → Due → Standing
+standsAt stopped confirmed (Due.Set due) = cond stopped (Standing.Stopped due) (Standing.Waiting due)
+standsAt stopped confirmed Due.Nothing = cond (eqb confirmed 0) Standing.Equal Standing.Done
+standsAt stopped confirmed (Due.Refused number) = Standing.Refused number
 
-unfoldable pub standing : Follower → Outcome
+unfoldable pub standing : Follower → Standing
 standing f = standsAt (f .stopped) (f .confirmed) (dueIn (f .from) (f .to) (f .confirmed))
 
 -- "confirms and moves on"
@@ -57,12 +57,12 @@ moved f Effect.Stops = record { from = f .from; to = f .to; confirmed = f .confi
 moved f Effect.Waits = f
 
 -- "Ended stays ended."
-abbrev pub after : Follower → Event → Outcome → Follower
-after f e (Outcome.Waiting due) = moved f (effectOf due e)
-after f e Outcome.Equal = f
-after f e Outcome.Done = f
-after f e (Outcome.Stopped due) = f
-after f e (Outcome.Refused number) = f
+abbrev pub after : Follower → Event → Standing → Follower
+after f e (Standing.Waiting due) = moved f (effectOf due e)
+after f e Standing.Equal = f
+after f e Standing.Done = f
+after f e (Standing.Stopped due) = f
+after f e (Standing.Refused number) = f
 
 unfoldable pub advanced : Follower → Event → Follower
 advanced f e = after f e (standing f)

@@ -20,7 +20,7 @@ use Rattle.follow.specs.Following.{standing, advanced, begun, followerAl
 use Rattle.follow.specs.Calls.{starting, following}
 use Rattle.follow.specs.declared.Follower.{Follower}
 use Rattle.follow.specs.declared.Followed.{Followed}
-use Rattle.follow.specs.declared.Outcome.{Outcome}
+use Rattle.follow.specs.declared.Standing.{Standing}
 
 -- a follower after some events
 abbrev pub run : Follower → List Event → Follower
@@ -78,13 +78,13 @@ CountIsTold =
 abbrev pub DoneIsAll : Type 0
 DoneIsAll =
     (from to : Table) (events : List Event) → bothAllowed from to ≡ true → OnStream events
-    → (standing (run (begun from to) events) ≡ Outcome.Done)
+    → (standing (run (begun from to) events) ≡ Standing.Done)
     ↔ ((0 < length (dueSets from to)) × (matched (dueSets from to) events ≡ length (dueSets from to)))
 
 abbrev pub EqualIsNone : Type 0
 EqualIsNone =
     (from to : Table) (events : List Event) → bothAllowed from to ≡ true
-    → (standing (run (begun from to) events) ≡ Outcome.Equal) ↔ (length (dueSets from to) ≡ 0)
+    → (standing (run (begun from to) events) ≡ Standing.Equal) ↔ (length (dueSets from to) ≡ 0)
 
 -- 4. A board that stores each Set of the list and says so has all of them confirmed.
 abbrev pub ownReply : Wanted → Event

@@ -23,7 +23,7 @@ use Rattle.follow.specs.Laws.{run}
 use Rattle.follow.specs.declared.Follower.{Follower}
 use Rattle.follow.specs.declared.Followed.{Followed}
 use Rattle.follow.specs.declared.Outcome.{Outcome}
-use Rattle.follow.proofs.Standing.{standing-is, told-good}
+use Rattle.follow.proofs.Standings.{standing-is, told-good}
 use Rattle.follow.proofs.Counting.{all-done, begins}
 use Rattle.follow.proofs.Theorems.{all-are-confirmed}
 use Rattle.demands.proofs.Listing.{listed, due-in}

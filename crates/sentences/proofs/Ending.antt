@@ -21,7 +21,7 @@ use Rattle.follow.specs.Laws.{run, calls}
 use Rattle.follow.specs.declared.Follower.{Follower}
 use Rattle.follow.specs.declared.Outcome.{Outcome}
 use Rattle.follow.specs.declared.Followed.{Followed}
-use Rattle.follow.proofs.Standing.{told-good, told-stray, following-good, following-refused}
+use Rattle.follow.proofs.Standings.{told-good, told-stray, following-good, following-refused}
 use Rattle.follow.proofs.Counting.{Goes, goes-far, begins}
 use Rattle.tally.specs.Laws.{isDone}
 use Rattle.lines.specs.Lines.{chars, adding}

@@ -22,32 +22,32 @@ use Rattle.follow.specs.Following.{standsAt, standing, after, advanced, 
 use Rattle.follow.specs.AsHeld.{Narrow, isSet, reached}
 use Rattle.follow.specs.Calls.{answered, unanswered, told, following}
 use Rattle.follow.specs.declared.Follower.{Follower}
-use Rattle.follow.specs.declared.Outcome.{Outcome}
+use Rattle.follow.specs.declared.Standing.{Standing}
 
 positive : (n : ℕ) → n ≢ 0 → 1 ≤ n
 positive zero h = absurd (h refl)
 positive (suc n) h = omega arith
 
 -- which Set a follower waits for
-abbrev isWaiting : Outcome → Bool
-isWaiting (Outcome.Waiting due) = true
-isWaiting Outcome.Equal = false
-isWaiting Outcome.Done = false
-isWaiting (Outcome.Stopped due) = false
-isWaiting (Outcome.Refused number) = false
+abbrev isWaiting : Standing → Bool
+isWaiting (Standing.Waiting due) = true
+isWaiting Standing.Equal = false
+isWaiting Standing.Done = false
+isWaiting (Standing.Stopped due) = false
+isWaiting (Standing.Refused number) = false
 
-abbrev waitedFor : Wanted → Outcome → Wanted
-waitedFor other (Outcome.Waiting due) = due
-waitedFor other Outcome.Equal = other
-waitedFor other Outcome.Done = other
-waitedFor other (Outcome.Stopped due) = other
-waitedFor other (Outcome.Refused number) = other
+abbrev waitedFor : Wanted → Standing → Wanted
+waitedFor other (Standing.Waiting due) = due
+waitedFor other Standing.Equal = other
+waitedFor other Standing.Done = other
+waitedFor other (Standing.Stopped due) = other
+waitedFor other (Standing.Refused number) = other
 
-pub waits-for : (stopped : Bool) (w due : Wanted) → cond stopped (Outcome.Stopped w) (Outcome.Waiting w) ≡ Outcome.Waiting due → w ≡ due
+pub waits-for : (stopped : Bool) (w due : Wanted) → cond stopped (Standing.Stopped w) (Standing.Waiting w) ≡ Standing.Waiting due → w ≡ due
 waits-for true w due e = absurd (false≢true (ap isWaiting e))
 waits-for false w due e = ap (waitedFor w) e
 
-none-waits : (b : Bool) → isWaiting (cond b Outcome.Equal Outcome.Done) ≡ false
+none-waits : (b : Bool) → isWaiting (cond b Standing.Equal Standing.Done) ≡ false
 none-waits true = refl
 none-waits false = refl
 
@@ -155,26 +155,26 @@ module _ (f : Follower) where
   unfolding standing
   standing-is d e = rw e
 
-  pub advanced-is : (e : Event) (o : Outcome) → standing f ≡ o → after f e o ≡ advanced f e
+  pub advanced-is : (e : Event) (o : Standing) → standing f ≡ o → after f e o ≡ advanced f e
   unfolding advanced
   advanced-is e o h = rw h
 
   -- a follower that waits has a Set before it
-  pub waiting-narrow : (due : Wanted) → standing f ≡ Outcome.Waiting due → Narrow due
+  pub waiting-narrow : (due : Wanted) → standing f ≡ Standing.Waiting due → Narrow due
   unfolding standing
   waiting-narrow due = by (dueIn (f .from) (f .to) (f .confirmed)) (due-known (f .from) (f .to) (f .confirmed) _ refl)
     where
-      by : (d : Due) → Known (f .from) (f .to) (f .confirmed) d → standsAt (f .stopped) (f .confirmed) d ≡ Outcome.Waiting due → Narrow due
+      by : (d : Due) → Known (f .from) (f .to) (f .confirmed) d → standsAt (f .stopped) (f .confirmed) d ≡ Standing.Waiting due → Narrow due
       by (Due.Set w) k e = rw (sym (waits-for (f .stopped) w due e)) (k .narrow)
       by Due.Nothing k e = absurd (false≢true (sym (none-waits (eqb (f .confirmed) 0)) ∙ ap isWaiting e))
       by (Due.Refused number) k e = absurd (false≢true (ap isWaiting e))
 
-  refused-still : (o : Outcome) → after f refusedFrame o ≡ f
-  refused-still (Outcome.Waiting due) = refl
-  refused-still Outcome.Equal = refl
-  refused-still Outcome.Done = refl
-  refused-still (Outcome.Stopped due) = refl
-  refused-still (Outcome.Refused number) = refl
+  refused-still : (o : Standing) → after f refusedFrame o ≡ f
+  refused-still (Standing.Waiting due) = refl
+  refused-still Standing.Equal = refl
+  refused-still Standing.Done = refl
+  refused-still (Standing.Stopped due) = refl
+  refused-still (Standing.Refused number) = refl
 
   pub refused-keeps : advanced f refusedFrame ≡ f
   refused-keeps = sym (advanced-is refusedFrame (standing f) refl) ∙ refused-still (standing f)

@@ -1,13 +1,13 @@
--- `tally::Tally::unread` meets its contract. Assumes nothing.
+-- `tally::Tally::not_begun` meets its contract. Assumes nothing.
 use mathlib.Core.Path.{sym, ap, _∙_}
 use native.Mathlib.Omega.{arith}
 use borrow.Author.Tests.{not-true, not-false}
 use Rattle.tally.specs.Results.{plus}
 use Rattle.tally.specs.Calls.{counted}
-use Rattle.tally.proofs.Counting.{within-of, ones-within, counting-stray, counting-fit, unread-fits}
+use Rattle.tally.proofs.Counting.{within-of, ones-within, counting-stray, counting-fit, not-begun-fits}
 use borrow.Author.Needs.{needs}
-use Rattle.tally.proofs.Tally.unread.Statement.{statement}
-use Rattle.tally.proofs.Tally.unread.Tie as tie
+use Rattle.tally.proofs.Tally.not_begun.Statement.{statement}
+use Rattle.tally.proofs.Tally.not_begun.Tie as tie
 
 is-allowed-requires : tie.Need-is-allowed-requires
 is-allowed-requires c κs = search needs
@@ -28,10 +28,10 @@ accepted-requires : tie.Need-accepted-requires
 accepted-requires c κs = search needs
 
 returns-2 : tie.Need-returns-2
-returns-2 c = c .accepted .ensures ∙ ap counted (c .before .plus .ensures ∙ ap (plus _) (c .before .before .tally-of .ensures)) ∙ counting-fit _ _ (sym (c .before .before .before .before .is-allowed .ensures) ∙ not-false _ (c .before .before .before .if1 .left)) unread-fits
+returns-2 c = c .accepted .ensures ∙ ap counted (c .before .plus .ensures ∙ ap (plus _) (c .before .before .tally-of .ensures)) ∙ counting-fit _ _ (sym (c .before .before .before .before .is-allowed .ensures) ∙ not-false _ (c .before .before .before .if1 .left)) not-begun-fits
 
-pub unread-spec : {M : Type 1} → statement M
-unread-spec =
+pub not-begun-spec : {M : Type 1} → statement M
+not-begun-spec =
     tie.close
     (tie.spec
     is-allowed-requires

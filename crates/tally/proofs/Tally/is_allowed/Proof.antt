@@ -1,8 +1,8 @@
--- `tally::sums::is_allowed` meets its contract. Assumes nothing.
+-- `tally::Tally::is_allowed` meets its contract. Assumes nothing.
 use mathlib.Core.Path.{refl}
 use Rattle.tally.specs.Results.{tallyAllowed}
-use Rattle.tally.proofs.sums.is_allowed.Statement.{statement}
-use Rattle.tally.proofs.sums.is_allowed.Tie as tie
+use Rattle.tally.proofs.Tally.is_allowed.Statement.{statement}
+use Rattle.tally.proofs.Tally.is_allowed.Tie as tie
 
 returns : tie.Need-returns
 unfolding tallyAllowed
