@@ -3,8 +3,8 @@ use mathlib.Core.Path.{_≡_}
 use mathlib.Core.Bool.{true}
 use mathlib.Core.List.{List, [], _∷_}
 use Rattle.settings.specs.Calls.{settingAt}
-use Rattle.follow.specs.declared.Outcome as follows
-use Rattle.collect.specs.declared.Outcome as collects
+use Rattle.follow.specs.declared.Standing as follows
+use Rattle.collect.specs.declared.Stage as collects
 use Rattle.backup.specs.declared.Verdict.{Verdict}
 use Rattle.tally.specs.Results.{tallyOf, withSets}
 use Rattle.lines.specs.Lines.{chars}
@@ -14,20 +14,20 @@ use Rattle.sentences.specs.declared.Kept.{Kept}
 
 abbrev pub lines : List Sample
 lines =
-    sample (endText follows.Outcome.Done 12 12) "done: 12 of 12 settings confirmed" ∷
-    sample (endText follows.Outcome.Equal 0 0) "equal: nothing to set" ∷
-    sample (endText (follows.Outcome.Stopped (record { setting = settingAt 0; number = 120 })) 5 12) "stopped: 5 of 12 settings confirmed, 7 not confirmed" ∷
-    sample (endText (follows.Outcome.Waiting (record { setting = settingAt 0; number = 120 })) 5 12) "not ended: 5 of 12 settings confirmed" ∷
-    sample (endText (follows.Outcome.Refused 12) 0 0) "refused 12" ∷
+    sample (endText follows.Standing.Done 12 12) "done: 12 of 12 settings confirmed" ∷
+    sample (endText follows.Standing.Equal 0 0) "equal: nothing to set" ∷
+    sample (endText (follows.Standing.Stopped (record { setting = settingAt 0; number = 120 })) 5 12) "stopped: 5 of 12 settings confirmed, 7 not confirmed" ∷
+    sample (endText (follows.Standing.Waiting (record { setting = settingAt 0; number = 120 })) 5 12) "not ended: 5 of 12 settings confirmed" ∷
+    sample (endText (follows.Standing.Refused 12) 0 0) "refused 12" ∷
     sample (ofText [] 7 12 (chars " confirmed")) "7 of 12 confirmed" ∷
-    sample (readText collects.Outcome.Done 26 26) "all 26 settings read" ∷
-    sample (readText (collects.Outcome.Stopped (settingAt 5)) 5 26) "stopped: 5 of 26 settings read" ∷
-    sample (readText (collects.Outcome.Waiting (settingAt 5)) 5 26) "not ended: 5 of 26 settings read" ∷
-    sample (readText (collects.Outcome.Refused 12) 0 26) "refused 12" ∷
-    sample (fileText collects.Outcome.Done 26 Kept.Whole) "saved: 26 settings" ∷
-    sample (fileText collects.Outcome.Done 26 Kept.Unsure) "not sure: a power cut may bring the old file back" ∷
-    sample (fileText collects.Outcome.Done 26 Kept.Not) "not saved: the file is as it was" ∷
-    sample (fileText (collects.Outcome.Stopped (settingAt 5)) 5 Kept.Whole) "not saved: not every setting was read" ∷
+    sample (readText collects.Stage.Done 26 26) "all 26 settings read" ∷
+    sample (readText (collects.Stage.Stopped (settingAt 5)) 5 26) "stopped: 5 of 26 settings read" ∷
+    sample (readText (collects.Stage.Waiting (settingAt 5)) 5 26) "not ended: 5 of 26 settings read" ∷
+    sample (readText (collects.Stage.Refused 12) 0 26) "refused 12" ∷
+    sample (fileText collects.Stage.Done 26 Kept.Whole) "saved: 26 settings" ∷
+    sample (fileText collects.Stage.Done 26 Kept.Unsure) "not sure: a power cut may bring the old file back" ∷
+    sample (fileText collects.Stage.Done 26 Kept.Not) "not saved: the file is as it was" ∷
+    sample (fileText (collects.Stage.Stopped (settingAt 5)) 5 Kept.Whole) "not saved: not every setting was read" ∷
     sample (goodText 26) "good: 26 settings, every number in range, every pair agrees" ∷
     sample (checkedText (Verdict.Refused 16 13)) "refused 16, line 13" ∷
     sample (checkedText (Verdict.Refused 17 0)) "refused 17" ∷

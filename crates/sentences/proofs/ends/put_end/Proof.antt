@@ -42,8 +42,8 @@ enum-told-4 c = search needs
 put-stopped-requires : tie.Need-put-stopped-requires
 put-stopped-requires c κs = search needs
 
-enum-known-outcome : tie.Need-enum-known-outcome
-enum-known-outcome c = search needs
+enum-known-standing : tie.Need-enum-known-standing
+enum-known-standing c = search needs
 
 put-refused-requires : tie.Need-put-refused-requires
 put-refused-requires c κs = search needs
@@ -61,7 +61,7 @@ returns-4 : tie.Need-returns-4
 returns-4 c = rw (c .before .enum-told4 .given .1) (c .put-stopped .ensures)
 
 returns-5 : tie.Need-returns-5
-returns-5 c = rw (c .before .before .outcome .given .1) (c .put-refused .ensures)
+returns-5 c = rw (c .before .before .standing .given .1) (c .put-refused .ensures)
 
 pub put-end-spec : {M : Type 1} → statement M
 put-end-spec =
@@ -80,7 +80,7 @@ put-end-spec =
     put-of-requires-2
     enum-told-4
     put-stopped-requires
-    enum-known-outcome
+    enum-known-standing
     put-refused-requires
     returns
     returns-2

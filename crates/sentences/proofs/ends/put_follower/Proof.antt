@@ -16,8 +16,8 @@ put-stray-requires c κs = search needs
 returns : tie.Need-returns
 returns c = c .put-stray .ensures ∙ ap (adding _) (followed-stray _ (sym (c .before .before .is-allowed .ensures) ∙ not-true _ (c .before .if1 .taken)))
 
-refused-frame-requires : tie.Need-refused-frame-requires
-refused-frame-requires c κs = search needs
+told-requires : tie.Need-told-requires
+told-requires c κs = search needs
 
 due-of-requires : tie.Need-due-of-requires
 due-of-requires c κs = sym (c .before .before .is-allowed .ensures) ∙ not-false _ (c .before .if1 .left)
@@ -28,7 +28,7 @@ put-end-requires c κs = search needs
 returns-2 : tie.Need-returns-2
 returns-2 c =
     let c3 = c .before .before .before in
-    follower-line _ _ _ _ (sym (c3 .before .is-allowed .ensures) ∙ not-false _ (c3 .if1 .left)) (c .before .before .refused-frame .ensures) (c .before .due-of .ensures) (c .put-end .ensures)
+    follower-line _ _ _ _ (sym (c3 .before .is-allowed .ensures) ∙ not-false _ (c3 .if1 .left)) (c .before .before .told .ensures) (c .before .due-of .ensures) (c .put-end .ensures)
 
 pub put-follower-spec : {M : Type 1} → statement M
 put-follower-spec =
@@ -37,7 +37,7 @@ put-follower-spec =
     is-allowed-requires
     put-stray-requires
     returns
-    refused-frame-requires
+    told-requires
     due-of-requires
     put-end-requires
     returns-2)

@@ -21,8 +21,8 @@ enum-told-3 c = search needs
 put-unread-requires-2 : tie.Need-put-unread-requires-2
 put-unread-requires-2 c κs = search needs
 
-enum-known-outcome : tie.Need-enum-known-outcome
-enum-known-outcome c = search needs
+enum-known-stage : tie.Need-enum-known-stage
+enum-known-stage c = search needs
 
 put-refused-requires : tie.Need-put-refused-requires
 put-refused-requires c κs = search needs
@@ -37,7 +37,7 @@ returns-3 : tie.Need-returns-3
 returns-3 c = rw (c .before .enum-told3 .given .1) (c .put-unread2 .ensures)
 
 returns-4 : tie.Need-returns-4
-returns-4 c = rw (c .before .before .outcome .given .1) (c .put-refused .ensures)
+returns-4 c = rw (c .before .before .stage .given .1) (c .put-refused .ensures)
 
 pub put-file-spec : {M : Type 1} → statement M
 put-file-spec =
@@ -49,7 +49,7 @@ put-file-spec =
     put-kept-requires
     enum-told-3
     put-unread-requires-2
-    enum-known-outcome
+    enum-known-stage
     put-refused-requires
     returns
     returns-2

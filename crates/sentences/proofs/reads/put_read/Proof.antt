@@ -39,8 +39,8 @@ slice-aggregate-put-of-4 c = search needs
 put-of-requires-2 : tie.Need-put-of-requires-2
 put-of-requires-2 c κs = search needs
 
-enum-known-outcome : tie.Need-enum-known-outcome
-enum-known-outcome c = search needs
+enum-known-stage : tie.Need-enum-known-stage
+enum-known-stage c = search needs
 
 put-refused-requires : tie.Need-put-refused-requires
 put-refused-requires c κs = search needs
@@ -55,7 +55,7 @@ returns-3 : tie.Need-returns-3
 returns-3 c = rw (c .before .before .before .enum-told3 .given .1) (c .put-of2 .ensures)
 
 returns-4 : tie.Need-returns-4
-returns-4 c = rw (c .before .before .outcome .given .1) (c .put-refused .ensures)
+returns-4 c = rw (c .before .before .stage .given .1) (c .put-refused .ensures)
 
 pub put-read-spec : {M : Type 1} → statement M
 put-read-spec =
@@ -73,7 +73,7 @@ put-read-spec =
     slice-aggregate-put-of-3
     slice-aggregate-put-of-4
     put-of-requires-2
-    enum-known-outcome
+    enum-known-stage
     put-refused-requires
     returns
     returns-2

@@ -4,15 +4,15 @@ use borrow.Author.Needs.{needs}
 use Rattle.sentences.proofs.reads.put_saved.Statement.{statement}
 use Rattle.sentences.proofs.reads.put_saved.Tie as tie
 
-refused-frame-requires : tie.Need-refused-frame-requires
-refused-frame-requires c κs = search needs
+told-requires : tie.Need-told-requires
+told-requires c κs = search needs
 
 put-file-requires : tie.Need-put-file-requires
 put-file-requires c κs = search needs
 
 returns : tie.Need-returns
 unfolding savedText
-returns c = rw (c .before .refused-frame .ensures) at (c .put-file .ensures)
+returns c = rw (c .before .told .ensures) at (c .put-file .ensures)
 
 pub put-saved-spec : {M : Type 1} → statement M
-put-saved-spec = tie.close (tie.spec refused-frame-requires put-file-requires returns)
+put-saved-spec = tie.close (tie.spec told-requires put-file-requires returns)
