@@ -1,142 +1,135 @@
 -- A row of calls, and what the last one answers. Assumes nothing.
 use mathlib.Core.Path.{_≡_, refl, sym, ap, ap₂, subst, _∙_}
 use mathlib.Core.Logic.{_≢_, ⊎-elim}
-use mathlib.Core.Bool.{Bool, true, false}
+use mathlib.Core.Bool.{Bool, true, false, cond}
 use mathlib.Core.List.{List, [], _∷_, _++_, append-nil}
 use Prim.Native.Nat.{ℕ, _-_, _≤_, _<_}
-use native.Mathlib.Nat.{eq-or-lt-of-le}
 use native.Mathlib.Omega.{arith}
-use lib.ListN.{length, replicate}
-use lib.Seq.{take-append-seam, take-all}
+use borrow.Author.Tests.{lt-ltb, le-ltb, ltb-true, ltb-false}
+use lib.ListN.{length, take, replicate}
+use lib.Seq.{take-append-seam}
+use lib.Dec.{ltb}
 use Rattle.settings.specs.Columns.{count}
+use Rattle.tables.specs.Rules.{factory}
 use Rattle.tables.specs.Rules as tables
-use Rattle.settings.specs.declared.Setting.{Setting}
+use Rattle.tables.specs.declared.Table.{Table}
 use Rattle.reply.specs.Events.{Event}
-use Rattle.collect.specs.Collecting.{stopped, advanced, begun, allowed}
-use Rattle.collect.specs.Calls.{told, stray, starting, collecting}
+use Rattle.collect.specs.Collecting.{halted, advanced, begun, allowed}
+use Rattle.collect.specs.Calls.{stageOf, tableOf, good, stray, starting, collecting}
 use Rattle.collect.specs.Laws.{run, calls, CallsFollow, Holds, TableIsCarried, Handed, TableIsAllowed, replies, BoardIsRead}
-use Rattle.collect.specs.declared.Phase.{Phase}
 use Rattle.collect.specs.declared.Collector.{Collector}
-use Rattle.collect.specs.declared.Outcome.{Outcome}
+use Rattle.collect.specs.declared.Stage.{Stage}
 use Rattle.collect.specs.declared.Collected.{Collected}
-use Rattle.collect.proofs.Moving.{collecting-stray, collecting-told}
+use Rattle.collect.proofs.Moving.{collecting-stray, collecting-good}
 use Rattle.collect.proofs.Fitting.{AllFit, table-fit, fit-table}
-use Rattle.collect.proofs.Reaching.{zeros, held, begun-held, phase-waiting, phase-done, Ends, taking, begun-ends, ends-allowed}
+use Rattle.collect.proofs.Reaching.{zeros, held, begun-held, Ends, taking, begun-ends, ends-allowed}
 use Rattle.collect.proofs.Boards.{board-run, run-append, allowed-reached}
 use Rattle.collect.proofs.Carrying.{taking-carried}
 
 -- a row of calls from the start hands back what the events give
-told-collector : (c : Collector) → told c .collector ≡ c
-unfolding told
-told-collector c = refl
+good-collector : (c : Collector) → good c .collector ≡ c
+unfolding good
+good-collector c = refl
 
-calls-told : (events earlier : List Event) → calls (told (run begun earlier)) events ≡ told (run (run begun earlier) events)
-calls-told [] earlier = refl
-calls-told (e ∷ more) earlier =
+calls-good : (events earlier : List Event) → calls (good (run begun earlier)) events ≡ good (run (run begun earlier) events)
+calls-good [] earlier = refl
+calls-good (e ∷ more) earlier =
     let c : Collector = run begun earlier in
     let next : run begun (earlier ++ e ∷ []) ≡ advanced c e = run-append begun earlier (e ∷ []) in
-    ap (λ (d : Collector). calls (collecting d e) more) (told-collector c)
-    ∙ ap (λ (r : Collected). calls r more) (sym (collecting-told c e (ends-allowed (begun-ends earlier))) ∙ ap told (sym next))
-    ∙ calls-told more (earlier ++ e ∷ [])
-    ∙ ap (λ (d : Collector). told (run d more)) next
+    ap (λ (d : Collector). calls (collecting d e) more) (good-collector c)
+    ∙ ap (λ (r : Collected). calls r more) (sym (collecting-good c e (ends-allowed (begun-ends earlier))) ∙ ap good (sym next))
+    ∙ calls-good more (earlier ++ e ∷ [])
+    ∙ ap (λ (d : Collector). good (run d more)) next
 
-pub called : (events : List Event) → calls starting events ≡ told (run begun events)
+pub called : (events : List Event) → calls starting events ≡ good (run begun events)
 unfolding starting
-called events = calls-told events []
+called events = calls-good events []
 
 pub calls-run : CallsFollow
-calls-run events = ap (λ (r : Collected). r .collector) (called events) ∙ told-collector (run begun events)
+calls-run events = ap (λ (r : Collected). r .collector) (called events) ∙ good-collector (run begun events)
 
--- the three forms of a state
-data View (c : Collector) (l : List ℕ) : Type 0 where
-  waiting : length l < 26 → c ≡ record { len = length l; numbers = l ++ zeros l; phase = Phase.Waiting } → View c l
-  halted : length l < 26 → c ≡ record { len = length l; numbers = l ++ zeros l; phase = Phase.Stopped } → View c l
-  full : length l ≡ 26 → c ≡ record { len = 26; numbers = l; phase = Phase.Done } → View c l
+-- how far it is, by how many are answered
+stage-due : (len : ℕ) (stopped : Bool) → len < count → stageOf len stopped ≢ Stage.Done
+stage-due len true h e = let d = rw (lt-ltb len count h) at e in let z : _≡_ {A = ℕ} 0 1 = cc in absurd (omega arith)
+stage-due len false h e = let d = rw (lt-ltb len count h) at e in let z : _≡_ {A = ℕ} 0 1 = cc in absurd (omega arith)
 
-no-zeros : (l : List ℕ) → length l ≡ 26 → l ++ zeros l ≡ l
+stage-done : (len : ℕ) (stopped : Bool) → count ≤ len → stageOf len stopped ≡ Stage.Done
+stage-done len stopped h = rw (le-ltb len count h)
+
+pub done-all : (len : ℕ) (stopped : Bool) → stageOf len stopped ≡ Stage.Done → count ≤ len
+done-all len stopped e = by (ltb len count) refl
+  where
+    by : (b : Bool) → ltb len count ≡ b → count ≤ len
+    by true t = absurd (stage-due len stopped (ltb-true _ _ t) e)
+    by false t = ltb-false _ _ t
+
+-- a collector holds these numbers
+record Shape (c : Collector) (l : List ℕ) : Type 0 where
+  len-is : c .len ≡ length l
+  numbers-are : c .numbers ≡ l ++ zeros l
+
+shape : {c : Collector} {l : List ℕ} → Ends c l → Shape c l
+unfolding halted
+shape {c} {l} e =
+    ⊎-elim (λ is. record { len-is = ap (λ (d : Collector). d .len) is; numbers-are = ap (λ (d : Collector). d .numbers) is })
+    (λ is. record { len-is = ap (λ (d : Collector). d .len) (is .0); numbers-are = ap (λ (d : Collector). d .numbers) (is .0) }) (e .is)
+
+no-zeros : (l : List ℕ) → length l ≡ count → l ++ zeros l ≡ l
 no-zeros l e =
-    let none : 26 - length l ≡ 0 = omega arith in
+    let none : count - length l ≡ 0 = omega arith in
     ap (λ (m : ℕ). l ++ replicate m 0) none ∙ append-nil l
 
-held-full : (l : List ℕ) → length l ≡ 26 → held l ≡ record { len = 26; numbers = l; phase = Phase.Done }
-held-full l e =
-    ap₂ (λ (i : ℕ) (p : Phase). record { len = i; numbers = l ++ zeros l; phase = p }) e (phase-done (length l) e)
-    ∙ ap (λ (x : List ℕ). record { len = 26; numbers = x; phase = Phase.Done }) (no-zeros l e)
+module _ (c : Collector) (l : List ℕ) (e : Ends c l) where
+  all-held : c .len ≡ count → tableOf (c .len) (c .numbers) ≡ record { numbers = l }
+  all-held all =
+      rw (le-ltb (c .len) count (omega arith))
+      (ap (λ (x : List ℕ). record { numbers = x }) (shape e .numbers-are ∙ no-zeros l (sym (shape e .len-is) ∙ all)))
 
-view : {c : Collector} {l : List ℕ} → Ends c l → View c l
-unfolding stopped
-view {c} {l} e =
-    ⊎-elim
-    (λ is.
-    ⊎-elim (λ all. full all (is ∙ held-full l all))
-    (λ less. waiting less (is ∙ ap (λ (p : Phase). record { len = length l; numbers = l ++ zeros l; phase = p }) (phase-waiting (length l) less)))
-    (eq-or-lt-of-le (e .few)))
-    (λ is. halted (is .1) (is .0))
-    (e .is)
+  done-is : stageOf (c .len) (c .stopped) ≡ Stage.Done → c .len ≡ count
+  done-is d =
+      let most : length l ≤ count = e .few in
+      let len : c .len ≡ length l = shape e .len-is in
+      let all : count ≤ c .len = done-all (c .len) (c .stopped) d in
+      omega arith
 
-not-waiting : (s : Setting) → Outcome.Waiting s ≢ Outcome.Done
-not-waiting s e = let z : _≡_ {A = ℕ} 0 1 = cc in absurd (omega arith)
+  -- the numbers that the last call tells of
+  ends-holds : Holds l (good c)
+  unfolding good
+  ends-holds =
+      record {
+        numbers-are = ap₂ take (shape e .len-is) (shape e .numbers-are) ∙ take-append-seam l (zeros l);
+        answered-are = shape e .len-is;
+        done-when = (
+          λ d. sym (shape e .len-is) ∙ done-is d,
+          λ all. stage-done (c .len) (c .stopped) (let len : c .len ≡ length l = shape e .len-is in omega arith),
+        );
+        table-is = λ d. all-held (done-is d);
+      }
 
-not-stopped : (s : Setting) → Outcome.Stopped s ≢ Outcome.Done
-not-stopped s e = let z : _≡_ {A = ℕ} 0 1 = cc in absurd (omega arith)
-
-not-refused : (n : ℕ) → Outcome.Refused n ≢ Outcome.Done
-not-refused n e = let z : _≡_ {A = ℕ} 0 1 = cc in absurd (omega arith)
-
-not-full : (n : ℕ) → n < 26 → n ≢ 26
-not-full n h e = absurd (omega arith)
-
--- the numbers that the last call tells of
-view-holds : {c : Collector} {l : List ℕ} → View c l → Holds l (told c)
-unfolding told
-view-holds {c} {l} (waiting less is) =
-    subst (λ (d : Collector). Holds l (told d)) (sym is)
-    (record {
-      numbers-are = take-append-seam l (zeros l);
-      answered-are = refl;
-      done-when = (λ e. absurd (not-waiting _ e), λ e. absurd (not-full (length l) less e));
-      table-is = λ e. absurd (not-waiting _ e);
-    })
-view-holds {c} {l} (halted less is) =
-    subst (λ (d : Collector). Holds l (told d)) (sym is)
-    (record {
-      numbers-are = take-append-seam l (zeros l);
-      answered-are = refl;
-      done-when = (λ e. absurd (not-stopped _ e), λ e. absurd (not-full (length l) less e));
-      table-is = λ e. absurd (not-stopped _ e);
-    })
-view-holds {c} {l} (full all is) =
-    let most : length l ≤ 26 = omega arith in
-    subst (λ (d : Collector). Holds l (told d)) (sym is)
-    (record {
-      numbers-are = take-all 26 l most;
-      answered-are = sym all;
-      done-when = (λ e. all, λ e. refl);
-      table-is = λ e. refl;
-    })
+  -- the table that is given
+  ends-handed : Handed (good c)
+  unfolding good
+  ends-handed =
+      record {
+        done-allowed = λ d. subst (λ (t : Table). tables.allowed t ≡ true) (sym (all-held (done-is d))) (fit-table l (sym (shape e .len-is) ∙ done-is d) (e .fit));
+        else-factory = λ other. by other (ltb (c .len) count) refl;
+      }
+    where
+      by : stageOf (c .len) (c .stopped) ≢ Stage.Done → (b : Bool) → ltb (c .len) count ≡ b → tableOf (c .len) (c .numbers) ≡ factory
+      by other true t = rw t
+      by other false t = absurd (other (stage-done (c .len) (c .stopped) (ltb-false _ _ t)))
 
 pub table-carried : TableIsCarried
 table-carried events on =
     subst (λ (l : List ℕ). Holds l (calls starting events)) (taking-carried on [])
-    (subst (Holds (taking [] events)) (sym (called events)) (view-holds (view (begun-ends events))))
+    (subst (Holds (taking [] events)) (sym (called events)) (ends-holds _ _ (begun-ends events)))
 
--- the table that is given
-view-handed : {c : Collector} {l : List ℕ} → AllFit l → View c l → Handed (told c)
-unfolding told
-view-handed {c} {l} fit (waiting less is) =
-    subst (λ (d : Collector). Handed (told d)) (sym is) (record { done-allowed = λ e. absurd (not-waiting _ e); else-factory = λ e. refl })
-view-handed {c} {l} fit (halted less is) =
-    subst (λ (d : Collector). Handed (told d)) (sym is) (record { done-allowed = λ e. absurd (not-stopped _ e); else-factory = λ e. refl })
-view-handed {c} {l} fit (full all is) =
-    subst (λ (d : Collector). Handed (told d)) (sym is)
-    (record { done-allowed = λ e. fit-table l all fit; else-factory = λ e. absurd (e refl) })
-
-run-handed : (events : List Event) → Handed (told (run begun events))
-run-handed events = view-handed (begun-ends events .fit) (view (begun-ends events))
+run-handed : (events : List Event) → Handed (good (run begun events))
+run-handed events = ends-handed _ _ (begun-ends events)
 
 stray-handed : (c : Collector) → Handed (stray c)
 unfolding stray
-stray-handed c = record { done-allowed = λ e. absurd (not-refused _ e); else-factory = λ e. refl }
+stray-handed c = record { done-allowed = λ e. let z : _≡_ {A = ℕ} 0 1 = cc in absurd (omega arith); else-factory = λ e. refl }
 
 starting-handed : Handed starting
 unfolding starting
@@ -148,8 +141,8 @@ call-handed c e long = by (allowed c) refl
     by : (b : Bool) → allowed c ≡ b → Handed (collecting c e)
     by true ok =
         let some = allowed-reached c long .0 ok in
-        let is : told (run begun (some .0 ++ e ∷ [])) ≡ collecting c e =
-        ap told (run-append begun (some .0) (e ∷ []) ∙ ap (λ (d : Collector). advanced d e) (sym (some .1))) ∙ collecting-told c e ok in
+        let is : good (run begun (some .0 ++ e ∷ [])) ≡ collecting c e =
+        ap good (run-append begun (some .0) (e ∷ []) ∙ ap (λ (d : Collector). advanced d e) (sym (some .1))) ∙ collecting-good c e ok in
         subst Handed is (run-handed (some .0 ++ e ∷ []))
     by false ok = subst Handed (collecting-stray c e ok) (stray-handed c)
 
@@ -157,9 +150,12 @@ pub table-allowed : TableIsAllowed
 table-allowed = (starting-handed, call-handed)
 
 -- a board that holds an allowed table is read
+held-full : (l : List ℕ) → length l ≡ count → held l ≡ record { len = count; numbers = l; stopped = false }
+held-full l e = ap₂ (λ (i : ℕ) (x : List ℕ). record { len = i; numbers = x; stopped = false }) e (no-zeros l e)
+
 pub board-read : BoardIsRead
-unfolding told
+unfolding good
 board-read t long ok =
-    let few : length (t .numbers) ≤ 26 = omega (arith, long) in
+    let few : length (t .numbers) ≤ count = omega (arith, long) in
     called (replies 0 (t .numbers))
-    ∙ ap told (ap (λ (c : Collector). run c (replies 0 (t .numbers))) begun-held ∙ board-run (t .numbers) [] (table-fit t long ok) few ∙ held-full (t .numbers) long)
+    ∙ ap good (ap (λ (c : Collector). run c (replies 0 (t .numbers))) begun-held ∙ board-run (t .numbers) [] (table-fit t long ok) few ∙ held-full (t .numbers) long)

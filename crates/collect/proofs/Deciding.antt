@@ -9,6 +9,7 @@ use native.Mathlib.Omega.{arith}
 use borrow.Author.Tests.{lt-ltb, le-ltb, ltb-false, eq-eqb, ne-eqb}
 use lib.ListN.{length, getD, drop, length-drop}
 use lib.Dec.{ltb}
+use Rattle.paper.specs.Numbers.{getCode}
 use Rattle.endian.specs.Numbers.{fromLittle}
 use Rattle.settings.specs.Columns.{count, ids, idAt, widths, widthAt, partners, partnerAt}
 use Rattle.settings.specs.Calls.{settingAt, placing, allowing}
@@ -16,12 +17,11 @@ use Rattle.settings.specs.declared.Setting.{Setting}
 use Rattle.settings.specs.declared.Found.{Found}
 use Rattle.settings.proofs.Theorems.{rows-hold}
 use Rattle.reply.specs.Replies.{rest}
-use Rattle.reply.specs.Calls.{reading}
-use Rattle.reply.specs.declared.Status.{Status}
-use Rattle.reply.specs.declared.Reply.{Reply}
+use Rattle.reply.specs.Calls.{heeding}
+use Rattle.reply.specs.declared.Heeded.{Heeded}
 use Rattle.reply.specs.Events.{heard}
-use Rattle.collect.specs.Collecting.{fits, valued, answeredDue, replied, verdict}
-use Rattle.collect.specs.declared.verdict.Verdict.{Verdict}
+use Rattle.collect.specs.Collecting.{fits, valued, onHeeded, intakeOf}
+use Rattle.collect.specs.declared.intake.Intake.{Intake}
 
 -- past a list is what is asked for there
 getD-past : (l : List ℕ) (k d : ℕ) → length l ≤ k → getD l k d ≡ d
@@ -89,7 +89,7 @@ module _ (k : ℕ) (s : Setting) (is : s ≡ settingAt k) where
   width-between h = rw width-is (rows-hold k h .width-some, rows-hold k h .width-most)
 
 module _ (numbers : List ℕ) (k : ℕ) (bytes : List ℕ) (s : Setting) (is : s ≡ settingAt k) (h : k < count) where
-  pub value-other : length bytes ≢ 3 + s .width → Verdict.Stops ≡ valued numbers k (drop 3 bytes)
+  pub value-other : length bytes ≢ 3 + s .width → Intake.Stops ≡ valued numbers k (drop 3 bytes)
   unfolding valued
   value-other differs =
       let other : length (drop 3 bytes) ≢ widthAt k =
@@ -103,30 +103,22 @@ module _ (numbers : List ℕ) (k : ℕ) (bytes : List ℕ) (s : Setting) (is : s
     width-right : length (drop 3 bytes) ≡ widthAt k
     width-right = length-drop 3 bytes ∙ (let size : length bytes - 3 ≡ s .width = omega arith in size) ∙ width-is k s is
 
-    pub value-unfit : fits numbers k (fromLittle (drop 3 bytes)) ≡ false → Verdict.Stops ≡ valued numbers k (drop 3 bytes)
+    pub value-unfit : fits numbers k (fromLittle (drop 3 bytes)) ≡ false → Intake.Stops ≡ valued numbers k (drop 3 bytes)
     unfolding valued
     value-unfit e = rw (eq-eqb (length (drop 3 bytes)) (widthAt k) width-right, e)
 
     pub value-taken : fits numbers k (fromLittle (drop 3 bytes)) ≡ true
-        → Verdict.Takes (fromLittle (drop 3 bytes)) ≡ valued numbers k (drop 3 bytes)
+        → Intake.Takes (fromLittle (drop 3 bytes)) ≡ valued numbers k (drop 3 bytes)
     unfolding valued
     value-taken e = rw (eq-eqb (length (drop 3 bytes)) (widthAt k) width-right, e)
 
--- a frame, by the reply that it is
-module _ (numbers : List ℕ) (k command : ℕ) (bytes : List ℕ) where
-  pub heard-is : (x : Reply) → reading command bytes ≡ x → replied numbers k (rest bytes) x ≡ verdict numbers k (heard command bytes)
-  unfolding verdict
-  heard-is x e = ap (replied numbers k (rest bytes)) (sym e)
+-- a frame, by what it says to the Get
+pub heeded-is : (numbers : List ℕ) (k command : ℕ) (bytes : List ℕ) (h : Heeded) → heeding getCode (idAt k) command bytes ≡ h
+    → onHeeded numbers k (rest bytes) h ≡ intakeOf numbers k (heard command bytes)
+unfolding intakeOf
+heeded-is numbers k command bytes h e = rw e
 
-  module _ (status : Status) (id : ℕ) (s : Setting) (is : s ≡ settingAt k) (e : reading command bytes ≡ Reply.Get status id) where
-    pub heard-other : id ≢ s .id → Verdict.Waits ≡ verdict numbers k (heard command bytes)
-    unfolding verdict
-    heard-other differs =
-        let other : id ≢ idAt k = λ same. differs (same ∙ sym (ap (λ (t : Setting). t .id) is)) in
-        rw (e, ne-eqb id (idAt k) other)
-
-    pub heard-due : id ≡ s .id → answeredDue numbers k (rest bytes) status ≡ verdict numbers k (heard command bytes)
-    unfolding verdict
-    heard-due same =
-        let due : id ≡ idAt k = same ∙ ap (λ (t : Setting). t .id) is in
-        rw (e, eq-eqb id (idAt k) due)
+-- asked by the setting that is found
+pub asked-is : (k command : ℕ) (bytes : List ℕ) (s : Setting) (h : Heeded) → s ≡ settingAt k → h ≡ heeding getCode (s .id) command bytes
+    → heeding getCode (idAt k) command bytes ≡ h
+asked-is k command bytes s h is e = sym (e ∙ ap (λ (t : Setting). heeding getCode (t .id) command bytes) is)

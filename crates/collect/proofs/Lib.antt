@@ -2,7 +2,7 @@
 pub mod Deciding
 pub mod Moving
 pub mod Fitting
-pub mod Verdicts
+pub mod Intakes
 pub mod Reaching
 pub mod Boards
 pub mod Carrying

@@ -1,12 +1,12 @@
 -- What is proved of the definitions, as statements to hold against the words. Each is proved under its name in proofs/Theorems.antt.
--- (The numbers of a collector and of a table are 26 in every value of the type, which `length` says.) Assumes nothing.
+-- (The numbers of a collector and of a table are `count` in every value of the type, which `length` says.) Assumes nothing.
 use Prim.Native.Nat.{ℕ, suc}
 use mathlib.Core.Path.{_≡_}
 use mathlib.Core.Logic.{_≢_, _↔_}
-use mathlib.Core.Bool.{Bool, true, cond, _&&_}
+use mathlib.Core.Bool.{true, false, cond, _&&_}
 use mathlib.Core.List.{List, [], _∷_, _++_}
-use lib.ListN.{length, getD, take, drop}
-use lib.Dec.{ltb, eqb}
+use lib.ListN.{length, take, drop}
+use lib.Dec.{ltb}
 use Rattle.laws.specs.Lists.{same}
 use Rattle.endian.specs.Numbers.{little, fromLittle}
 use Rattle.settings.specs.Columns.{count, idAt, widthAt}
@@ -15,14 +15,13 @@ use Rattle.tables.specs.Rules as tables
 use Rattle.tables.specs.declared.Table.{Table}
 use Rattle.paper.specs.Numbers.{getCode}
 use Rattle.answers.specs.Answers.{said}
-use Rattle.reply.specs.Events.{Event, heard, refusedFrame, noAnswer, OnStream, isFlag}
+use Rattle.reply.specs.Events.{Event, heard, refusedFrame, noAnswer, OnStream, answers}
 use Rattle.collect.specs.Collecting.{fits, advanced, begun, allowed}
 use Rattle.collect.specs.Calls.{starting, collecting}
-use Rattle.collect.specs.declared.Phase.{Phase}
 use Rattle.collect.specs.declared.Collector.{Collector}
-use Rattle.collect.specs.declared.Outcome.{Outcome}
+use Rattle.collect.specs.declared.Stage.{Stage}
 use Rattle.collect.specs.declared.Collected.{Collected}
-use Rattle.collect.specs.declared.verdict.Verdict.{Verdict}
+use Rattle.collect.specs.declared.intake.Intake.{Intake}
 
 -- 1. A state is allowed exactly when a start and events give it.
 abbrev pub run : Collector → List Event → Collector
@@ -41,29 +40,26 @@ abbrev pub CallsFollow : Type 0
 CallsFollow = (events : List Event) → calls starting events .collector ≡ run begun events
 
 -- 2. The table given holds exactly the numbers that the matching replies carried. Said in bytes, and with no collector: a good reply to
--- the Get of place k with number n, and any reply to it, its flag being that of a status.
+-- the Get of place k with number n.
 abbrev pub goodReply : ℕ → ℕ → List ℕ
 goodReply k n = said (idAt k) 0 (little (widthAt k) n)
 
-unfoldable pub isReply : ℕ → List ℕ → Bool
-isReply k bytes = same bytes (said (idAt k) (getD bytes 2 0) (drop 3 bytes)) && isFlag (getD bytes 2 0)
-
 -- what an event carries for place k, with the numbers so far: the number of a good reply, if it fits; any other reply to the Get and "no
 -- answer" end it; everything else carries nothing
-unfoldable pub carries : List ℕ → ℕ → Event → Verdict
+unfoldable pub carries : List ℕ → ℕ → Event → Intake
 carries so-far k (heard command bytes) =
     let n = fromLittle (drop 3 bytes) in
-    cond (eqb command getCode && isReply k bytes)
-    (cond (same bytes (goodReply k n) && fits so-far k n) (Verdict.Takes n) Verdict.Stops)
-    Verdict.Waits
-carries so-far k refusedFrame = Verdict.Waits
-carries so-far k noAnswer = Verdict.Stops
+    cond (answers getCode (idAt k) command bytes)
+    (cond (same bytes (goodReply k n) && fits so-far k n) (Intake.Takes n) Intake.Stops)
+    Intake.Waits
+carries so-far k refusedFrame = Intake.Waits
+carries so-far k noAnswer = Intake.Stops
 
 -- the numbers carried, one after the other, until it ends or every setting has one
-abbrev pub following : (ℕ → List ℕ) → List ℕ → List ℕ → Verdict → List ℕ
-following next so-far later (Verdict.Takes n) = next n
-following next so-far later Verdict.Stops = so-far
-following next so-far later Verdict.Waits = later
+abbrev pub following : (ℕ → List ℕ) → List ℕ → List ℕ → Intake → List ℕ
+following next so-far later (Intake.Takes n) = next n
+following next so-far later Intake.Stops = so-far
+following next so-far later Intake.Waits = later
 
 abbrev pub carried : List ℕ → List Event → List ℕ
 carried so-far [] = so-far
@@ -76,16 +72,16 @@ carried so-far (e ∷ more) =
 pub record Holds (numbers : List ℕ) (last : Collected) : Type 0 where
   pub numbers-are : take (last .collector .len) (last .collector .numbers) ≡ numbers
   pub answered-are : last .answered ≡ length numbers
-  pub done-when : (last .outcome ≡ Outcome.Done) ↔ (length numbers ≡ count)
-  pub table-is : last .outcome ≡ Outcome.Done → last .table ≡ record { numbers = numbers }
+  pub done-when : (last .stage ≡ Stage.Done) ↔ (length numbers ≡ count)
+  pub table-is : last .stage ≡ Stage.Done → last .table ≡ record { numbers = numbers }
 
 abbrev pub TableIsCarried : Type 0
 TableIsCarried = (events : List Event) → OnStream events → Holds (carried [] events) (calls starting events)
 
 -- 3. A table that is given as done is allowed; every other is the factory table.
 pub record Handed (last : Collected) : Type 0 where
-  pub done-allowed : last .outcome ≡ Outcome.Done → tables.allowed (last .table) ≡ true
-  pub else-factory : last .outcome ≢ Outcome.Done → last .table ≡ factory
+  pub done-allowed : last .stage ≡ Stage.Done → tables.allowed (last .table) ≡ true
+  pub else-factory : last .stage ≢ Stage.Done → last .table ≡ factory
 
 abbrev pub TableIsAllowed : Type 0
 TableIsAllowed = Handed starting × ((c : Collector) (e : Event) → length (c .numbers) ≡ count → Handed (collecting c e))
@@ -100,8 +96,8 @@ BoardIsRead =
     (t : Table) → length (t .numbers) ≡ count → tables.allowed t ≡ true
     → calls starting (replies 0 (t .numbers))
     ≡ record {
-      collector = record { len = count; numbers = t .numbers; phase = Phase.Done };
-      outcome = Outcome.Done;
+      collector = record { len = count; numbers = t .numbers; stopped = false };
+      stage = Stage.Done;
       answered = count;
       table = t;
     }

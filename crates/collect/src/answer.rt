@@ -3,46 +3,47 @@ ghost use mathlib.Core.Path.{_≡_};
 ghost use Rattle.collect.specs.Calls as spec;
 use crate::Collected;
 use crate::Collector;
-use crate::Outcome;
-use crate::Phase;
+use crate::Stage;
 use crate::place;
+use crate::state;
 use settings::COUNT;
 use tables::Table;
 
-// The outcome in a phase, with this many settings answered.
-fn outcome_of(phase: Phase, len: usize) -> Outcome
-    ensures { λ r. ⌜ r ≡ spec.outcomeOf phase len ⌝ }
+// How far it is, with this many settings answered.
+fn stage_of(len: usize, stopped: bool) -> Stage
+    ensures { λ r. ⌜ r ≡ spec.stageOf len stopped ⌝ }
 {
-    match phase {
-        Phase::Waiting => Outcome::Waiting(place::setting_at(len)),
-        Phase::Done => Outcome::Done,
-        Phase::Stopped => Outcome::Stopped(place::setting_at(len)),
+    if len >= COUNT {
+        return Stage::Done;
     }
+    let due = place::setting_at(len);
+    if stopped {
+        return Stage::Stopped(due);
+    }
+    Stage::Waiting(due)
 }
 
 // The table, given only when every setting was answered.
-fn table_of(phase: Phase, numbers: [u16; COUNT]) -> Table
-    ensures { λ r. ⌜ r ≡ spec.tableOf phase numbers ⌝ }
+fn table_of(len: usize, numbers: [u16; COUNT]) -> Table
+    ensures { λ r. ⌜ r ≡ spec.tableOf len numbers ⌝ }
 {
-    match phase {
-        Phase::Waiting => Table::factory(),
-        Phase::Done => Table { numbers },
-        Phase::Stopped => Table::factory(),
+    if len < COUNT {
+        return Table::factory();
     }
+    Table { numbers }
 }
 
-// What is told of an allowed collector.
-pub(crate) fn told(collector: Collector) -> Collected
-    ensures { λ r. ⌜ r ≡ spec.told collector ⌝ }
+// The answer of an allowed collector.
+pub(crate) fn good(collector: Collector) -> Collected
+    ensures { λ r. ⌜ r ≡ spec.good collector ⌝ }
 {
-    let phase = collector.phase;
     let len = collector.len;
     let numbers = collector.numbers;
     Collected {
         collector,
-        outcome: outcome_of(phase, len),
+        stage: stage_of(len, collector.stopped),
         answered: len,
-        table: table_of(phase, numbers),
+        table: table_of(len, numbers),
     }
 }
 
@@ -52,8 +53,18 @@ pub(crate) fn stray(collector: Collector) -> Collected
 {
     Collected {
         collector,
-        outcome: Outcome::Refused(paper::NOT_ALLOWED),
+        stage: Stage::Refused(paper::NOT_ALLOWED),
         answered: 0,
         table: Table::factory(),
     }
+}
+
+// The answer of any collector, as it is.
+pub(crate) fn told(collector: Collector) -> Collected
+    ensures { λ r. ⌜ r ≡ spec.told collector ⌝ }
+{
+    if !state::is_allowed(collector) {
+        return stray(collector);
+    }
+    good(collector)
 }

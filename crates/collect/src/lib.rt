@@ -3,42 +3,36 @@
 // (specs/Calls.antt).
 ghost use mathlib.Core.Path.{_≡_};
 ghost use Rattle.reply.specs.Events.{heard, refusedFrame, noAnswer};
-ghost use Rattle.collect.specs.Calls.{starting, collecting};
+ghost use Rattle.collect.specs.Calls.{starting, told, collecting};
 use settings::COUNT;
 use settings::Setting;
 use tables::Table;
 
 mod answer;
+mod intake;
 mod place;
 mod state;
-mod verdict;
 
-// Waiting for the answer to a Get; done, every setting was answered; or stopped.
-pub enum Phase {
-    Waiting,
-    Done,
-    Stopped,
-}
-
-// How many settings were answered, and their numbers in the order of the ids; 0 past them.
+// How many settings were answered, their numbers in the order of the ids, 0 past them, and whether it has stopped. Which setting is due, and
+// whether all is done, follows from these.
 pub struct Collector {
     pub len: usize,
     pub numbers: [u16; COUNT],
-    pub phase: Phase,
+    pub stopped: bool,
 }
 
-// What a call comes to: the setting that is asked for, or that was when it stopped; or document 01's number of the refusal.
-pub enum Outcome {
+// How far it is: a setting is asked for; every one was answered; it stopped at a setting; or document 01's number of the refusal.
+pub enum Stage {
     Waiting(Setting),
     Done,
     Stopped(Setting),
     Refused(u8),
 }
 
-// The advanced collector, the outcome, how many settings were answered, and the table: the factory table unless the outcome is done.
+// The advanced collector, how far it is, how many settings were answered, and the table: the factory table unless it is done.
 pub struct Collected {
     pub collector: Collector,
-    pub outcome: Outcome,
+    pub stage: Stage,
     pub answered: usize,
     pub table: Table,
 }
@@ -48,27 +42,31 @@ impl Collector {
     pub fn start() -> Collected
         ensures { λ r. ⌜ r ≡ starting ⌝ }
     {
-        answer::told(state::begun())
+        answer::good(state::begun())
+    }
+
+    // What is told of a collector, with nothing heard. Refuses 12 for one that no start and events give.
+    pub fn told(self) -> Collected
+        ensures { λ r. ⌜ r ≡ told self ⌝ }
+    {
+        answer::told(self)
     }
 
     // A frame was read, of this command and these data. Only a good Get reply with the due id, in its width and with a number that fits is
-    // taken. Refuses 12 for a collector that no start and events give.
+    // taken. Refuses 12 alike.
     pub fn reply(self, command: u8, bytes: &[u8]) -> Collected
         ensures { λ r. ⌜ r ≡ collecting self (heard command (now (bytes .entry))) ⌝ }
     {
         if !state::is_allowed(self) {
             return answer::stray(self);
         }
-        answer::told(state::after_frame(self, command, bytes))
+        answer::good(state::after_frame(self, command, bytes))
     }
 
     // The stream refused a frame, which keeps waiting. Refuses 12 alike.
     pub fn refused_frame(self) -> Collected
         ensures { λ r. ⌜ r ≡ collecting self refusedFrame ⌝ }
     {
-        if !state::is_allowed(self) {
-            return answer::stray(self);
-        }
         answer::told(self)
     }
 
@@ -79,6 +77,6 @@ impl Collector {
         if !state::is_allowed(self) {
             return answer::stray(self);
         }
-        answer::told(state::after_silence(self))
+        answer::good(state::after_silence(self))
     }
 }

@@ -1,15 +1,13 @@
 // The states of a collector: which are allowed, and how one follows from another.
 ghost use Prim.Native.Nat.{_≤_, _<_};
 ghost use mathlib.Core.Path.{_≡_};
-ghost use mathlib.Core.Bool.{true};
 ghost use Rattle.settings.specs.Columns.{count};
 ghost use Rattle.reply.specs.Events.{heard, noAnswer};
 ghost use Rattle.collect.specs.Collecting as spec;
 use crate::Collector;
-use crate::Phase;
+use crate::intake;
+use crate::intake::Intake;
 use crate::place;
-use crate::verdict;
-use crate::verdict::Verdict;
 use settings::COUNT;
 
 // The start: nothing is answered.
@@ -19,19 +17,18 @@ pub(crate) fn begun() -> Collector
     Collector {
         len: 0,
         numbers: [0u16; COUNT],
-        phase: Phase::Waiting,
+        stopped: false,
     }
 }
 
-// A setting is due unless all are answered.
-fn is_within(phase: Phase, len: usize) -> bool
-    ensures { λ r. ⌜ r ≡ spec.within phase len ⌝ }
+// No more settings are answered than there are, and fewer where it stopped.
+fn is_within(len: usize, stopped: bool) -> bool
+    ensures { λ r. ⌜ r ≡ spec.within len stopped ⌝ }
 {
-    match phase {
-        Phase::Waiting => len < COUNT,
-        Phase::Done => len == COUNT,
-        Phase::Stopped => len < COUNT,
+    if stopped {
+        return len < COUNT;
     }
+    len <= COUNT
 }
 
 // Every number answered fits those before it.
@@ -66,23 +63,19 @@ fn none_after(numbers: [u16; COUNT], len: usize) -> bool
 pub(crate) fn is_allowed(collector: Collector) -> bool
     ensures { λ r. ⌜ r ≡ spec.allowed collector ⌝ }
 {
-    let phase = collector.phase;
     let len = collector.len;
-    if !is_within(phase, len) {
+    if !is_within(len, collector.stopped) {
         return false;
     }
     let numbers = collector.numbers;
     all_fit(numbers, len) & none_after(numbers, len)
 }
 
-// The phase with this many settings answered.
-fn phase_at(len: usize) -> Phase
-    ensures { λ r. ⌜ r ≡ spec.phaseAt len ⌝ }
+// Whether a setting is due.
+fn is_waiting(collector: Collector) -> bool
+    ensures { λ r. ⌜ r ≡ spec.isWaiting collector ⌝ }
 {
-    if len == COUNT {
-        return Phase::Done;
-    }
-    Phase::Waiting
+    !collector.stopped & (collector.len < COUNT)
 }
 
 // One more number answered.
@@ -96,59 +89,54 @@ fn took(collector: Collector, number: u16) -> Collector
     Collector {
         len: len + 1,
         numbers,
-        phase: phase_at(len + 1),
+        stopped: collector.stopped,
     }
 }
 
 // The due setting stays named.
-fn stopped(collector: Collector) -> Collector
-    ensures { λ r. ⌜ r ≡ spec.stopped collector ⌝ }
+fn halted(collector: Collector) -> Collector
+    ensures { λ r. ⌜ r ≡ spec.halted collector ⌝ }
 {
     let numbers = collector.numbers;
     Collector {
         len: collector.len,
         numbers,
-        phase: Phase::Stopped,
+        stopped: true,
     }
 }
 
-// A waiting collector after a verdict.
-fn moved(collector: Collector, verdict: Verdict) -> Collector
+// A collector that waited, after the answer to its Get.
+fn moved(collector: Collector, intake: Intake) -> Collector
     requires { ⌜ collector .len < count ⌝ }
-    ensures { λ r. ⌜ r ≡ spec.moved collector verdict ⌝ }
+    ensures { λ r. ⌜ r ≡ spec.moved collector intake ⌝ }
 {
-    match verdict {
-        Verdict::Takes(number) => took(collector, number),
-        Verdict::Stops => stopped(collector),
-        Verdict::Waits => collector,
+    match intake {
+        Intake::Takes(number) => took(collector, number),
+        Intake::Stops => halted(collector),
+        Intake::Waits => collector,
     }
 }
 
 // A collector after a frame; ended stays ended.
 pub(crate) fn after_frame(collector: Collector, command: u8, bytes: &[u8]) -> Collector
-    requires { ⌜ spec.allowed collector ≡ true ⌝ }
     ensures { λ r. ⌜ r ≡ spec.advanced collector (heard command (now (bytes .entry))) ⌝ }
 {
-    let phase = collector.phase;
-    let numbers = collector.numbers;
-    match phase {
-        Phase::Waiting => {
-            let verdict = verdict::of_frame(numbers, collector.len, command, bytes);
-            moved(collector, verdict)
-        }
-        Phase::Done => collector,
-        Phase::Stopped => collector,
+    if !is_waiting(collector) {
+        return collector;
     }
+    let numbers = collector.numbers;
+    moved(
+        collector,
+        intake::of_frame(numbers, collector.len, command, bytes),
+    )
 }
 
 // A collector to whose Get no answer came; ended stays ended.
 pub(crate) fn after_silence(collector: Collector) -> Collector
     ensures { λ r. ⌜ r ≡ spec.advanced collector noAnswer ⌝ }
 {
-    let phase = collector.phase;
-    match phase {
-        Phase::Waiting => stopped(collector),
-        Phase::Done => collector,
-        Phase::Stopped => collector,
+    if !is_waiting(collector) {
+        return collector;
     }
+    halted(collector)
 }

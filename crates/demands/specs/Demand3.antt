@@ -36,7 +36,7 @@ use Rattle.restore.specs.declared.Wanted.{Wanted}
 use Rattle.follow.specs.Following.{standing, begun}
 use Rattle.follow.specs.Laws.{run}
 use Rattle.follow.specs.declared.Follower.{Follower}
-use Rattle.follow.specs.declared.Outcome as follows
+use Rattle.follow.specs.declared.Standing as follows
 use Rattle.demands.specs.Sets.{anySetting, made}
 use Rattle.demands.specs.Talk.{Deed, stores, calls, Said, Talk, talkBy, talk, afterAll, saidToAll, boardAt}
 
@@ -118,8 +118,8 @@ followed from to bytes offers = run (begun from to) (map eventFor (Cutting.calls
 
 pub record Confirmed (from to : Table) (f : Follower) : Type 0 where
   pub all-confirmed : f .confirmed ≡ length (dueSets from to)
-  pub done-when : 0 < length (dueSets from to) → standing f ≡ follows.Outcome.Done
-  pub equal-when : length (dueSets from to) ≡ 0 → standing f ≡ follows.Outcome.Equal
+  pub done-when : 0 < length (dueSets from to) → standing f ≡ follows.Standing.Done
+  pub equal-when : length (dueSets from to) ≡ 0 → standing f ≡ follows.Standing.Equal
 
 abbrev pub ListIsConfirmed : Type 0
 ListIsConfirmed =

@@ -23,13 +23,13 @@ use Rattle.restore.specs.declared.Due.{Due}
 use Rattle.restore.proofs.Theorems.{due-tells}
 use Rattle.restore.proofs.Rows.{due-is}
 use Rattle.reply.specs.Events.{Event, OnStream, a-frame, a-refusal, a-silence}
-use Rattle.follow.specs.Following.{verdictOn, standing, moved, after, advanced, begun, followerAllowed}
+use Rattle.follow.specs.Following.{effectOf, standing, moved, after, advanced, begun, followerAllowed}
 use Rattle.follow.specs.Laws.{run, matches, ends, matched}
 use Rattle.follow.specs.declared.Follower.{Follower}
-use Rattle.follow.specs.declared.Outcome.{Outcome}
-use Rattle.follow.specs.declared.verdict.Verdict.{Verdict}
-use Rattle.follow.proofs.Standing.{standing-is, advanced-is}
-use Rattle.follow.proofs.Matching.{Sound, AsRead, frame-read, broken-read, silence-read, verdict-is}
+use Rattle.follow.specs.declared.Standing.{Standing}
+use Rattle.follow.specs.declared.effect.Effect.{Effect}
+use Rattle.follow.proofs.Standings.{standing-is, advanced-is}
+use Rattle.follow.proofs.Matching.{Sound, AsRead, frame-read, broken-read, silence-read, effect-is}
 
 -- the first of some events, and the others
 first : {e : Event} {more : List Event} → OnStream (e ∷ more) → AsRead e
@@ -97,18 +97,18 @@ module _ (from to : Table) (ok : bothAllowed from to ≡ true) where
   stays f h (e ∷ more) = rw (h e) (stays f h more)
 
   stopped-stays : (n : ℕ) (w : Wanted) → dueIn from to n ≡ Due.Set w → (e : Event) → advanced (at n true) e ≡ at n true
-  stopped-stays n w due e = sym (advanced-is (at n true) e (Outcome.Stopped w) (sym (standing-is (at n true) (Due.Set w) due)))
+  stopped-stays n w due e = sym (advanced-is (at n true) e (Standing.Stopped w) (sym (standing-is (at n true) (Due.Set w) due)))
 
   none-stays : (n : ℕ) (stopped : Bool) → dueIn from to n ≡ Due.Nothing → (e : Event) → advanced (at n stopped) e ≡ at n stopped
   none-stays n stopped due e = by (eqb n 0) refl
     where
       by : (b : Bool) → eqb n 0 ≡ b → advanced (at n stopped) e ≡ at n stopped
-      by true z = sym (advanced-is (at n stopped) e Outcome.Equal (sym (standing-is (at n stopped) Due.Nothing due) ∙ rw z))
-      by false z = sym (advanced-is (at n stopped) e Outcome.Done (sym (standing-is (at n stopped) Due.Nothing due) ∙ rw z))
+      by true z = sym (advanced-is (at n stopped) e Standing.Equal (sym (standing-is (at n stopped) Due.Nothing due) ∙ rw z))
+      by false z = sym (advanced-is (at n stopped) e Standing.Done (sym (standing-is (at n stopped) Due.Nothing due) ∙ rw z))
 
   -- one that waits moves by the verdict
-  pub waits-moves : (n : ℕ) (w : Wanted) → dueIn from to n ≡ Due.Set w → (e : Event) → advanced (at n false) e ≡ moved (at n false) (verdictOn w e)
-  waits-moves n w due e = sym (advanced-is (at n false) e (Outcome.Waiting w) (sym (standing-is (at n false) (Due.Set w) due)))
+  pub waits-moves : (n : ℕ) (w : Wanted) → dueIn from to n ≡ Due.Set w → (e : Event) → advanced (at n false) e ≡ moved (at n false) (effectOf w e)
+  waits-moves n w due e = sym (advanced-is (at n false) e (Standing.Waiting w) (sym (standing-is (at n false) (Due.Set w) due)))
 
   -- what is confirmed is what matched of the Sets that were left
   counted : (n : ℕ) (l : List Wanted) (events : List Event) → drop n (dueSets from to) ≡ l → OnStream events
@@ -122,8 +122,8 @@ module _ (from to : Table) (ok : bothAllowed from to ≡ true) where
       due : dueIn from to n ≡ Due.Set w
       due = due-left n (w ∷ l) e
 
-      moves : advanced (at n false) x ≡ moved (at n false) (cond (matches w x) Verdict.Confirms (cond (ends w x) Verdict.Stops Verdict.Waits))
-      moves = waits-moves n w due x ∙ ap (moved (at n false)) (verdict-is w (sound-due n w due) x (first r))
+      moves : advanced (at n false) x ≡ moved (at n false) (cond (matches w x) Effect.Confirms (cond (ends w x) Effect.Stops Effect.Waits))
+      moves = waits-moves n w due x ∙ ap (moved (at n false)) (effect-is w (sound-due n w due) x (first r))
 
       by : (s t : Bool) → matches w x ≡ s → ends w x ≡ t → run (at (suc n) false) more .confirmed ≡ suc n + matched l more
           → run (at n false) more .confirmed ≡ n + matched (w ∷ l) more
@@ -171,10 +171,10 @@ module _ (from to : Table) (ok : bothAllowed from to ≡ true) where
       by d (not-allowed bad) e = absurd (false≢true (sym bad ∙ ok))
 
   -- an event keeps a follower allowed
-  moved-allowed : (n : ℕ) → n < length (dueSets from to) → (v : Verdict) → followerAllowed (moved (at n false) v) ≡ true
-  moved-allowed n h Verdict.Confirms = going-allowed (suc n) (omega arith)
-  moved-allowed n h Verdict.Stops = ended-allowed n h
-  moved-allowed n h Verdict.Waits = going-allowed n (omega arith)
+  moved-allowed : (n : ℕ) → n < length (dueSets from to) → (v : Effect) → followerAllowed (moved (at n false) v) ≡ true
+  moved-allowed n h Effect.Confirms = going-allowed (suc n) (omega arith)
+  moved-allowed n h Effect.Stops = ended-allowed n h
+  moved-allowed n h Effect.Waits = going-allowed n (omega arith)
 
   advanced-allowed : (n : ℕ) (stopped : Bool) (e : Event) → followerAllowed (at n stopped) ≡ true → followerAllowed (advanced (at n stopped) e) ≡ true
   advanced-allowed n true e h =
@@ -186,21 +186,21 @@ module _ (from to : Table) (ok : bothAllowed from to ≡ true) where
       by true less =
           let more = ltb-true _ _ less in
           let due = some-left n more in
-          rw (waits-moves n (due .0) (due .1) e) (moved-allowed n more (verdictOn (due .0) e))
+          rw (waits-moves n (due .0) (due .1) e) (moved-allowed n more (effectOf (due .0) e))
       by false most = rw (none-stays n false (all-done n (ltb-false _ _ most)) e) h
 
 -- An event keeps the two tables.
-moved-from : (f : Follower) (v : Verdict) → (moved f v .from ≡ f .from) × (moved f v .to ≡ f .to)
-moved-from f Verdict.Confirms = (refl, refl)
-moved-from f Verdict.Stops = (refl, refl)
-moved-from f Verdict.Waits = (refl, refl)
+moved-from : (f : Follower) (v : Effect) → (moved f v .from ≡ f .from) × (moved f v .to ≡ f .to)
+moved-from f Effect.Confirms = (refl, refl)
+moved-from f Effect.Stops = (refl, refl)
+moved-from f Effect.Waits = (refl, refl)
 
-after-from : (f : Follower) (e : Event) (o : Outcome) → (after f e o .from ≡ f .from) × (after f e o .to ≡ f .to)
-after-from f e (Outcome.Waiting due) = moved-from f (verdictOn due e)
-after-from f e Outcome.Equal = (refl, refl)
-after-from f e Outcome.Done = (refl, refl)
-after-from f e (Outcome.Stopped due) = (refl, refl)
-after-from f e (Outcome.Refused number) = (refl, refl)
+after-from : (f : Follower) (e : Event) (o : Standing) → (after f e o .from ≡ f .from) × (after f e o .to ≡ f .to)
+after-from f e (Standing.Waiting due) = moved-from f (effectOf due e)
+after-from f e Standing.Equal = (refl, refl)
+after-from f e Standing.Done = (refl, refl)
+after-from f e (Standing.Stopped due) = (refl, refl)
+after-from f e (Standing.Refused number) = (refl, refl)
 
 -- a follower of allowed tables that is allowed
 pub record Goes (from to : Table) (f : Follower) : Type 0 where

@@ -1,6 +1,6 @@
 -- Laws of the definitions of specs/, and what the proofs of the functions cite.
-pub mod Verdicts
-pub mod Standing
+pub mod Effects
+pub mod Standings
 pub mod Matching
 pub mod Counting
 pub mod Reaching

@@ -19,15 +19,15 @@ use Rattle.restore.specs.Calls.{bothAllowed, dueIn}
 use Rattle.restore.specs.declared.Wanted.{Wanted}
 use Rattle.restore.specs.declared.Due.{Due}
 use Rattle.reply.specs.Events.{Event, noAnswer}
-use Rattle.follow.specs.Following.{verdictOn, standing, moved, advanced, begun, followerAllowed}
+use Rattle.follow.specs.Following.{effectOf, standing, moved, advanced, begun, followerAllowed}
 use Rattle.follow.specs.Calls.{answered, starting}
 use Rattle.follow.specs.Laws.{run, Reached, AllowedIsReached, ownData, matched, CountIsMatched, calls, CountIsTold, DoneIsAll, EqualIsNone, ownReply, AllConfirmed}
 use Rattle.follow.specs.declared.Follower.{Follower}
 use Rattle.follow.specs.declared.Followed.{Followed}
-use Rattle.follow.specs.declared.Outcome.{Outcome}
-use Rattle.follow.specs.declared.verdict.Verdict.{Verdict}
-use Rattle.follow.proofs.Standing.{standing-is, told-good, following-good}
-use Rattle.follow.proofs.Matching.{frame-read, verdict-is, own-matches}
+use Rattle.follow.specs.declared.Standing.{Standing}
+use Rattle.follow.specs.declared.effect.Effect.{Effect}
+use Rattle.follow.proofs.Standings.{standing-is, told-good, following-good}
+use Rattle.follow.proofs.Matching.{frame-read, effect-is, own-matches}
 use Rattle.follow.proofs.Counting.{drop-next, at, due-left, sound-due, waits-moves, count-matched, going-few, ended-few, some-left, all-done, Goes, goes-far, begins}
 
 more-than-none : (n : ℕ) → n ≢ 0 → 0 < n
@@ -50,21 +50,21 @@ own-bytes due =
     let high = and-left (ltb (due .setting .id / 256 % 256) 256) true (and-right (ltb (due .setting .id % 256) 256) _ front) in
     record { below = both _ _ low (both _ _ high (bytes-little (due .setting .width) (due .number))) }
 
-abbrev isEnd : Outcome → Bool
-isEnd (Outcome.Waiting due) = false
-isEnd Outcome.Equal = true
-isEnd Outcome.Done = true
-isEnd (Outcome.Stopped due) = false
-isEnd (Outcome.Refused number) = false
+abbrev isEnd : Standing → Bool
+isEnd (Standing.Waiting due) = false
+isEnd Standing.Equal = true
+isEnd Standing.Done = true
+isEnd (Standing.Stopped due) = false
+isEnd (Standing.Refused number) = false
 
-abbrev isDone : Outcome → Bool
-isDone (Outcome.Waiting due) = false
-isDone Outcome.Equal = false
-isDone Outcome.Done = true
-isDone (Outcome.Stopped due) = false
-isDone (Outcome.Refused number) = false
+abbrev isDone : Standing → Bool
+isDone (Standing.Waiting due) = false
+isDone Standing.Equal = false
+isDone Standing.Done = true
+isDone (Standing.Stopped due) = false
+isDone (Standing.Refused number) = false
 
-either : (stopped : Bool) (w : Wanted) → isEnd (cond stopped (Outcome.Stopped w) (Outcome.Waiting w)) ≡ false
+either : (stopped : Bool) (w : Wanted) → isEnd (cond stopped (Standing.Stopped w) (Standing.Waiting w)) ≡ false
 either true w = refl
 either false w = refl
 
@@ -72,7 +72,7 @@ module _ (from to : Table) (ok : bothAllowed from to ≡ true) where
   -- the board's own replies to the Sets that are left, one after another
   own-moves : (n : ℕ) (w : Wanted) → dueIn from to n ≡ Due.Set w → advanced (at from to ok n false) (ownReply w) ≡ at from to ok (suc n) false
   own-moves n w due =
-      let confirms : verdictOn w (ownReply w) ≡ Verdict.Confirms = rw (own-matches w) at (verdict-is w (sound-due from to ok n w due) (ownReply w) (frame-read (own-bytes w))) in
+      let confirms : effectOf w (ownReply w) ≡ Effect.Confirms = rw (own-matches w) at (effect-is w (sound-due from to ok n w due) (ownReply w) (frame-read (own-bytes w))) in
       waits-moves from to ok n w due (ownReply w) ∙ ap (moved (at from to ok n false)) confirms
 
   all-own : (m n : ℕ) → n + m ≤ length (dueSets from to) → run (at from to ok n false) (map ownReply (take m (drop n (dueSets from to)))) ≡ at from to ok (n + m) false
@@ -109,7 +109,7 @@ module _ (from to : Table) (ok : bothAllowed from to ≡ true) where
       }
 
   -- how far it is
-  stands-done : (n : ℕ) (stopped : Bool) → length (dueSets from to) ≤ n → standing (at from to ok n stopped) ≡ cond (eqb n 0) Outcome.Equal Outcome.Done
+  stands-done : (n : ℕ) (stopped : Bool) → length (dueSets from to) ≤ n → standing (at from to ok n stopped) ≡ cond (eqb n 0) Standing.Equal Standing.Done
   stands-done n stopped h = sym (standing-is (at from to ok n stopped) Due.Nothing (all-done from to ok n h))
 
   stands-due : (n : ℕ) (stopped : Bool) → n < length (dueSets from to) → isEnd (standing (at from to ok n stopped)) ≡ false
@@ -125,20 +125,20 @@ module _ (from to : Table) (ok : bothAllowed from to ≡ true) where
       by true less = absurd (false≢true (sym (stands-due n stopped (ltb-true _ _ less)) ∙ e))
       by false most = ltb-false _ _ most
 
-  done-some : (n : ℕ) (stopped : Bool) → standing (at from to ok n stopped) ≡ Outcome.Done → n ≢ 0
+  done-some : (n : ℕ) (stopped : Bool) → standing (at from to ok n stopped) ≡ Standing.Done → n ≢ 0
   done-some n stopped e none =
       let last : length (dueSets from to) ≤ n = end-last n stopped (ap isEnd e) in
-      let is : cond (eqb n 0) Outcome.Equal Outcome.Done ≡ Outcome.Done = sym (stands-done n stopped last) ∙ e in
+      let is : cond (eqb n 0) Standing.Equal Standing.Done ≡ Standing.Done = sym (stands-done n stopped last) ∙ e in
       false≢true (ap isDone (rw (eq-eqb n 0 none) at is))
 
-  equal-none : (n : ℕ) (stopped : Bool) → standing (at from to ok n stopped) ≡ Outcome.Equal → n ≡ 0
+  equal-none : (n : ℕ) (stopped : Bool) → standing (at from to ok n stopped) ≡ Standing.Equal → n ≡ 0
   equal-none n stopped e = by (eqb n 0) refl
     where
       by : (b : Bool) → eqb n 0 ≡ b → n ≡ 0
       by true z = eqb-true n 0 z
       by false z =
           let last : length (dueSets from to) ≤ n = end-last n stopped (ap isEnd e) in
-          let is : Outcome.Done ≡ Outcome.Equal = rw z at (sym (stands-done n stopped last) ∙ e) in
+          let is : Standing.Done ≡ Standing.Equal = rw z at (sym (stands-done n stopped last) ∙ e) in
           absurd (false≢true (sym (ap isDone is)))
 
 -- the statements
@@ -185,13 +185,13 @@ module _ (from to : Table) (events : List Event) (ok : bothAllowed from to ≡ t
   few : end .confirmed ≤ length (dueSets from to)
   few = few-of from to ok (end .confirmed) (end .stopped) (rw shape at (goes .is-allowed))
 
-  stands : (o : Outcome) → standing end ≡ o → standing (at from to ok (end .confirmed) (end .stopped)) ≡ o
+  stands : (o : Standing) → standing end ≡ o → standing (at from to ok (end .confirmed) (end .stopped)) ≡ o
   stands o e = ap standing (sym shape) ∙ e
 
 pub done-all : DoneIsAll
 done-all from to events ok r = (
   λ e.
-      let here = stands from to events ok Outcome.Done e in
+      let here = stands from to events ok Standing.Done e in
       let last : length (dueSets from to) ≤ end from to events ok .confirmed = end-last from to ok _ (end from to events ok .stopped) (ap isEnd here) in
       let most : end from to events ok .confirmed ≤ length (dueSets from to) = few from to events ok in
       let some : 0 < end from to events ok .confirmed = more-than-none _ (done-some from to ok _ (end from to events ok .stopped) here) in
@@ -207,7 +207,7 @@ done-all from to events ok r = (
 pub equal-nothing : EqualIsNone
 equal-nothing from to events ok = (
   λ e.
-      let here = stands from to events ok Outcome.Equal e in
+      let here = stands from to events ok Standing.Equal e in
       let none : end from to events ok .confirmed ≡ 0 = equal-none from to ok _ (end from to events ok .stopped) here in
       let last : length (dueSets from to) ≤ end from to events ok .confirmed = end-last from to ok _ (end from to events ok .stopped) (ap isEnd here) in
       omega arith,

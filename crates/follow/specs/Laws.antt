@@ -5,8 +5,8 @@ use mathlib.Core.Path.{_≡_}
 use mathlib.Core.Logic.{_↔_}
 use mathlib.Core.Bool.{Bool, true, false, cond, _&&_}
 use mathlib.Core.List.{List, [], _∷_, map}
-use lib.ListN.{length, take, getD}
-use lib.Dec.{eqb, leb}
+use lib.ListN.{length}
+use lib.Dec.{eqb}
 use Rattle.laws.specs.Lists.{same}
 use Rattle.endian.specs.Numbers.{little}
 use Rattle.tables.specs.declared.Table.{Table}
@@ -15,12 +15,12 @@ use Rattle.answers.specs.Answers.{said}
 use Rattle.restore.specs.Order.{dueSets}
 use Rattle.restore.specs.Calls.{bothAllowed}
 use Rattle.restore.specs.declared.Wanted.{Wanted}
-use Rattle.reply.specs.Events.{Event, heard, refusedFrame, noAnswer, OnStream, isFlag}
+use Rattle.reply.specs.Events.{Event, heard, refusedFrame, noAnswer, OnStream, answers}
 use Rattle.follow.specs.Following.{standing, advanced, begun, followerAllowed}
 use Rattle.follow.specs.Calls.{starting, following}
 use Rattle.follow.specs.declared.Follower.{Follower}
 use Rattle.follow.specs.declared.Followed.{Followed}
-use Rattle.follow.specs.declared.Outcome.{Outcome}
+use Rattle.follow.specs.declared.Standing.{Standing}
 
 -- a follower after some events
 abbrev pub run : Follower → List Event → Follower
@@ -47,10 +47,9 @@ matches due (heard command bytes) = eqb command setCode && same bytes (ownData d
 matches due refusedFrame = false
 matches due noAnswer = false
 
--- no Set is due any more after a Set reply of the due id with a status, or silence
+-- no Set is due any more after any answer to it, or silence
 abbrev pub ends : Wanted → Event → Bool
-ends due (heard command bytes) =
-    eqb command setCode && (leb 3 (length bytes) && (same (take 2 bytes) (little 2 (due .setting .id)) && isFlag (getD bytes 2 0)))
+ends due (heard command bytes) = answers setCode (due .setting .id) command bytes
 ends due refusedFrame = false
 ends due noAnswer = true
 
@@ -79,13 +78,13 @@ CountIsTold =
 abbrev pub DoneIsAll : Type 0
 DoneIsAll =
     (from to : Table) (events : List Event) → bothAllowed from to ≡ true → OnStream events
-    → (standing (run (begun from to) events) ≡ Outcome.Done)
+    → (standing (run (begun from to) events) ≡ Standing.Done)
     ↔ ((0 < length (dueSets from to)) × (matched (dueSets from to) events ≡ length (dueSets from to)))
 
 abbrev pub EqualIsNone : Type 0
 EqualIsNone =
     (from to : Table) (events : List Event) → bothAllowed from to ≡ true
-    → (standing (run (begun from to) events) ≡ Outcome.Equal) ↔ (length (dueSets from to) ≡ 0)
+    → (standing (run (begun from to) events) ≡ Standing.Equal) ↔ (length (dueSets from to) ≡ 0)
 
 -- 4. A board that stores each Set of the list and says so has all of them confirmed.
 abbrev pub ownReply : Wanted → Event

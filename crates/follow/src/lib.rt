@@ -2,12 +2,12 @@
 // answer (specs/Calls.antt).
 ghost use mathlib.Core.Path.{_≡_};
 ghost use Rattle.reply.specs.Events.{heard, refusedFrame, noAnswer};
-ghost use Rattle.follow.specs.Calls.{starting, following};
+ghost use Rattle.follow.specs.Calls.{starting, told, following};
 use restore::Wanted;
 use tables::Table;
 
+mod effect;
 mod state;
-mod verdict;
 
 // A restore on its way: the two tables that it started from, how many of the list's Sets the board has confirmed, and whether it has
 // stopped. What is due, and whether all is done, follows from these.
@@ -20,7 +20,7 @@ pub struct Follower {
 
 // How far a restore is: a Set is due; the tables were equal; all Sets are confirmed; it stopped at a Set; or document 01's number of the
 // refusal.
-pub enum Outcome {
+pub enum Standing {
     Waiting(Wanted),
     Equal,
     Done,
@@ -31,7 +31,7 @@ pub enum Outcome {
 // The advanced follower, how far it is, and how many Sets are confirmed.
 pub struct Followed {
     pub follower: Follower,
-    pub outcome: Outcome,
+    pub standing: Standing,
     pub confirmed: usize,
 }
 
@@ -48,7 +48,14 @@ impl Follower {
         })
     }
 
-    // A frame as it was read from the stream: its command and its data. Refuses 12 for a follower that no start and events give.
+    // What is told of a follower, with nothing heard. Refuses 12 for one that no start and events give.
+    pub fn told(self) -> Followed
+        ensures { λ r. ⌜ r ≡ told self ⌝ }
+    {
+        state::told(self)
+    }
+
+    // A frame as it was read from the stream: its command and its data. Refuses 12 alike.
     pub fn reply(self, command: u8, bytes: &[u8]) -> Followed
         ensures { λ r. ⌜ r ≡ following self (heard command (now (bytes .entry))) ⌝ }
     {

@@ -1,4 +1,4 @@
-// The follower's state: whether it is one that a start and events give, how far it is, and what a verdict makes of it.
+// The follower's state: whether it is one that a start and events give, how far it is, and what an event makes of it.
 ghost use mathlib.Core.Path.{_≡_};
 ghost use mathlib.Core.Bool.{true, cond};
 ghost use lib.Dec.{eqb};
@@ -6,12 +6,12 @@ ghost use Rattle.reply.specs.Events.{heard, noAnswer};
 ghost use Rattle.follow.specs.Following.{standing, moved, advanced, followerAllowed};
 ghost use Rattle.follow.specs.AsHeld.{reached};
 ghost use Rattle.follow.specs.Calls as calls;
-ghost use Rattle.follow.specs.declared.Outcome.{Outcome};
+ghost use Rattle.follow.specs.declared.Standing.{Standing};
 use crate::Followed;
 use crate::Follower;
-use crate::Outcome;
-use crate::verdict;
-use crate::verdict::Verdict;
+use crate::Standing;
+use crate::effect;
+use crate::effect::Effect;
 use restore::Due;
 use restore::Wanted;
 use tables::Table;
@@ -46,34 +46,34 @@ pub(crate) fn is_allowed(follower: Follower) -> bool
 }
 
 // A Set is due, or was when the follower stopped.
-fn with_due(stopped: bool, due: Wanted) -> Outcome
-    ensures { λ r. ⌜ r ≡ cond stopped (Outcome.Stopped due) (Outcome.Waiting due) ⌝ }
+fn with_due(stopped: bool, due: Wanted) -> Standing
+    ensures { λ r. ⌜ r ≡ cond stopped (Standing.Stopped due) (Standing.Waiting due) ⌝ }
 {
     if stopped {
-        return Outcome::Stopped(due);
+        return Standing::Stopped(due);
     }
-    Outcome::Waiting(due)
+    Standing::Waiting(due)
 }
 
 // None is due: there was none, or all are confirmed.
-fn with_none(confirmed: usize) -> Outcome
-    ensures { λ r. ⌜ r ≡ cond (eqb confirmed 0) Outcome.Equal Outcome.Done ⌝ }
+fn with_none(confirmed: usize) -> Standing
+    ensures { λ r. ⌜ r ≡ cond (eqb confirmed 0) Standing.Equal Standing.Done ⌝ }
 {
     if confirmed == 0 {
-        return Outcome::Equal;
+        return Standing::Equal;
     }
-    Outcome::Done
+    Standing::Done
 }
 
 // How far a follower is.
-fn standing_of(follower: Follower) -> Outcome
+fn standing_of(follower: Follower) -> Standing
     ensures { λ r. ⌜ r ≡ standing follower ⌝ }
 {
     let due = restore::due_after(follower.from, follower.to, follower.confirmed);
     match due {
         Due::Set(wanted) => with_due(follower.stopped, wanted),
         Due::Nothing => with_none(follower.confirmed),
-        Due::Refused(number) => Outcome::Refused(number),
+        Due::Refused(number) => Standing::Refused(number),
     }
 }
 
@@ -91,30 +91,30 @@ fn with(follower: Follower, confirmed: usize, stopped: bool) -> Follower
     }
 }
 
-// What a follower that waits makes of a verdict on the Set that is due.
-fn moved_by(follower: Follower, verdict: Verdict) -> Follower
+// A follower that waited, after the effect of an event.
+fn moved_by(follower: Follower, effect: Effect) -> Follower
     requires { ⌜ followerAllowed follower ≡ true ⌝ }
-    ensures { λ r. ⌜ r ≡ moved follower verdict ⌝ }
+    ensures { λ r. ⌜ r ≡ moved follower effect ⌝ }
 {
-    match verdict {
-        Verdict::Confirms => with(follower, follower.confirmed + 1, follower.stopped),
-        Verdict::Stops => with(follower, follower.confirmed, true),
-        Verdict::Waits => follower,
+    match effect {
+        Effect::Confirms => with(follower, follower.confirmed + 1, follower.stopped),
+        Effect::Stops => with(follower, follower.confirmed, true),
+        Effect::Waits => follower,
     }
 }
 
-// A frame heard: one that waits takes its verdict, an ended one stays.
+// A frame heard: it has its effect on one that waits, and an ended one stays.
 pub(crate) fn hearing(follower: Follower, command: u8, bytes: &[u8]) -> Follower
     requires { ⌜ followerAllowed follower ≡ true ⌝ }
     ensures { λ r. ⌜ r ≡ advanced follower (heard command (now (bytes .entry))) ⌝ }
 {
-    let outcome = standing_of(follower);
-    match outcome {
-        Outcome::Waiting(due) => moved_by(follower, verdict::on_reply(due, command, bytes)),
-        Outcome::Equal => follower,
-        Outcome::Done => follower,
-        Outcome::Stopped(_) => follower,
-        Outcome::Refused(_) => follower,
+    let standing = standing_of(follower);
+    match standing {
+        Standing::Waiting(due) => moved_by(follower, effect::on_reply(due, command, bytes)),
+        Standing::Equal => follower,
+        Standing::Done => follower,
+        Standing::Stopped(_) => follower,
+        Standing::Refused(_) => follower,
     }
 }
 
@@ -123,13 +123,13 @@ pub(crate) fn unheard(follower: Follower) -> Follower
     requires { ⌜ followerAllowed follower ≡ true ⌝ }
     ensures { λ r. ⌜ r ≡ advanced follower noAnswer ⌝ }
 {
-    let outcome = standing_of(follower);
-    match outcome {
-        Outcome::Waiting(_) => moved_by(follower, Verdict::Stops),
-        Outcome::Equal => follower,
-        Outcome::Done => follower,
-        Outcome::Stopped(_) => follower,
-        Outcome::Refused(_) => follower,
+    let standing = standing_of(follower);
+    match standing {
+        Standing::Waiting(_) => moved_by(follower, Effect::Stops),
+        Standing::Equal => follower,
+        Standing::Done => follower,
+        Standing::Stopped(_) => follower,
+        Standing::Refused(_) => follower,
     }
 }
 
@@ -139,7 +139,7 @@ pub(crate) fn answered(follower: Follower) -> Followed
 {
     Followed {
         follower,
-        outcome: standing_of(follower),
+        standing: standing_of(follower),
         confirmed: follower.confirmed,
     }
 }
@@ -150,7 +150,7 @@ pub(crate) fn refused(follower: Follower) -> Followed
 {
     Followed {
         follower,
-        outcome: Outcome::Refused(paper::NOT_ALLOWED),
+        standing: Standing::Refused(paper::NOT_ALLOWED),
         confirmed: 0,
     }
 }

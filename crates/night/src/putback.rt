@@ -6,7 +6,7 @@ use crate::line::Ends;
 use crate::reading;
 use crate::restoring;
 use crate::words;
-use collect::Outcome;
+use collect::Stage;
 use tables::Table;
 
 // Opens the line first: where the two words are swapped, the device is not read as a file.
@@ -42,12 +42,12 @@ fn put_back(ends: Ends) {
 fn restore(ends: Ends, to: Table) {
     words::say(ends.report, b"reading the board");
     let collected = reading::settings_of(ends, false);
-    let outcome = collected.outcome;
-    match outcome {
-        Outcome::Done => send(ends, collected.table, to),
-        Outcome::Waiting(_) => reading::tell_end(ends.report, collected),
-        Outcome::Stopped(_) => reading::tell_end(ends.report, collected),
-        Outcome::Refused(_) => reading::tell_end(ends.report, collected),
+    let stage = collected.stage;
+    match stage {
+        Stage::Done => send(ends, collected.table, to),
+        Stage::Waiting(_) => reading::tell_end(ends.report, collected),
+        Stage::Stopped(_) => reading::tell_end(ends.report, collected),
+        Stage::Refused(_) => reading::tell_end(ends.report, collected),
     }
 }
 

@@ -6,18 +6,18 @@ use crate::talk::Request;
 use crate::words;
 use collect::Collected;
 use collect::Collector;
-use collect::Outcome;
+use collect::Stage;
 use lines::Line;
 use listen::Told;
 
 // The setting that the collector asks for.
 pub(crate) fn due(collected: Collected) -> Request {
-    let outcome = collected.outcome;
-    match outcome {
-        Outcome::Waiting(setting) => Request::Get(setting.id),
-        Outcome::Done => Request::Nothing,
-        Outcome::Stopped(_) => Request::Nothing,
-        Outcome::Refused(_) => Request::Nothing,
+    let stage = collected.stage;
+    match stage {
+        Stage::Waiting(setting) => Request::Get(setting.id),
+        Stage::Done => Request::Nothing,
+        Stage::Stopped(_) => Request::Nothing,
+        Stage::Refused(_) => Request::Nothing,
     }
 }
 
@@ -62,9 +62,9 @@ pub(crate) fn settings_of(ends: Ends, shown: bool) -> Collected {
 // Says how far the reading has come, in the collector's own words, and where it stopped.
 pub(crate) fn tell_end(report: i32, collected: Collected) {
     let collector = collected.collector;
-    let outcome = collected.outcome;
+    let stage = collected.stage;
     words::add(report, sentences::collected(collector));
-    if let Outcome::Stopped(setting) = outcome {
+    if let Stage::Stopped(setting) = stage {
         let title = names::put_title(Line::start().put(b"; at "), setting.index);
         words::add(report, title.put(b": no answer or none that fits"));
     }

@@ -9,7 +9,7 @@ use crate::talk::Talk;
 use crate::words;
 use follow::Followed;
 use follow::Follower;
-use follow::Outcome;
+use follow::Standing;
 use lines::Line;
 use listen::Told;
 use restore::Due;
@@ -18,13 +18,13 @@ use tables::Table;
 
 // The Set that is due.
 pub(crate) fn due(followed: Followed) -> Request {
-    let outcome = followed.outcome;
-    match outcome {
-        Outcome::Waiting(wanted) => Request::Set(wanted),
-        Outcome::Equal => Request::Nothing,
-        Outcome::Done => Request::Nothing,
-        Outcome::Stopped(_) => Request::Nothing,
-        Outcome::Refused(_) => Request::Nothing,
+    let standing = followed.standing;
+    match standing {
+        Standing::Waiting(wanted) => Request::Set(wanted),
+        Standing::Equal => Request::Nothing,
+        Standing::Done => Request::Nothing,
+        Standing::Stopped(_) => Request::Nothing,
+        Standing::Refused(_) => Request::Nothing,
     }
 }
 
@@ -52,9 +52,9 @@ pub(crate) fn told_to(followed: Followed, told: Told, data: &[u8]) -> Followed {
 
 // Shows the Set that was just confirmed, and by the follower's own count how many are.
 pub(crate) fn show(report: i32, before: Followed, after: Followed) {
-    let outcome = before.outcome;
+    let standing = before.standing;
     let follower = after.follower;
-    let Outcome::Waiting(wanted) = outcome else {
+    let Standing::Waiting(wanted) = standing else {
         return;
     };
     let setting = wanted.setting;
@@ -106,9 +106,9 @@ pub(crate) fn follow(ends: Ends, from: Table, to: Table, shown: bool) -> Talk {
 pub(crate) fn tell_end(report: i32, restored: Talk) {
     let followed = restored.followed;
     let follower = followed.follower;
-    let outcome = followed.outcome;
+    let standing = followed.standing;
     words::add(report, sentences::followed(follower));
-    if let Outcome::Stopped(wanted) = outcome {
+    if let Standing::Stopped(wanted) = standing {
         let said = restored.said;
         tell_stop(report, wanted, said, restored.len);
     }

@@ -5,7 +5,7 @@ use crate::reading;
 use crate::words;
 use collect::Collected;
 use collect::Collector;
-use collect::Outcome;
+use collect::Stage;
 use sentences::Kept;
 
 // Reads all settings, and writes the file once all were answered.
@@ -31,15 +31,15 @@ fn unsaved(report: i32) {
 fn kept(report: i32, collected: Collected) {
     let mut path = io::buffer();
     let len = os::arg(words::SECOND, &mut path);
-    let outcome = collected.outcome;
-    match outcome {
-        Outcome::Done => {
+    let stage = collected.stage;
+    match stage {
+        Stage::Done => {
             let kept = file::keep(&path[..len], collected.table);
             tell(report, collected, kept, &path[..len]);
         }
-        Outcome::Waiting(_) => tell(report, collected, Kept::Not, b""),
-        Outcome::Stopped(_) => tell(report, collected, Kept::Not, b""),
-        Outcome::Refused(_) => tell(report, collected, Kept::Not, b""),
+        Stage::Waiting(_) => tell(report, collected, Kept::Not, b""),
+        Stage::Stopped(_) => tell(report, collected, Kept::Not, b""),
+        Stage::Refused(_) => tell(report, collected, Kept::Not, b""),
     }
 }
 

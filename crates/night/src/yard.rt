@@ -9,7 +9,7 @@ use crate::rows;
 use crate::rows::State;
 use crate::words;
 use collect::Collected;
-use collect::Outcome;
+use collect::Stage;
 use tables::Table;
 use tally::Counted;
 use tally::Tally;
@@ -71,7 +71,7 @@ fn listed(tally: Tally, row: &[u8]) -> Tally {
     let path_end = rows::next(row, path, true);
     let kept = rows::next(row, path_end, false);
     if row.len() <= kept {
-        return unread(
+        return not_begun(
             tally,
             &row[name..],
             b"not begun: a row has a name, a line and a file, blanks between",
@@ -86,10 +86,10 @@ fn listed(tally: Tally, row: &[u8]) -> Tally {
 }
 
 // A trailer that is not begun, and why.
-fn unread(tally: Tally, name: &[u8], why: &[u8]) -> Tally {
+fn not_begun(tally: Tally, name: &[u8], why: &[u8]) -> Tally {
     words::name(OUT, name);
     words::say(OUT, why);
-    sums_with(name, tally.unread())
+    sums_with(name, tally.not_begun())
 }
 
 // The sums with a trailer; one that they refuse is told, so that none is lost without a word.
@@ -108,14 +108,14 @@ fn sums_with(name: &[u8], counted: Counted) -> Tally {
 // One trailer. Its line is opened first: where line and file are swapped, the device is not read as a file.
 fn trailer(tally: Tally, name: &[u8], path: &[u8], kept: &[u8]) -> Tally {
     if check::same(path, b"-") {
-        return unread(tally, name, b"not begun: in a yard a line is a device");
+        return not_begun(tally, name, b"not begun: in a yard a line is a device");
     }
     let ends = line::open(path);
     if ends.file {
-        return unread(tally, name, b"not begun: its line is a file and no line");
+        return not_begun(tally, name, b"not begun: its line is a file and no line");
     }
     if !ends.open {
-        return unread(tally, name, b"not begun: its line cannot be opened");
+        return not_begun(tally, name, b"not begun: its line cannot be opened");
     }
     let after = begun(tally, name, ends, kept);
     line::close(ends);
@@ -126,7 +126,7 @@ fn trailer(tally: Tally, name: &[u8], path: &[u8], kept: &[u8]) -> Tally {
 fn begun(tally: Tally, name: &[u8], ends: Ends, kept: &[u8]) -> Tally {
     let text = file::read(kept);
     if !text.is {
-        return unread(tally, name, b"not begun: its file cannot be read");
+        return not_begun(tally, name, b"not begun: its file cannot be read");
     }
     let backup = text.backup;
     let verdict = backup.verdict;
@@ -134,7 +134,7 @@ fn begun(tally: Tally, name: &[u8], ends: Ends, kept: &[u8]) -> Tally {
     if !file::is_good(verdict) {
         words::name(OUT, name);
         checks::tell(OUT, verdict);
-        return sums_with(name, tally.unread());
+        return sums_with(name, tally.not_begun());
     }
     restore(tally, name, ends, table)
 }
@@ -142,12 +142,12 @@ fn begun(tally: Tally, name: &[u8], ends: Ends, kept: &[u8]) -> Tally {
 // Reads the board, and restores it if all its settings were answered.
 fn restore(tally: Tally, name: &[u8], ends: Ends, to: Table) -> Tally {
     let collected = reading::settings_of(ends, false);
-    let outcome = collected.outcome;
-    match outcome {
-        Outcome::Done => follow(tally, name, ends, collected.table, to),
-        Outcome::Waiting(_) => silent(tally, name, collected),
-        Outcome::Stopped(_) => silent(tally, name, collected),
-        Outcome::Refused(_) => silent(tally, name, collected),
+    let stage = collected.stage;
+    match stage {
+        Stage::Done => follow(tally, name, ends, collected.table, to),
+        Stage::Waiting(_) => silent(tally, name, collected),
+        Stage::Stopped(_) => silent(tally, name, collected),
+        Stage::Refused(_) => silent(tally, name, collected),
     }
 }
 

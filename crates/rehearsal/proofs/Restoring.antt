@@ -44,7 +44,7 @@ use Rattle.follow.specs.Calls.{answered, following}
 use Rattle.follow.specs.Laws.{run}
 use Rattle.follow.specs.declared.Follower.{Follower}
 use Rattle.follow.specs.declared.Followed.{Followed}
-use Rattle.follow.proofs.Standing.{following-good}
+use Rattle.follow.proofs.Standings.{following-good}
 use Rattle.follow.proofs.Counting.{Goes, goes-far}
 use Rattle.demands.specs.Talk.{boardAt}
 use Rattle.demands.specs.Demand3.{eventFor}

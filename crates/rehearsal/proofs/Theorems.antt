@@ -24,8 +24,8 @@ use Rattle.follow.specs.Calls.{answered, starting}
 use Rattle.follow.specs.Laws.{run}
 use Rattle.follow.specs.declared.Follower.{Follower}
 use Rattle.follow.specs.declared.Followed.{Followed}
-use Rattle.follow.specs.declared.Outcome.{Outcome}
-use Rattle.follow.proofs.Standing.{standing-is, told-good}
+use Rattle.follow.specs.declared.Standing.{Standing}
+use Rattle.follow.proofs.Standings.{standing-is, told-good}
 use Rattle.follow.proofs.Counting.{all-done, begins}
 use Rattle.follow.proofs.Theorems.{all-are-confirmed}
 use Rattle.demands.proofs.Listing.{listed, due-in}
@@ -78,14 +78,14 @@ rehearsal-restores board to size ok quiet to-ok some chars long to-long =
     (starts-as from to both-ok) (begins from to both-ok) left few in
     let last : Follower = record { from = from; to = to; confirmed = length (dueSets from to); stopped = false } in
     let followed : fed board to size .followed ≡ answered last = ends .followed-is ∙ ap answered (all-heard from to both-ok) in
-    let stands : standing last ≡ cond (eqb (length (dueSets from to)) 0) Outcome.Equal Outcome.Done =
+    let stands : standing last ≡ cond (eqb (length (dueSets from to)) 0) Standing.Equal Standing.Done =
     sym (standing-is last _ (all-done from to both-ok (length (dueSets from to)) (omega arith))) in
     rw (rehearsed-as board to size ready both-ok)
     (record {
       board-is =
           ends .board-is
           ∙ (λ i. record { core = withTable (board .core) (restores .wanted-stands i); held = sym at-rest i });
-      outcome-is = ap (λ (f : Followed). f .outcome) followed ∙ stands ∙ ap (λ (n : ℕ). cond (eqb n 0) Outcome.Equal Outcome.Done) (sets-are-differing from to);
+      outcome-is = ap (λ (f : Followed). f .standing) followed ∙ stands ∙ ap (λ (n : ℕ). cond (eqb n 0) Standing.Equal Standing.Done) (sets-are-differing from to);
       all-confirmed = ap (λ (f : Followed). f .confirmed) followed ∙ sets-are-differing from to;
     })
 

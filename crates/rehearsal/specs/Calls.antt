@@ -17,7 +17,7 @@ use Rattle.reply.specs.Events.{heard, refusedFrame}
 use Rattle.restore.specs.Order.{dueSets}
 use Rattle.restore.specs.Calls.{bothAllowed, framesFor}
 use Rattle.follow.specs.Calls.{starting, following}
-use Rattle.follow.specs.declared.Outcome.{Outcome}
+use Rattle.follow.specs.declared.Standing.{Standing}
 use Rattle.follow.specs.declared.Followed.{Followed}
 use Rattle.rehearsal.specs.declared.Rehearsed.{Rehearsed}
 use Rattle.rehearsal.specs.declared.line.Turn.{Turn}
@@ -52,11 +52,11 @@ isReady board size = ltb 0 size && (not (board .held .inside) && boardAllowed bo
 
 -- the board, how far its restore is, and the number confirmed
 abbrev pub ended : Turn → Rehearsed
-ended t = record { board = t .board; outcome = t .followed .outcome; confirmed = t .followed .confirmed }
+ended t = record { board = t .board; outcome = t .followed .standing; confirmed = t .followed .confirmed }
 
 -- 12: "a state handed in comes back as it was, with counts and lengths 0"
 abbrev pub unrehearsed : Board → Rehearsed
-unrehearsed board = record { board = board; outcome = Outcome.Refused notAllowed; confirmed = zero }
+unrehearsed board = record { board = board; outcome = Standing.Refused notAllowed; confirmed = zero }
 
 -- the whole list fed to the board, in as many calls as it has bytes at most
 abbrev pub listFor : Board → Table → List ℕ

@@ -12,7 +12,7 @@ use Rattle.answers.specs.Answers.{withTable}
 use Rattle.board.specs.Parts.{boardAllowed}
 use Rattle.board.specs.declared.Board.{Board}
 use Rattle.restore.specs.Order.{differs}
-use Rattle.follow.specs.declared.Outcome.{Outcome}
+use Rattle.follow.specs.declared.Standing.{Standing}
 use Rattle.rehearsal.specs.Calls.{unrehearsed, rehearsed}
 use Rattle.rehearsal.specs.declared.Rehearsed.{Rehearsed}
 
@@ -25,7 +25,7 @@ differing (suc n) from to = differing n from to + cond (differs from to n) 1 0
 -- done, or as equal where no setting differed, and confirmed is the number of settings that differed. In all else the board is as it was.
 pub record Restored (board : Board) (to : Table) (r : Rehearsed) : Type 0 where
   pub board-is : r .board ≡ record { core = withTable (board .core) to; held = board .held }
-  pub outcome-is : r .outcome ≡ cond (eqb (differing count (board .core .table) to) 0) Outcome.Equal Outcome.Done
+  pub outcome-is : r .outcome ≡ cond (eqb (differing count (board .core .table) to) 0) Standing.Equal Standing.Done
   pub all-confirmed : r .confirmed ≡ differing count (board .core .table) to
 
 -- (Arrays have their lengths in every value of their types, which `length` says.)

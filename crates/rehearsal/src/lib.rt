@@ -4,7 +4,7 @@ ghost use mathlib.Core.Path.{_≡_};
 ghost use Rattle.rehearsal.specs.Calls.{isReady, ended, unrehearsed, rehearsed};
 use board::Board;
 use follow::Follower;
-use follow::Outcome;
+use follow::Standing;
 use restore::Listed;
 use tables::Table;
 
@@ -14,7 +14,7 @@ mod numbers;
 // The board as it is afterwards, how far its restore is, and how many Sets are confirmed.
 pub struct Rehearsed {
     pub board: Board,
-    pub outcome: Outcome,
+    pub outcome: Standing,
     pub confirmed: usize,
 }
 
@@ -57,7 +57,7 @@ fn ended(turn: line::Turn) -> Rehearsed
 {
     let board = turn.board;
     let followed = turn.followed;
-    let outcome = followed.outcome;
+    let outcome = followed.standing;
     Rehearsed {
         board,
         outcome,
@@ -71,7 +71,7 @@ fn refused(board: Board) -> Rehearsed
 {
     Rehearsed {
         board,
-        outcome: Outcome::Refused(paper::NOT_ALLOWED),
+        outcome: Standing::Refused(paper::NOT_ALLOWED),
         confirmed: 0,
     }
 }

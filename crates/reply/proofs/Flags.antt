@@ -1,16 +1,22 @@
--- The flags of the statuses. Assumes nothing.
-use mathlib.Core.Path.{_≡_, refl}
-use mathlib.Core.Logic.{⊎-elim}
-use mathlib.Core.Bool.{true, _||_}
+-- The flags of the statuses, and the frames that answer a request. Assumes nothing.
+use mathlib.Core.Path.{_≡_, refl, sym, ap, _∙_}
+use mathlib.Core.Logic.{_≢_, ⊎-elim}
+use mathlib.Core.Bool.{Bool, true, false, _&&_, _||_}
+use mathlib.Core.List.{List}
 use Prim.Native.Nat.{ℕ}
-use borrow.Author.Tests.{eqb-true}
+use native.Mathlib.Omega.{arith}
+use borrow.Author.Tests.{eq-eqb, eqb-true}
+use lib.ListN.{getD}
 use lib.Dec.{eqb}
-use Rattle.laws.proofs.Bools.{or-cases}
-use Rattle.reply.specs.Replies.{flagOf}
-use Rattle.reply.specs.Events.{isFlag}
+use Rattle.laws.specs.Lists.{same}
+use Rattle.laws.proofs.Bools.{and-left, and-right, or-cases, both}
+use Rattle.laws.proofs.Lists.{same-back, same-self}
+use Rattle.answers.specs.Answers.{said}
+use Rattle.reply.specs.Replies.{flagOf, rest}
+use Rattle.reply.specs.Events.{isFlag, answers}
 use Rattle.reply.specs.declared.Status.{Status}
 
-pub status-of : (flag : ℕ) → isFlag flag ≡ true → (status : Status) × (flag ≡ flagOf status)
+status-of : (flag : ℕ) → isFlag flag ≡ true → (status : Status) × (flag ≡ flagOf status)
 status-of flag e =
     ⊎-elim (λ is. (Status.Good, eqb-true _ _ is))
     (λ e1. ⊎-elim (λ is. (Status.UnknownId, eqb-true _ _ is))
@@ -18,8 +24,36 @@ status-of flag e =
     (or-cases (eqb flag 1) (eqb flag 2 || eqb flag 4) e1))
     (or-cases (eqb flag 0) (eqb flag 1 || (eqb flag 2 || eqb flag 4)) e)
 
-pub flag-status : (status : Status) → isFlag (flagOf status) ≡ true
+flag-status : (status : Status) → isFlag (flagOf status) ≡ true
 flag-status Status.Good = refl
 flag-status Status.UnknownId = refl
 flag-status Status.NotSupported = refl
 flag-status Status.ParameterError = refl
+
+-- flag 00 is that of one status
+pub flag-good : (status : Status) → flagOf status ≡ 0 → status ≡ Status.Good
+flag-good Status.Good e = refl
+flag-good Status.UnknownId e = absurd (omega arith)
+flag-good Status.NotSupported e = absurd (omega arith)
+flag-good Status.ParameterError e = absurd (omega arith)
+
+module _ (code id command : ℕ) (bytes : List ℕ) where
+  pub said-answers : (status : Status) → command ≡ code → bytes ≡ said id (flagOf status) (rest bytes) → answers code id command bytes ≡ true
+  unfolding answers
+  said-answers status is are =
+      let flag : getD bytes 2 0 ≡ flagOf status = ap (λ (l : List ℕ). getD l 2 0) are in
+      both _ _ (eq-eqb command code is) (rw flag (both _ _ (ap (same bytes) (sym are) ∙ same-self bytes) (flag-status status)))
+
+  pub none-answers : ((status : Status) → command ≡ code → bytes ≢ said id (flagOf status) (rest bytes)) → answers code id command bytes ≡ false
+  unfolding answers
+  none-answers none = by (answers code id command bytes) refl
+    where
+      by : (b : Bool) → answers code id command bytes ≡ b → b ≡ false
+      by true e =
+          let inside = and-right (eqb command code) _ e in
+          let whole : Bool = same bytes (said id (getD bytes 2 0) (rest bytes)) in
+          let some = status-of (getD bytes 2 0) (and-right whole _ inside) in
+          absurd
+          (none (some .0) (eqb-true _ _ (and-left (eqb command code) _ e))
+          (same-back bytes (said id (getD bytes 2 0) (rest bytes)) (and-left whole _ inside) ∙ ap (λ (f : ℕ). said id f (rest bytes)) (some .1)))
+      by false e = refl

@@ -5,6 +5,7 @@ pub mod Hearing
 pub mod Origins
 pub mod Measures
 pub mod Lengths
+pub mod Heeding
 pub mod Flags
 pub mod Theorems
 pub mod Same

@@ -1,7 +1,8 @@
 -- The statements of specs/Laws.antt, proved. Assumes nothing.
-use Rattle.reply.specs.Laws.{SaidIsRead, DoneIsRead, UnknownIsRead, ErrorIsRead, PingIsRead, ReadIsFrom, ReadIsSaid, ToldIsLong, NarrowIsShown, WideIsShown, PlainIsShown, BoardIsShown}
+use Rattle.reply.specs.Laws.{SaidIsRead, DoneIsRead, UnknownIsRead, ErrorIsRead, PingIsRead, ReadIsFrom, ReadIsSaid, ToldIsLong, HeedIsSaid, HeededIsLong, NarrowIsShown, WideIsShown, PlainIsShown, BoardIsShown}
 use Rattle.reply.proofs.Hearing.{said-read, done-read, unknown-read, error-read, ping-read}
 use Rattle.reply.proofs.Origins.{read-from, read-said}
+use Rattle.reply.proofs.Heeding.{heed-said, heeded-long}
 use Rattle.reply.proofs.Measures.{narrow-shown, wide-shown, plain-shown, board-shown}
 use Rattle.reply.proofs.Lengths.{told-long}
 
@@ -40,3 +41,9 @@ board-is-shown = board-shown
 
 pub told-is-long : ToldIsLong
 told-is-long = told-long
+
+pub heed-is-said : HeedIsSaid
+heed-is-said = heed-said
+
+pub heeded-is-long : HeededIsLong
+heeded-is-long = heeded-long

@@ -2,6 +2,7 @@
 -- Assumes nothing.
 use Prim.Native.Nat.{ℕ, _*_, _^_, _≤_, _<_}
 use mathlib.Core.Path.{_≡_}
+use mathlib.Core.Logic.{_≢_, _⊎_}
 use mathlib.Core.Bool.{Bool, true, false, cond, _||_}
 use mathlib.Core.List.{List, [], _∷_}
 use mathlib.Core.Option.{some}
@@ -18,9 +19,10 @@ use Rattle.who.specs.declared.Identity.{Identity}
 use Rattle.who.specs.declared.Readings.{Readings}
 use Rattle.reply.specs.Replies.{flagOf, rest}
 use Rattle.reply.specs.Units.{over}
-use Rattle.reply.specs.Calls.{reading, showing}
+use Rattle.reply.specs.Calls.{reading, heeding, showing}
 use Rattle.reply.specs.declared.Status.{Status}
 use Rattle.reply.specs.declared.Reply.{Reply}
+use Rattle.reply.specs.declared.Heeded.{Heeded}
 use Rattle.reply.specs.declared.Shown.{Shown}
 
 -- 1. What a board says is read back. `said` is the board's own: an id, a flag and a value; the kind, the status, the id and the
@@ -88,7 +90,23 @@ isTold (Reply.Refused number) = false
 abbrev pub ToldIsLong : Type 0
 ToldIsLong = (command : ℕ) (bytes : List ℕ) → isTold (reading command bytes) ≡ true → 3 ≤ length bytes
 
--- 3. A reading that a board sends is shown as its whole number, divided once. (`mag` is the distance to 0, or of a negative number to -1: twice
+-- 3. What a frame says to the Get or Set of an id that is due, in bytes: good exactly where the command is the code asked and the data are
+-- the id, flag 00 and a value; bad where the flag is that of another status; and else it waits.
+pub data Says (code id command : ℕ) (bytes : List ℕ) : Heeded → Type 0 where
+  says-good : command ≡ code → bytes ≡ said id 0 (rest bytes) → Says code id command bytes Heeded.Good
+  says-bad : {status : Status} → status ≢ Status.Good → command ≡ code → bytes ≡ said id (flagOf status) (rest bytes) → Says code id command bytes (Heeded.Bad status)
+  says-nothing : ((status : Status) → command ≡ code → bytes ≢ said id (flagOf status) (rest bytes)) → Says code id command bytes Heeded.Waits
+
+abbrev pub HeedIsSaid : Type 0
+HeedIsSaid =
+    (code id command : ℕ) (bytes : List ℕ) → (code ≡ paper.getCode) ⊎ (code ≡ paper.setCode) → id < 256 ^ 2 → Bytes bytes
+    → Says code id command bytes (heeding code id command bytes)
+
+-- and what does not wait has the first three bytes, whatever the data are
+abbrev pub HeededIsLong : Type 0
+HeededIsLong = (code id command : ℕ) (bytes : List ℕ) → heeding code id command bytes ≢ Heeded.Waits → 3 ≤ length bytes
+
+-- 4. A reading that a board sends is shown as its whole number, divided once. (`mag` is the distance to 0, or of a negative number to -1: twice
 -- it below 256 ^ 2 is any number of 16 bits with a sign.)
 pub record Narrow (x : ℤ) : Type 0 where
   pub volts-shown : showing paper.voltageId (little 2 (complement 2 x)) ≡ Shown.Volts (over x 100)

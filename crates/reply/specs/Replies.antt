@@ -9,6 +9,7 @@ use Rattle.paper.specs.Numbers as paper
 use Rattle.endian.specs.Numbers.{fromLittle}
 use Rattle.reply.specs.declared.Status.{Status}
 use Rattle.reply.specs.declared.Reply.{Reply}
+use Rattle.reply.specs.declared.Heeded.{Heeded}
 use Rattle.reply.specs.declared.kinds.Front.{Front}
 
 -- "flags 00, 01, 02 or 04"
@@ -54,3 +55,21 @@ naming bytes = cond (eqb (length bytes) 1) (Reply.Unknown (getD bytes 0 0)) malf
 -- "4 and 5 two bytes"
 unfoldable pub numbering : (ℕ → Reply) → List ℕ → Reply
 numbering kind bytes = cond (eqb (length bytes) 2) (kind (fromLittle bytes)) malformed
+
+-- a status, as an answer to the request that is due
+abbrev pub flagged : Status → Heeded
+flagged Status.Good = Heeded.Good
+flagged Status.UnknownId = Heeded.Bad Status.UnknownId
+flagged Status.NotSupported = Heeded.Bad Status.NotSupported
+flagged Status.ParameterError = Heeded.Bad Status.ParameterError
+
+-- a reply about the id that is due has a status; "all other replies, [..] and refused frames included, keep waiting"
+abbrev pub about : ℕ → Reply → Heeded
+about due Reply.Done = Heeded.Waits
+about due (Reply.Unknown command) = Heeded.Waits
+about due (Reply.Error code) = Heeded.Waits
+about due (Reply.Ping version) = Heeded.Waits
+about due (Reply.Get status id) = cond (eqb id due) (flagged status) Heeded.Waits
+about due (Reply.Set status id) = cond (eqb id due) (flagged status) Heeded.Waits
+about due (Reply.Async status id) = cond (eqb id due) (flagged status) Heeded.Waits
+about due (Reply.Refused number) = Heeded.Waits

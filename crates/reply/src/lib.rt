@@ -1,8 +1,9 @@
-// What the box makes of a frame that it has read: the kind of reply, and a reading in its unit. Both calls take anything, and their
-// promises fix their answers (specs/Calls.antt).
+// What the box makes of a frame that it has read: the kind of reply, what it says to the request that is due, and a reading in its unit.
+// Every call takes anything, and its promise fixes its answer (specs/Calls.antt).
 ghost use mathlib.Core.Path.{_≡_};
-ghost use Rattle.reply.specs.Calls.{reading, showing};
+ghost use Rattle.reply.specs.Calls.{reading, heeding, showing};
 
+mod due;
 mod kinds;
 mod numbers;
 mod units;
@@ -28,6 +29,14 @@ pub enum Reply {
     Refused(u8),
 }
 
+// What a frame says to the request that is due: nothing, so that the box waits on; that all is good; or a status other than that. The value
+// of the last two is the rest of the data, after the first three bytes.
+pub enum Heeded {
+    Waits,
+    Good,
+    Bad(Status),
+}
+
 // A reading in its unit, or document 01's number of the refusal.
 pub enum Shown {
     Volts(f64),
@@ -51,6 +60,17 @@ pub fn read(command: u8, bytes: &[u8]) -> Reply
         paper::ASYNC => kinds::told(bytes),
         _ => Reply::Refused(paper::UNKNOWN_COMMAND),
     }
+}
+
+// What a frame of this command and these data says to the request of a code and an id that is due: a reply of that code and that id has a
+// status, and everything else waits.
+pub fn heed(code: u8, id: u16, command: u8, bytes: &[u8]) -> Heeded
+    ensures { λ r. ⌜ r ≡ heeding code id command (now (bytes .entry)) ⌝ }
+{
+    if command != code {
+        return Heeded::Waits;
+    }
+    due::of_kind(id, read(command, bytes))
 }
 
 // The reading that a value of this id is: 7 for an id that is no reading, then 9 for a wrong width.

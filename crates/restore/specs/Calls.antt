@@ -14,6 +14,7 @@ use Rattle.restore.specs.Order.{dueSets}
 use Rattle.restore.specs.declared.Wanted.{Wanted}
 use Rattle.restore.specs.declared.Due.{Due}
 use Rattle.restore.specs.declared.Listed.{Listed}
+use Rattle.restore.specs.declared.Sets.{Sets}
 
 -- both tables are allowed
 abbrev pub bothAllowed : Table → Table → Bool
@@ -37,6 +38,10 @@ listedAs due = record { answer = Listed.List (length (framesFor due)) (length du
 unfoldable pub listing : Table → Table → ℕ → Given Listed
 listing from to room =
     cond (ltb room listRoom) (unlisted paper.shortBuffer) (cond (bothAllowed from to) (listedAs (dueSets from to)) (unlisted paper.notAllowed))
+
+-- how many Sets there are
+unfoldable pub setsDue : Table → Table → Sets
+setsDue from to = cond (bothAllowed from to) (Sets.Due (length (dueSets from to))) (Sets.Refused paper.notAllowed)
 
 -- the Set that is due when this many before it are done, or none
 abbrev pub dueAfter : List Wanted → ℕ → Due

@@ -3,7 +3,7 @@
 ghost use mathlib.Core.Path.{_≡_};
 ghost use lib.ListN.{length};
 ghost use Rattle.laws.specs.Promise.{Gives};
-ghost use Rattle.restore.specs.Calls.{listing, dueIn};
+ghost use Rattle.restore.specs.Calls.{listing, setsDue, dueIn};
 ghost use Rattle.restore.specs.declared.Listed.{Listed};
 use settings::Setting;
 use tables::Table;
@@ -25,13 +25,19 @@ pub enum Due {
     Refused(u8),
 }
 
+// The number of Sets that are due, or of the refusal.
+pub enum Sets {
+    Due(usize),
+    Refused(u8),
+}
+
 // The list's length in bytes and its number of Sets, or the number of the refusal.
 pub enum Listed {
     List { len: usize, sets: usize },
     Refused(u8),
 }
 
-// Writes the Sets that turn the table `from` into `to`, frame after frame, to the front of `out`. Refuses 11 under 390 bytes of room, then
+// Writes the Sets that turn the table `from` into `to`, frame after frame, to the front of `out`. Refuses 11 under 15 bytes of room for each setting, then
 // 12 for a table that is not allowed; then nothing is written.
 pub fn list(from: Table, to: Table, out: &mut [u8]) -> Listed
     ensures { λ r. ⌜ Gives Listed (listing from to (length (now (out .entry)))) (now (out .entry)) r (now (out .exit)) ⌝ }
@@ -46,6 +52,16 @@ pub fn list(from: Table, to: Table, out: &mut [u8]) -> Listed
     let sets = row.len;
     let len = writer::put_sets(row, to, out);
     Listed::List { len, sets }
+}
+
+// How many Sets turn the table `from` into `to`. Refuses 12 for a table that is not allowed.
+pub fn sets_due(from: Table, to: Table) -> Sets
+    ensures { λ r. ⌜ r ≡ setsDue from to ⌝ }
+{
+    if !order::both_allowed(from, to) {
+        return Sets::Refused(paper::NOT_ALLOWED);
+    }
+    Sets::Due(order::row_of(from, to).len)
 }
 
 // The Set that is due once this many before it are done: nothing after the last. Refuses 12 for a table that is not allowed.

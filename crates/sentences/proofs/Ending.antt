@@ -8,20 +8,21 @@ use borrow.Author.Tests.{ltb-true, leb-true, eqb-true}
 use lib.Dec.{ltb, leb, eqb}
 use Rattle.laws.proofs.Bools.{and-left, and-right}
 use Rattle.restore.specs.Order.{wanted}
-use Rattle.restore.specs.Calls.{bothAllowed, dueIn}
+use Rattle.restore.specs.Calls.{bothAllowed, setsDue, dueIn}
 use Rattle.restore.specs.Laws.{Tells, a-set, none-left, not-allowed}
 use Rattle.restore.specs.declared.Wanted.{Wanted}
 use Rattle.restore.specs.declared.Due.{Due}
+use Rattle.restore.specs.declared.Sets.{Sets}
 use Rattle.restore.proofs.Theorems.{due-tells}
 use Rattle.tables.specs.declared.Table.{Table}
 use Rattle.follow.specs.Following.{standsAt, standing, advanced, begun, total, followerAllowed}
-use Rattle.reply.specs.Events.{Event, refusedFrame}
-use Rattle.follow.specs.Calls.{answered, starting, following}
+use Rattle.reply.specs.Events.{Event}
+use Rattle.follow.specs.Calls.{answered, told, starting, following}
 use Rattle.follow.specs.Laws.{run, calls}
 use Rattle.follow.specs.declared.Follower.{Follower}
-use Rattle.follow.specs.declared.Outcome.{Outcome}
+use Rattle.follow.specs.declared.Standing.{Standing}
 use Rattle.follow.specs.declared.Followed.{Followed}
-use Rattle.follow.proofs.Standing.{told-good, told-stray, following-good, following-refused}
+use Rattle.follow.proofs.Standings.{told-good, told-stray, following-good}
 use Rattle.follow.proofs.Counting.{Goes, goes-far, begins}
 use Rattle.tally.specs.Laws.{isDone}
 use Rattle.lines.specs.Lines.{chars, adding}
@@ -30,36 +31,40 @@ use Rattle.sentences.specs.Texts.{ofText, refusedText, endText, followed
 use Rattle.sentences.specs.Laws.{followedBy}
 
 -- none is due any more
-abbrev isOver : Outcome → Bool
-isOver (Outcome.Waiting due) = false
-isOver Outcome.Equal = true
-isOver Outcome.Done = true
-isOver (Outcome.Stopped due) = false
-isOver (Outcome.Refused number) = false
+abbrev isOver : Standing → Bool
+isOver (Standing.Waiting due) = false
+isOver Standing.Equal = true
+isOver Standing.Done = true
+isOver (Standing.Stopped due) = false
+isOver (Standing.Refused number) = false
 
-still-due : (stopped : Bool) (due : Wanted) → isOver (cond stopped (Outcome.Stopped due) (Outcome.Waiting due)) ≡ false
+still-due : (stopped : Bool) (due : Wanted) → isOver (cond stopped (Standing.Stopped due) (Standing.Waiting due)) ≡ false
 still-due true due = refl
 still-due false due = refl
 
-equal-true : (b : Bool) → cond b Outcome.Equal Outcome.Done ≡ Outcome.Equal → b ≡ true
+equal-true : (b : Bool) → cond b Standing.Equal Standing.Done ≡ Standing.Equal → b ≡ true
 equal-true true e = refl
 equal-true false e = absurd (false≢true (sym (ap isDone e)))
 
 -- it is not refused
-abbrev pub isKnown : Outcome → Bool
-isKnown (Outcome.Waiting due) = true
-isKnown Outcome.Equal = true
-isKnown Outcome.Done = true
-isKnown (Outcome.Stopped due) = true
-isKnown (Outcome.Refused number) = false
+abbrev pub isKnown : Standing → Bool
+isKnown (Standing.Waiting due) = true
+isKnown Standing.Equal = true
+isKnown Standing.Done = true
+isKnown (Standing.Stopped due) = true
+isKnown (Standing.Refused number) = false
 
-set-known : (stopped : Bool) (due : Wanted) → isKnown (cond stopped (Outcome.Stopped due) (Outcome.Waiting due)) ≡ true
+set-known : (stopped : Bool) (due : Wanted) → isKnown (cond stopped (Standing.Stopped due) (Standing.Waiting due)) ≡ true
 set-known true due = refl
 set-known false due = refl
 
-none-known : (b : Bool) → isKnown (cond b Outcome.Equal Outcome.Done) ≡ true
+none-known : (b : Bool) → isKnown (cond b Standing.Equal Standing.Done) ≡ true
 none-known true = refl
 none-known false = refl
+
+abbrev numberOf : Sets → ℕ
+numberOf (Sets.Due number) = number
+numberOf (Sets.Refused number) = 0
 
 module _ (f : Follower) where
   -- the texts, by whether a start and events give it
@@ -89,37 +94,38 @@ module _ (f : Follower) where
       by d (none-left sure none) = none-known (eqb (f .confirmed) 0)
       by d (not-allowed bad) = absurd (false≢true (sym bad ∙ and-left (bothAllowed (f .from) (f .to)) _ ok))
 
-  word-good : followerAllowed f ≡ true → following f refusedFrame .outcome ≡ standing f
-  word-good ok = sym (ap (λ (w : Followed). w .outcome) (told-good f ok ∙ following-refused f))
+  word-good : followerAllowed f ≡ true → told f .standing ≡ standing f
+  word-good ok = sym (ap (λ (w : Followed). w .standing) (told-good f ok))
 
-  pub known-allowed : {w : Followed} (o : Outcome) → w ≡ following f refusedFrame → w .outcome ≡ o → isKnown o ≡ followerAllowed f
+  pub known-allowed : {w : Followed} (o : Standing) → w ≡ told f → w .standing ≡ o → isKnown o ≡ followerAllowed f
   known-allowed {w} o is e = by (followerAllowed f) refl
     where
-      own : o ≡ following f refusedFrame .outcome
-      own = sym e ∙ ap (λ (v : Followed). v .outcome) is
+      own : o ≡ told f .standing
+      own = sym e ∙ ap (λ (v : Followed). v .standing) is
 
       by : (t : Bool) → followerAllowed f ≡ t → isKnown o ≡ followerAllowed f
       by true ok = ap isKnown (own ∙ word-good ok) ∙ stands-known ok ∙ sym ok
-      by false ok = ap isKnown (own ∙ sym (ap (λ (v : Followed). v .outcome) (told-stray f ok ∙ following-refused f))) ∙ sym ok
+      by false ok = ap isKnown (own ∙ sym (ap (λ (v : Followed). v .standing) (told-stray f ok))) ∙ sym ok
 
   -- what the functions put after a line
-  pub follower-line : (l : Line) {n : Line} (w : Followed) (due : ℕ) → followerAllowed f ≡ true → w ≡ following f refusedFrame → due ≡ total f
-      → n ≡ adding l (endText (w .outcome) (f .confirmed) due) → n ≡ adding l (followedText f)
+  pub follower-line : (l : Line) {n : Line} (w : Followed) (due : ℕ) → followerAllowed f ≡ true → w ≡ told f → due ≡ total f
+      → n ≡ adding l (endText (w .standing) (f .confirmed) due) → n ≡ adding l (followedText f)
   follower-line l w due ok is counts e =
       e ∙ ap (adding l)
-      (ap₂ (λ (o : Outcome) (k : ℕ). endText o (f .confirmed) k) (ap (λ (v : Followed). v .outcome) is ∙ word-good ok) counts ∙ followed-good ok)
+      (ap₂ (λ (o : Standing) (k : ℕ). endText o (f .confirmed) k) (ap (λ (v : Followed). v .standing) is ∙ word-good ok) counts ∙ followed-good ok)
 
   pub confirmed-line : (l : Line) {n : Line} (due : ℕ) → followerAllowed f ≡ true → due ≡ total f
       → n ≡ adding l (ofText [] (f .confirmed) due (chars " confirmed")) → n ≡ adding l (progressText f)
   confirmed-line l due ok counts e = e ∙ ap (adding l) (ap (λ (k : ℕ). ofText [] (f .confirmed) k (chars " confirmed")) counts ∙ progress-good ok)
 
-  -- the Sets of its list are those of the list that is made
+  -- the Sets that are due are those of its list
   pub both-allowed : followerAllowed f ≡ true → bothAllowed (f .from) (f .to) ≡ true
   unfolding followerAllowed
   both-allowed ok = and-left (bothAllowed (f .from) (f .to)) _ ok
 
-  pub list-sets : (n : ℕ) → followerAllowed f ≡ true → n ≡ cond (bothAllowed (f .from) (f .to)) (total f) 0 → n ≡ total f
-  list-sets n ok e = e ∙ ap (λ (t : Bool). cond t (total f) 0) (both-allowed ok)
+  pub sets-are : (d : Sets) → followerAllowed f ≡ true → setsDue (f .from) (f .to) ≡ d → numberOf d ≡ total f
+  unfolding setsDue
+  sets-are d ok e = ap numberOf (sym e) ∙ rw (both-allowed ok)
 
   -- no more are confirmed than its list has
   pub within-list : followerAllowed f ≡ true → f .confirmed ≤ total f
@@ -140,17 +146,17 @@ module _ (f : Follower) where
       by d (none-left ok none) e = none
       by d (not-allowed bad) e = absurd (false≢true e)
 
-  pub done-list : standing f ≡ Outcome.Done → total f ≤ f .confirmed
+  pub done-list : standing f ≡ Standing.Done → total f ≤ f .confirmed
   done-list e = over-list (ap isOver e)
 
-  pub equal-list : standing f ≡ Outcome.Equal → total f ≤ f .confirmed
+  pub equal-list : standing f ≡ Standing.Equal → total f ≤ f .confirmed
   equal-list e = over-list (ap isOver e)
 
-  pub equal-none : standing f ≡ Outcome.Equal → f .confirmed ≡ 0
+  pub equal-none : standing f ≡ Standing.Equal → f .confirmed ≡ 0
   unfolding standing
   equal-none e = by (dueIn (f .from) (f .to) (f .confirmed)) (due-tells (f .from) (f .to) (f .confirmed)) e
     where
-      by : (d : Due) → Tells (f .from) (f .to) (f .confirmed) d → standsAt (f .stopped) (f .confirmed) d ≡ Outcome.Equal → f .confirmed ≡ 0
+      by : (d : Due) → Tells (f .from) (f .to) (f .confirmed) d → standsAt (f .stopped) (f .confirmed) d ≡ Standing.Equal → f .confirmed ≡ 0
       by d (a-set k is below ok more) e = absurd (false≢true (sym (still-due (f .stopped) (wanted (f .to) k)) ∙ ap isOver e))
       by d (none-left ok none) e = eqb-true (f .confirmed) 0 (equal-true (eqb (f .confirmed) 0) e)
       by d (not-allowed bad) e = absurd (false≢true (ap isOver e))

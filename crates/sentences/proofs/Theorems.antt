@@ -1,7 +1,7 @@
 -- Proofs of the statements of specs/Laws.antt and specs/Worked.antt. Assumes nothing.
 use mathlib.Core.Path.{_≡_, refl, sym, ap, ap₂, subst, _∙_}
 use mathlib.Core.Logic.{_↔_}
-use mathlib.Core.Bool.{Bool, true, false, false≢true}
+use mathlib.Core.Bool.{Bool, true, false, cond, false≢true}
 use mathlib.Core.List.{List, [], _∷_, _++_, append-assoc}
 use Prim.Native.Nat.{ℕ, _≤_}
 use native.Mathlib.Omega.{arith}
@@ -16,20 +16,22 @@ use Rattle.reply.specs.Events.{Event}
 use Rattle.follow.specs.Following.{standing, begun, total, followerAllowed}
 use Rattle.follow.specs.Laws.{run, matched}
 use Rattle.follow.specs.declared.Follower.{Follower}
-use Rattle.follow.specs.declared.Outcome as follows
+use Rattle.follow.specs.declared.Standing as follows
 use Rattle.follow.proofs.Theorems.{count-is-matched, done-is-all, equal-is-none}
+use Rattle.settings.specs.Calls.{settingAt}
+use Rattle.settings.specs.declared.Setting.{Setting}
 use Rattle.collect.specs.Collecting.{allowed, begun as collected-none}
-use Rattle.collect.specs.Calls.{outcomeOf, told}
+use Rattle.collect.specs.Calls.{good as collected-as, told}
 use Rattle.collect.specs.Laws.{run as collected-run}
 use Rattle.collect.proofs.Calling.{called}
 use Rattle.collect.proofs.Reaching.{begun-ends, ends-allowed}
 use Rattle.collect.proofs.Theorems.{table-is-carried}
 use Rattle.collect.specs.declared.Collected.{Collected}
-use Rattle.collect.specs.declared.Phase.{Phase}
 use Rattle.collect.specs.declared.Collector.{Collector}
-use Rattle.collect.specs.declared.Outcome as collects
+use Rattle.collect.specs.declared.Stage as collects
 use Rattle.backup.specs.declared.Checked.{Checked}
 use Rattle.backup.specs.declared.Backup.{Backup}
+use lib.Dec.{ltb}
 use Rattle.laws.specs.Promise.{Given}
 use Rattle.backup.specs.Text.{Says as Judgement, good, refused, textOf, textSays}
 use Rattle.backup.specs.Calls.{writtenAs, writing, reading, readAs}
@@ -44,7 +46,7 @@ use Rattle.view.specs.Calls.{allowed as allowed-viewer}
 use Rattle.lines.specs.Lines.{chars, lineOf, Says}
 use Rattle.lines.specs.Numbers.{decimalFrom, decimal, pointed}
 use Rattle.lines.proofs.Adding.{says-text, text-says}
-use Rattle.sentences.specs.Texts.{betweenText, ofText, refusedText, stoppedText, endText, followedText, progressText, readText, own, collectedText, keptText, fileText, savedText, goodText, refusalText, checkedText, countsText, summedText}
+use Rattle.sentences.specs.Texts.{betweenText, ofText, refusedText, stoppedText, endText, followedText, progressText, readText, collectedText, keptText, fileText, savedText, goodText, refusalText, checkedText, countsText, summedText}
 use Rattle.sentences.specs.Laws.{AllDone, DoneIsDone, NothingDue, EqualIsEqual, followedBy, LineIsMatched, ReadIsRead, collectedBy, LineIsCarried, SavedIsSaved, NotSavedIsNot, GoodIsGood, IsBackup, GoodIsBackup, WellIsWell, NoneIsNone, StrayFollower, StrayCollector, StrayTally, CollectorsCount, FilesCount, FollowersFit, FilesFit, YardsFit}
 use Rattle.sentences.specs.Values.{wordText, strangeText, serialText, amountText, readingText, wordsText, shownText}
 use Rattle.sentences.specs.Worked.{LinesRead}
@@ -58,36 +60,36 @@ use Rattle.sentences.proofs.Uncut.{followers-uncut, files-uncut, yards-
 first : {l m : List ℕ} → l ≡ m → getD l 0 0 ≡ getD m 0 0
 first e = ap (λ (l : List ℕ). getD l 0 0) e
 
-done-end : (o : follows.Outcome) (confirmed due : ℕ) → take 6 (endText o confirmed due) ≡ chars "done: " → o ≡ follows.Outcome.Done
+done-end : (o : follows.Standing) (confirmed due : ℕ) → take 6 (endText o confirmed due) ≡ chars "done: " → o ≡ follows.Standing.Done
 unfolding betweenText ofText refusedText stoppedText
-done-end follows.Outcome.Done confirmed due e = refl
-done-end follows.Outcome.Equal confirmed due e = let z : _≡_ {A = ℕ} 0x65 0x64 = first e in absurd (omega arith)
-done-end (follows.Outcome.Stopped wanted) confirmed due e = let z : _≡_ {A = ℕ} 0x73 0x64 = first e in absurd (omega arith)
-done-end (follows.Outcome.Waiting wanted) confirmed due e = let z : _≡_ {A = ℕ} 0x6E 0x64 = first e in absurd (omega arith)
-done-end (follows.Outcome.Refused number) confirmed due e = let z : _≡_ {A = ℕ} 0x72 0x64 = first e in absurd (omega arith)
+done-end follows.Standing.Done confirmed due e = refl
+done-end follows.Standing.Equal confirmed due e = let z : _≡_ {A = ℕ} 0x65 0x64 = first e in absurd (omega arith)
+done-end (follows.Standing.Stopped wanted) confirmed due e = let z : _≡_ {A = ℕ} 0x73 0x64 = first e in absurd (omega arith)
+done-end (follows.Standing.Waiting wanted) confirmed due e = let z : _≡_ {A = ℕ} 0x6E 0x64 = first e in absurd (omega arith)
+done-end (follows.Standing.Refused number) confirmed due e = let z : _≡_ {A = ℕ} 0x72 0x64 = first e in absurd (omega arith)
 
-equal-end : (o : follows.Outcome) (confirmed due : ℕ) → take 7 (endText o confirmed due) ≡ chars "equal: " → o ≡ follows.Outcome.Equal
+equal-end : (o : follows.Standing) (confirmed due : ℕ) → take 7 (endText o confirmed due) ≡ chars "equal: " → o ≡ follows.Standing.Equal
 unfolding betweenText ofText refusedText stoppedText
-equal-end follows.Outcome.Done confirmed due e = let z : _≡_ {A = ℕ} 0x64 0x65 = first e in absurd (omega arith)
-equal-end follows.Outcome.Equal confirmed due e = refl
-equal-end (follows.Outcome.Stopped wanted) confirmed due e = let z : _≡_ {A = ℕ} 0x73 0x65 = first e in absurd (omega arith)
-equal-end (follows.Outcome.Waiting wanted) confirmed due e = let z : _≡_ {A = ℕ} 0x6E 0x65 = first e in absurd (omega arith)
-equal-end (follows.Outcome.Refused number) confirmed due e = let z : _≡_ {A = ℕ} 0x72 0x65 = first e in absurd (omega arith)
+equal-end follows.Standing.Done confirmed due e = let z : _≡_ {A = ℕ} 0x64 0x65 = first e in absurd (omega arith)
+equal-end follows.Standing.Equal confirmed due e = refl
+equal-end (follows.Standing.Stopped wanted) confirmed due e = let z : _≡_ {A = ℕ} 0x73 0x65 = first e in absurd (omega arith)
+equal-end (follows.Standing.Waiting wanted) confirmed due e = let z : _≡_ {A = ℕ} 0x6E 0x65 = first e in absurd (omega arith)
+equal-end (follows.Standing.Refused number) confirmed due e = let z : _≡_ {A = ℕ} 0x72 0x65 = first e in absurd (omega arith)
 
 -- a text by the outcome of a follower that is allowed
-by-outcome : (f : Follower) (o : follows.Outcome) → followerAllowed f ≡ true → standing f ≡ o → followedText f ≡ endText o (f .confirmed) (total f)
-by-outcome f o ok is = sym (followed-good f ok) ∙ ap (λ (k : follows.Outcome). endText k (f .confirmed) (total f)) is
+by-outcome : (f : Follower) (o : follows.Standing) → followerAllowed f ≡ true → standing f ≡ o → followedText f ≡ endText o (f .confirmed) (total f)
+by-outcome f o ok is = sym (followed-good f ok) ∙ ap (λ (k : follows.Standing). endText k (f .confirmed) (total f)) is
 
 pub done-is-done : DoneIsDone
 unfolding betweenText ofText refusedText
 done-is-done f = (
   λ e. by (followerAllowed f) refl (says-text [] (followedText f) "done: " e),
-  λ all. text-says (followedText f) "done: " (omega arith) (ap (take 6) (by-outcome f follows.Outcome.Done (all .is-allowed) (all .is-done))),
+  λ all. text-says (followedText f) "done: " (omega arith) (ap (take 6) (by-outcome f follows.Standing.Done (all .is-allowed) (all .is-done))),
 )
   where
     by : (t : Bool) → followerAllowed f ≡ t → take 6 (followedText f) ≡ chars "done: " → AllDone f
     by true ok e =
-        let is : standing f ≡ follows.Outcome.Done = done-end (standing f) (f .confirmed) (total f) (ap (take 6) (followed-good f ok) ∙ e) in
+        let is : standing f ≡ follows.Standing.Done = done-end (standing f) (f .confirmed) (total f) (ap (take 6) (followed-good f ok) ∙ e) in
         let few : f .confirmed ≤ total f = within-list f ok in
         let all : total f ≤ f .confirmed = done-list f is in
         record { is-allowed = ok; is-done = is; all-confirmed = omega arith }
@@ -97,12 +99,12 @@ pub equal-is-equal : EqualIsEqual
 unfolding betweenText refusedText
 equal-is-equal f = (
   λ e. by (followerAllowed f) refl (says-text [] (followedText f) "equal: " e),
-  λ all. text-says (followedText f) "equal: " (omega arith) (ap (take 7) (by-outcome f follows.Outcome.Equal (all .is-allowed) (all .is-equal))),
+  λ all. text-says (followedText f) "equal: " (omega arith) (ap (take 7) (by-outcome f follows.Standing.Equal (all .is-allowed) (all .is-equal))),
 )
   where
     by : (t : Bool) → followerAllowed f ≡ t → take 7 (followedText f) ≡ chars "equal: " → NothingDue f
     by true ok e =
-        let is : standing f ≡ follows.Outcome.Equal = equal-end (standing f) (f .confirmed) (total f) (ap (take 7) (followed-good f ok) ∙ e) in
+        let is : standing f ≡ follows.Standing.Equal = equal-end (standing f) (f .confirmed) (total f) (ap (take 7) (followed-good f ok) ∙ e) in
         let all : total f ≤ f .confirmed = equal-list f is in
         let none : f .confirmed ≡ 0 = equal-none f is in
         record { is-allowed = ok; is-equal = is; none-due = omega arith }
@@ -116,7 +118,7 @@ module _ (from to : Table) (events : List Event) (ok : bothAllowed from to ≡ t
   list-is : total end ≡ length (dueSets from to)
   list-is = ap₂ (λ (a b : Table). length (dueSets a b)) (goes from to ok events .from-is) (goes from to ok events .to-is)
 
-  line-says : (words : follows.Outcome) (text : List ℕ → Type 0) {q : Type 0} → (text (followedText end) → standing end ≡ words) → (standing end ≡ words → text (followedText end))
+  line-says : (words : follows.Standing) (text : List ℕ → Type 0) {q : Type 0} → (text (followedText end) → standing end ≡ words) → (standing end ≡ words → text (followedText end))
       → (standing end ≡ words) ↔ q → text (followedText (followedBy from to events)) ↔ q
   line-says words text {q} there back all = subst (λ (f : Follower). text (followedText f) ↔ q) (sym (arrived from to ok events)) (λ e. all .0 (there e), λ z. back (all .1 z))
 
@@ -128,37 +130,37 @@ line-is-matched from to events ok r =
     let matches : f .confirmed ≡ matched (dueSets from to) events = count-is-matched from to events ok r in
     let list : total f ≡ length (dueSets from to) = list-is from to events ok in
     record {
-      done-when = line-says from to events ok follows.Outcome.Done (λ (t : List ℕ). Says (lineOf t) 0 "done: ")
+      done-when = line-says from to events ok follows.Standing.Done (λ (t : List ℕ). Says (lineOf t) 0 "done: ")
           (λ e. done-is-done f .0 e .is-done)
-          (λ is. text-says (followedText f) "done: " (omega arith) (ap (take 6) (by-outcome f follows.Outcome.Done fine is)))
+          (λ is. text-says (followedText f) "done: " (omega arith) (ap (take 6) (by-outcome f follows.Standing.Done fine is)))
           (done-is-all from to events ok r);
-      equal-when = line-says from to events ok follows.Outcome.Equal (λ (t : List ℕ). Says (lineOf t) 0 "equal: ")
+      equal-when = line-says from to events ok follows.Standing.Equal (λ (t : List ℕ). Says (lineOf t) 0 "equal: ")
           (λ e. equal-is-equal f .0 e .is-equal)
-          (λ is. text-says (followedText f) "equal: " (omega arith) (ap (take 7) (by-outcome f follows.Outcome.Equal fine is)))
+          (λ is. text-says (followedText f) "equal: " (omega arith) (ap (take 7) (by-outcome f follows.Standing.Equal fine is)))
           (equal-is-none from to events ok);
       numbers-are = subst (λ (g : Follower). followedText g ≡ endText (standing g) (matched (dueSets from to) events) (length (dueSets from to))) (sym (arrived from to ok events))
           (sym (followed-good f fine) ∙ ap₂ (λ (m n : ℕ). endText (standing f) m n) matches list);
       progress-is = ap progressText (arrived from to ok events) ∙ (sym (progress-good f fine) ∙ ap₂ (λ (m n : ℕ). ofText [] m n (chars " confirmed")) matches list);
     }
 
-read-end : (o : collects.Outcome) (answered due : ℕ) → take 4 (readText o answered due) ≡ chars "all " → isDone o ≡ true
+read-end : (o : collects.Stage) (answered due : ℕ) → take 4 (readText o answered due) ≡ chars "all " → isDone o ≡ true
 unfolding betweenText ofText refusedText
-read-end collects.Outcome.Done answered due e = refl
-read-end (collects.Outcome.Stopped setting) answered due e = let z : _≡_ {A = ℕ} 0x73 0x61 = first e in absurd (omega arith)
-read-end (collects.Outcome.Waiting setting) answered due e = let z : _≡_ {A = ℕ} 0x6E 0x61 = first e in absurd (omega arith)
-read-end (collects.Outcome.Refused number) answered due e = let z : _≡_ {A = ℕ} 0x72 0x61 = first e in absurd (omega arith)
+read-end collects.Stage.Done answered due e = refl
+read-end (collects.Stage.Stopped setting) answered due e = let z : _≡_ {A = ℕ} 0x73 0x61 = first e in absurd (omega arith)
+read-end (collects.Stage.Waiting setting) answered due e = let z : _≡_ {A = ℕ} 0x6E 0x61 = first e in absurd (omega arith)
+read-end (collects.Stage.Refused number) answered due e = let z : _≡_ {A = ℕ} 0x72 0x61 = first e in absurd (omega arith)
 
 pub read-is-read : ReadIsRead
 unfolding collectedText betweenText
 read-is-read c = (
-  λ e. done-read c (read-end (own c .outcome) (own c .answered) count (says-text [] (collectedText c) "all " e)),
-  λ all. text-says (collectedText c) "all " (omega arith) (ap (λ (o : collects.Outcome). take 4 (readText o (own c .answered) count)) (read-done c all)),
+  λ e. done-read c (read-end (told c .stage) (told c .answered) count (says-text [] (collectedText c) "all " e)),
+  λ all. text-says (collectedText c) "all " (omega arith) (ap (λ (o : collects.Stage). take 4 (readText o (told c .answered) count)) (read-done c all)),
 )
 
 -- what a row of calls tells is the collector's own word
 module _ (events : List Event) where
-  own-word : own (collectedBy events .collector) ≡ collectedBy events
-  unfolding told
+  own-word : told (collectedBy events .collector) ≡ collectedBy events
+  unfolding collected-as
   own-word = rw (called events) (own-good (collected-run collected-none events) (ends-allowed (begun-ends events)))
 
 pub line-is-carried : LineIsCarried
@@ -166,14 +168,14 @@ unfolding collectedText
 line-is-carried events r =
     let c : Collector = collectedBy events .collector in
     let holds = table-is-carried events r in
-    let said : own c .outcome ≡ collectedBy events .outcome = ap (λ (w : Collected). w .outcome) (own-word events) in
+    let said : told c .stage ≡ collectedBy events .stage = ap (λ (w : Collected). w .stage) (own-word events) in
     record {
       all-when = (
         λ e. holds .done-when .0 (sym said ∙ read-done c (read-is-read c .0 e)),
         λ all. read-is-read c .1 (done-read c (ap isDone (said ∙ holds .done-when .1 all))),
       );
-      numbers-are = ap (λ (w : Collected). readText (w .outcome) (w .answered) count) (own-word events)
-          ∙ ap (λ (n : ℕ). readText (collectedBy events .outcome) n count) (holds .answered-are);
+      numbers-are = ap (λ (w : Collected). readText (w .stage) (w .answered) count) (own-word events)
+          ∙ ap (λ (n : ℕ). readText (collectedBy events .stage) n count) (holds .answered-are);
     }
 
 -- a file, by its first letters
@@ -185,18 +187,18 @@ kept-whole Kept.Whole settings e = refl
 kept-whole Kept.Not settings e = let z : _≡_ {A = ℕ} 0x6E 0x73 = first e in absurd (omega arith)
 kept-whole Kept.Unsure settings e = let z : _≡_ {A = ℕ} 0x6E 0x73 = first e in absurd (omega arith)
 
-file-whole : (o : collects.Outcome) (answered : ℕ) (kept : Kept) → take 7 (fileText o answered kept) ≡ chars "saved: " → (isDone o ≡ true) × (kept ≡ Kept.Whole)
+file-whole : (o : collects.Stage) (answered : ℕ) (kept : Kept) → take 7 (fileText o answered kept) ≡ chars "saved: " → (isDone o ≡ true) × (kept ≡ Kept.Whole)
 unfolding refusedText betweenText
-file-whole collects.Outcome.Done answered kept e = (refl, kept-whole kept answered e)
-file-whole (collects.Outcome.Stopped setting) answered kept e = let z : _≡_ {A = ℕ} 0x6E 0x73 = first e in absurd (omega arith)
-file-whole (collects.Outcome.Waiting setting) answered kept e = let z : _≡_ {A = ℕ} 0x6E 0x73 = first e in absurd (omega arith)
-file-whole (collects.Outcome.Refused number) answered kept e = let z : _≡_ {A = ℕ} 0x72 0x73 = first e in absurd (omega arith)
+file-whole collects.Stage.Done answered kept e = (refl, kept-whole kept answered e)
+file-whole (collects.Stage.Stopped setting) answered kept e = let z : _≡_ {A = ℕ} 0x6E 0x73 = first e in absurd (omega arith)
+file-whole (collects.Stage.Waiting setting) answered kept e = let z : _≡_ {A = ℕ} 0x6E 0x73 = first e in absurd (omega arith)
+file-whole (collects.Stage.Refused number) answered kept e = let z : _≡_ {A = ℕ} 0x72 0x73 = first e in absurd (omega arith)
 
 pub saved-is-saved : SavedIsSaved
 unfolding savedText betweenText
 saved-is-saved c kept = (
   λ e.
-      let said = file-whole (own c .outcome) (own c .answered) kept (says-text [] (savedText c kept) "saved: " e) in
+      let said = file-whole (told c .stage) (told c .answered) kept (says-text [] (savedText c kept) "saved: " e) in
       (done-read c (said .0), said .1),
   λ all. text-says (savedText c kept) "saved: " (omega arith) (ap (take 7) (saved-done c kept (all .0) ∙ ap (λ (k : Kept). keptText k (c .len)) (all .1))),
 )
@@ -207,18 +209,18 @@ kept-not Kept.Not settings e = refl
 kept-not Kept.Whole settings e = let z : _≡_ {A = ℕ} 0x73 0x6E = first e in absurd (omega arith)
 kept-not Kept.Unsure settings e = let z : _≡_ {A = ℕ} 0x75 0x61 = letter 5 e in absurd (omega arith)
 
-file-not : (o : collects.Outcome) (answered : ℕ) (kept : Kept) → take 32 (fileText o answered kept) ≡ chars "not saved: the file is as it was" → (isDone o ≡ true) × (kept ≡ Kept.Not)
+file-not : (o : collects.Stage) (answered : ℕ) (kept : Kept) → take 32 (fileText o answered kept) ≡ chars "not saved: the file is as it was" → (isDone o ≡ true) × (kept ≡ Kept.Not)
 unfolding refusedText betweenText
-file-not collects.Outcome.Done answered kept e = (refl, kept-not kept answered e)
-file-not (collects.Outcome.Stopped setting) answered kept e = let z : _≡_ {A = ℕ} 0x6E 0x74 = letter 11 e in absurd (omega arith)
-file-not (collects.Outcome.Waiting setting) answered kept e = let z : _≡_ {A = ℕ} 0x6E 0x74 = letter 11 e in absurd (omega arith)
-file-not (collects.Outcome.Refused number) answered kept e = let z : _≡_ {A = ℕ} 0x72 0x6E = first e in absurd (omega arith)
+file-not collects.Stage.Done answered kept e = (refl, kept-not kept answered e)
+file-not (collects.Stage.Stopped setting) answered kept e = let z : _≡_ {A = ℕ} 0x6E 0x74 = letter 11 e in absurd (omega arith)
+file-not (collects.Stage.Waiting setting) answered kept e = let z : _≡_ {A = ℕ} 0x6E 0x74 = letter 11 e in absurd (omega arith)
+file-not (collects.Stage.Refused number) answered kept e = let z : _≡_ {A = ℕ} 0x72 0x6E = first e in absurd (omega arith)
 
 pub not-saved-is-not : NotSavedIsNot
 unfolding savedText
 not-saved-is-not c kept = (
   λ e.
-      let said = file-not (own c .outcome) (own c .answered) kept (says-text [] (savedText c kept) "not saved: the file is as it was" e) in
+      let said = file-not (told c .stage) (told c .answered) kept (says-text [] (savedText c kept) "not saved: the file is as it was" e) in
       (done-read c (said .0), said .1),
   λ all. text-says (savedText c kept) "not saved: the file is as it was" (omega arith)
       (ap (take 32) (saved-done c kept (all .0) ∙ ap (λ (k : Kept). keptText k (c .len)) (all .1))),
@@ -262,13 +264,13 @@ pub none-is-none : NoneIsNone
 none-is-none = none-said-ready
 
 -- a refusal begins with its own letter
-end-known : (o : follows.Outcome) (confirmed due : ℕ) → take 10 (endText o confirmed due) ≡ chars "refused 12" → isKnown o ≡ false
+end-known : (o : follows.Standing) (confirmed due : ℕ) → take 10 (endText o confirmed due) ≡ chars "refused 12" → isKnown o ≡ false
 unfolding betweenText ofText stoppedText
-end-known follows.Outcome.Done confirmed due e = let z : _≡_ {A = ℕ} 0x64 0x72 = first e in absurd (omega arith)
-end-known follows.Outcome.Equal confirmed due e = let z : _≡_ {A = ℕ} 0x65 0x72 = first e in absurd (omega arith)
-end-known (follows.Outcome.Stopped wanted) confirmed due e = let z : _≡_ {A = ℕ} 0x73 0x72 = first e in absurd (omega arith)
-end-known (follows.Outcome.Waiting wanted) confirmed due e = let z : _≡_ {A = ℕ} 0x6E 0x72 = first e in absurd (omega arith)
-end-known (follows.Outcome.Refused number) confirmed due e = refl
+end-known follows.Standing.Done confirmed due e = let z : _≡_ {A = ℕ} 0x64 0x72 = first e in absurd (omega arith)
+end-known follows.Standing.Equal confirmed due e = let z : _≡_ {A = ℕ} 0x65 0x72 = first e in absurd (omega arith)
+end-known (follows.Standing.Stopped wanted) confirmed due e = let z : _≡_ {A = ℕ} 0x73 0x72 = first e in absurd (omega arith)
+end-known (follows.Standing.Waiting wanted) confirmed due e = let z : _≡_ {A = ℕ} 0x6E 0x72 = first e in absurd (omega arith)
+end-known (follows.Standing.Refused number) confirmed due e = refl
 
 first-kept : (l : List ℕ) → getD (take 10 l) 0 0 ≡ getD l 0 0
 first-kept [] = refl
@@ -304,11 +306,11 @@ stray-follower f = (
     by-count true ok e = absurd (of-known (f .confirmed) (total f) (chars " confirmed") (ap (take 10) (progress-good f ok) ∙ e))
     by-count false bad e = bad
 
-read-known : (p : Phase) (len answered due : ℕ) → take 10 (readText (outcomeOf p len) answered due) ≡ chars "refused 12" → ⊥
+read-known : (b s : Bool) (x : Setting) (answered due : ℕ) → take 10 (readText (cond b (cond s (collects.Stage.Stopped x) (collects.Stage.Waiting x)) collects.Stage.Done) answered due) ≡ chars "refused 12" → ⊥
 unfolding betweenText ofText
-read-known Phase.Done len answered due e = let z : _≡_ {A = ℕ} 0x61 0x72 = first e in absurd (omega arith)
-read-known Phase.Waiting len answered due e = let z : _≡_ {A = ℕ} 0x6E 0x72 = first e in absurd (omega arith)
-read-known Phase.Stopped len answered due e = let z : _≡_ {A = ℕ} 0x73 0x72 = first e in absurd (omega arith)
+read-known false s x answered due e = let z : _≡_ {A = ℕ} 0x61 0x72 = first e in absurd (omega arith)
+read-known true false x answered due e = let z : _≡_ {A = ℕ} 0x6E 0x72 = first e in absurd (omega arith)
+read-known true true x answered due e = let z : _≡_ {A = ℕ} 0x73 0x72 = first e in absurd (omega arith)
 
 kept-known : (kept : Kept) (settings : ℕ) → take 10 (keptText kept settings) ≡ chars "refused 12" → ⊥
 unfolding betweenText
@@ -316,10 +318,10 @@ kept-known Kept.Whole settings e = let z : _≡_ {A = ℕ} 0x73 0x72 = first e i
 kept-known Kept.Not settings e = let z : _≡_ {A = ℕ} 0x6E 0x72 = first e in absurd (omega arith)
 kept-known Kept.Unsure settings e = let z : _≡_ {A = ℕ} 0x6E 0x72 = first e in absurd (omega arith)
 
-file-known : (p : Phase) (len answered : ℕ) (kept : Kept) → take 10 (fileText (outcomeOf p len) answered kept) ≡ chars "refused 12" → ⊥
-file-known Phase.Done len answered kept e = kept-known kept answered e
-file-known Phase.Waiting len answered kept e = let z : _≡_ {A = ℕ} 0x6E 0x72 = first e in absurd (omega arith)
-file-known Phase.Stopped len answered kept e = let z : _≡_ {A = ℕ} 0x6E 0x72 = first e in absurd (omega arith)
+file-known : (b s : Bool) (x : Setting) (answered : ℕ) (kept : Kept) → take 10 (fileText (cond b (cond s (collects.Stage.Stopped x) (collects.Stage.Waiting x)) collects.Stage.Done) answered kept) ≡ chars "refused 12" → ⊥
+file-known false s x answered kept e = kept-known kept answered e
+file-known true false x answered kept e = let z : _≡_ {A = ℕ} 0x6E 0x72 = first e in absurd (omega arith)
+file-known true true x answered kept e = let z : _≡_ {A = ℕ} 0x6E 0x72 = first e in absurd (omega arith)
 
 pub stray-collector : StrayCollector
 unfolding refusedText betweenText decimalFrom
@@ -335,11 +337,11 @@ stray-collector c kept = (
 )
   where
     by-read : (t : Bool) → allowed c ≡ t → take 10 (collectedText c) ≡ chars "refused 12" → allowed c ≡ false
-    by-read true ok e = absurd (read-known (c .phase) (c .len) (c .len) count (ap (take 10) (sym (collected-good c ok)) ∙ e))
+    by-read true ok e = absurd (read-known (ltb (c .len) count) (c .stopped) (settingAt (c .len)) (c .len) count (ap (take 10) (sym (collected-good c ok)) ∙ e))
     by-read false bad e = bad
 
     by-file : (t : Bool) → allowed c ≡ t → take 10 (savedText c kept) ≡ chars "refused 12" → allowed c ≡ false
-    by-file true ok e = absurd (file-known (c .phase) (c .len) (c .len) kept (ap (take 10) (sym (saved-good c kept ok)) ∙ e))
+    by-file true ok e = absurd (file-known (ltb (c .len) count) (c .stopped) (settingAt (c .len)) (c .len) kept (ap (take 10) (sym (saved-good c kept ok)) ∙ e))
     by-file false bad e = bad
 
 pub stray-tally : StrayTally

@@ -9,8 +9,9 @@ use lib.Dec.{eqb}
 use Rattle.laws.proofs.Bools.{pick}
 use Rattle.settings.specs.Columns.{count}
 use Rattle.follow.specs.Following.{standing, total, followerAllowed}
-use Rattle.follow.specs.declared.Outcome as follows
-use Rattle.collect.specs.declared.Outcome as collects
+use Rattle.follow.specs.declared.Standing as follows
+use Rattle.collect.specs.Calls.{told}
+use Rattle.collect.specs.declared.Stage as collects
 use Rattle.backup.specs.declared.Checked.{Checked}
 use Rattle.tally.specs.Results.{tallyAllowed}
 use Rattle.tally.specs.declared.Tally.{Tally}
@@ -18,7 +19,7 @@ use Rattle.tally.proofs.Counting.{within-of}
 use Rattle.lines.specs.Lines.{chars}
 use Rattle.lines.specs.Numbers.{decimal}
 use Rattle.lines.proofs.Digits.{digits-few, digits-under}
-use Rattle.sentences.specs.Texts.{betweenText, ofText, refusedText, stoppedText, endText, followedText, progressText, readText, own, collectedText, keptText, fileText, savedText, goodText, refusalText, checkedText, countsText, summedText}
+use Rattle.sentences.specs.Texts.{betweenText, ofText, refusedText, stoppedText, endText, followedText, progressText, readText, collectedText, keptText, fileText, savedText, goodText, refusalText, checkedText, countsText, summedText}
 use Rattle.sentences.specs.Laws.{Fits, FollowersFit, FilesFit, YardsFit}
 use Rattle.sentences.specs.declared.Kept.{Kept}
 
@@ -58,12 +59,12 @@ stopped-fits confirmed due =
     let all : length (a ++ b) ≤ 108 = joined a b 74 34 la lb in
     omega arith
 
-end-fits : (o : follows.Outcome) (confirmed due : ℕ) → Fits (endText o confirmed due)
-end-fits follows.Outcome.Done confirmed due = fits-of _ _ _ _ (omega arith)
-end-fits follows.Outcome.Equal confirmed due = omega arith
-end-fits (follows.Outcome.Stopped wanted) confirmed due = stopped-fits _ _
-end-fits (follows.Outcome.Waiting wanted) confirmed due = fits-of _ _ _ _ (omega arith)
-end-fits (follows.Outcome.Refused number) confirmed due = refused-fits _
+end-fits : (o : follows.Standing) (confirmed due : ℕ) → Fits (endText o confirmed due)
+end-fits follows.Standing.Done confirmed due = fits-of _ _ _ _ (omega arith)
+end-fits follows.Standing.Equal confirmed due = omega arith
+end-fits (follows.Standing.Stopped wanted) confirmed due = stopped-fits _ _
+end-fits (follows.Standing.Waiting wanted) confirmed due = fits-of _ _ _ _ (omega arith)
+end-fits (follows.Standing.Refused number) confirmed due = refused-fits _
 
 pub followers-uncut : FollowersFit
 unfolding followedText progressText
@@ -72,22 +73,22 @@ followers-uncut f = (
   pick Fits (followerAllowed f) (fits-of _ _ _ _ (omega arith)) (refused-fits 12),
 )
 
-read-fits : (o : collects.Outcome) (answered due : ℕ) → Fits (readText o answered due)
-read-fits collects.Outcome.Done answered due = fits-between _ _ _ (omega arith)
-read-fits (collects.Outcome.Stopped setting) answered due = fits-of _ _ _ _ (omega arith)
-read-fits (collects.Outcome.Waiting setting) answered due = fits-of _ _ _ _ (omega arith)
-read-fits (collects.Outcome.Refused number) answered due = refused-fits _
+read-fits : (o : collects.Stage) (answered due : ℕ) → Fits (readText o answered due)
+read-fits collects.Stage.Done answered due = fits-between _ _ _ (omega arith)
+read-fits (collects.Stage.Stopped setting) answered due = fits-of _ _ _ _ (omega arith)
+read-fits (collects.Stage.Waiting setting) answered due = fits-of _ _ _ _ (omega arith)
+read-fits (collects.Stage.Refused number) answered due = refused-fits _
 
 kept-fits : (kept : Kept) (settings : ℕ) → Fits (keptText kept settings)
 kept-fits Kept.Not settings = omega arith
 kept-fits Kept.Unsure settings = omega arith
 kept-fits Kept.Whole settings = fits-between _ _ _ (omega arith)
 
-file-fits : (o : collects.Outcome) (answered : ℕ) (kept : Kept) → Fits (fileText o answered kept)
-file-fits collects.Outcome.Done answered kept = kept-fits kept answered
-file-fits (collects.Outcome.Stopped setting) answered kept = omega arith
-file-fits (collects.Outcome.Waiting setting) answered kept = omega arith
-file-fits (collects.Outcome.Refused number) answered kept = refused-fits _
+file-fits : (o : collects.Stage) (answered : ℕ) (kept : Kept) → Fits (fileText o answered kept)
+file-fits collects.Stage.Done answered kept = kept-fits kept answered
+file-fits (collects.Stage.Stopped setting) answered kept = omega arith
+file-fits (collects.Stage.Waiting setting) answered kept = omega arith
+file-fits (collects.Stage.Refused number) answered kept = refused-fits _
 
 refusal-fits : (number row : ℕ) → Fits (refusalText number row)
 unfolding refusalText
@@ -106,7 +107,7 @@ checked-fits (Checked.Refused number row) = refusal-fits number row
 
 pub files-uncut : FilesFit
 unfolding collectedText savedText
-files-uncut c kept verdict = (read-fits (own c .outcome) (own c .answered) count, (file-fits (own c .outcome) (own c .answered) kept, checked-fits verdict))
+files-uncut c kept verdict = (read-fits (told c .stage) (told c .answered) count, (file-fits (told c .stage) (told c .answered) kept, checked-fits verdict))
 
 -- with counts up to a million: seven digits
 between-short : (before after : List ℕ) (n : ℕ) → n ≤ 1000000 → length (betweenText before n after) ≤ length before + 7 + length after
@@ -120,13 +121,13 @@ counts-fit t ok =
     let b : List ℕ = betweenText [] (t .equal) (chars " equal, ") in
     let c : List ℕ = betweenText [] (t .stopped) (chars " stopped, ") in
     let d : List ℕ = betweenText [] (t .silent) (chars " silent, ") in
-    let e : List ℕ = betweenText [] (t .unread) (chars " not begun; ") in
+    let e : List ℕ = betweenText [] (t .unbegun) (chars " not begun; ") in
     let f : List ℕ = ofText [] (t .confirmed) (t .due) (chars " settings confirmed") in
     let la : length a ≤ 20 = between-short (chars "yard: ") (chars " done, ") (t .done) (w .done-few) in
     let lb : length b ≤ 15 = between-short [] (chars " equal, ") (t .equal) (w .equal-few) in
     let lc : length c ≤ 17 = between-short [] (chars " stopped, ") (t .stopped) (w .stopped-few) in
     let ld : length d ≤ 16 = between-short [] (chars " silent, ") (t .silent) (w .silent-few) in
-    let le : length e ≤ 19 = between-short [] (chars " not begun; ") (t .unread) (w .unread-few) in
+    let le : length e ≤ 19 = between-short [] (chars " not begun; ") (t .unbegun) (w .unbegun-few) in
     let m : length (decimal (t .confirmed)) ≤ 7 = digits-under 19 (t .confirmed) 6 (omega (arith, w .confirmed-few)) in
     let n : length (decimal (t .due)) ≤ 7 = digits-under 19 (t .due) 6 (omega (arith, w .due-few)) in
     let lf : length f ≤ 37 = of-long [] (chars " settings confirmed") (t .confirmed) (t .due) 7 m n in

@@ -8,10 +8,7 @@ use borrow.Author.Tests.{ltb-true, ltb-false}
 use lib.ListN.{length, getD, take, drop, length-append, drop-of-length-le}
 use lib.Seq.{take-all, drop-append-seam}
 use lib.Dec.{ltb}
-use Rattle.who.specs.declared.Verdict.{Verdict}
-use Rattle.tally.specs.Results.{unread, fits, tallyAllowed, plus, shareOf}
-use Rattle.tally.specs.Calls.{counted, uncounted, counting}
-use Rattle.tally.specs.declared.Counted.{Counted}
+use Rattle.tally.specs.Results.{tallyAllowed}
 use Rattle.tally.specs.declared.Tally.{Tally}
 use Rattle.lines.specs.Lines.{most, chars, textOf, lineOf}
 use Rattle.lines.specs.Numbers.{lastDigit, decimalFrom, decimal}
@@ -78,7 +75,7 @@ abbrev fourth : Tally → List ℕ
 fourth t = ofText [] (t .confirmed) (t .due) (chars " settings confirmed")
 
 abbrev third : Tally → List ℕ
-third t = decimal (t .unread) ++ (chars " not begun; " ++ fourth t)
+third t = decimal (t .unbegun) ++ (chars " not begun; " ++ fourth t)
 
 abbrev other : Tally → List ℕ
 other t = decimal (t .silent) ++ (chars " silent, " ++ third t)
@@ -94,7 +91,7 @@ halves : (t : Tally) → countsText t ≡ frontText t ++ last t
 unfolding countsText betweenText frontText
 halves t =
     regrouped (chars "yard: ") (decimal (t .done)) (chars " done, ") (decimal (t .equal)) (chars " equal, ") (decimal (t .stopped)) (chars " stopped, ")
-    (decimal (t .silent)) (chars " silent, ") (decimal (t .unread)) (chars " not begun; ") (fourth t)
+    (decimal (t .silent)) (chars " silent, ") (decimal (t .unbegun)) (chars " not begun; ") (fourth t)
 
 -- from its first count on
 row : (t : Tally) → countsText t ≡ chars "yard: " ++ (decimal (t .done) ++ (chars " done, " ++ (decimal (t .equal) ++ last t)))
@@ -104,10 +101,6 @@ row t = halves t ∙ in-row (chars "yard: ") (decimal (t .done)) (chars " done, 
     in-row : (a d b e q : List ℕ) → (a ++ d ++ b ++ e) ++ q ≡ a ++ (d ++ (b ++ (e ++ q)))
     in-row a d b e q = simp append-assoc
 
-abbrev isAccepted : Verdict → Bool
-isAccepted Verdict.Accepted = true
-isAccepted (Verdict.Refused number) = false
-
 module _ (t : Tally) where
   pub summed-good : tallyAllowed t ≡ true → countsText t ≡ summedText t
   unfolding summedText
@@ -116,20 +109,6 @@ module _ (t : Tally) where
   pub summed-stray : tallyAllowed t ≡ false → refusedText 12 ≡ summedText t
   unfolding summedText
   summed-stray ok = rw ok
-
-  -- a tally counts one more exactly where it is allowed
-  pub counts-allowed : {w : Counted} (v : Verdict) → w ≡ counting t unread → w .verdict ≡ v → isAccepted v ≡ tallyAllowed t
-  unfolding counting fits
-  counts-allowed v is e = by (tallyAllowed t) refl
-    where
-      told : (b : Bool) → isAccepted (cond (b && true) (counted (plus t (shareOf unread))) (uncounted t) .verdict) ≡ b
-      told true = refl
-      told false = refl
-
-      by : (b : Bool) → tallyAllowed t ≡ b → isAccepted v ≡ tallyAllowed t
-      by b ok =
-          ap isAccepted (sym e ∙ ap (λ (c : Counted). c .verdict) is)
-          ∙ ap (λ (x : Bool). isAccepted (cond (x && true) (counted (plus t (shareOf unread))) (uncounted t) .verdict)) ok ∙ told b ∙ sym ok
 
   front-long : 10 ≤ length (frontText t)
   unfolding frontText
@@ -156,8 +135,8 @@ module _ (t : Tally) where
       let z2 : t .silent ≡ 0 = none-counted (t .silent) 21 (chars "silent, " ++ third t) (chars "silent, 0 not begun; ") e2 in
       let e3 : take 13 (third t) ≡ chars "0 not begun; " =
       ap (λ (l : List ℕ). drop 8 l) (after-none (t .silent) 21 (chars "silent, " ++ third t) (chars "silent, 0 not begun; ") z2 e2) in
-      let z3 : t .unread ≡ 0 = none-counted (t .unread) 11 (chars "not begun; " ++ fourth t) (chars "not begun; ") e3 in
-      record { is-allowed = ok; none-stopped = z1; none-silent = z2; none-unread = z3 }
+      let z3 : t .unbegun ≡ 0 = none-counted (t .unbegun) 11 (chars "not begun; " ++ fourth t) (chars "not begun; ") e3 in
+      record { is-allowed = ok; none-stopped = z1; none-silent = z2; none-unbegun = z3 }
 
   left-none : NoneLeft t → take 42 (drop (length (frontText t)) (textOf (lineOf (summedText t)))) ≡ chars " equal, 0 stopped, 0 silent, 0 not begun; "
   unfolding decimalFrom
@@ -165,7 +144,7 @@ module _ (t : Tally) where
       ap (λ (l : List ℕ). take 42 (drop (length (frontText t)) l))
       (text-back (summedText t) ∙ take-all most (summedText t) (yards-uncut t) ∙ sym (summed-good (none .is-allowed)) ∙ halves t)
       ∙ ap (take 42) (drop-append-seam (frontText t) (last t))
-      ∙ rw (none .none-stopped, none .none-silent, none .none-unread) refl
+      ∙ rw (none .none-stopped, none .none-silent, none .none-unbegun) refl
 
 pub well-said : WellIsWell
 well-said t = (λ e. by (tallyAllowed t) refl e, left-none t)

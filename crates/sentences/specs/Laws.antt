@@ -16,11 +16,11 @@ use Rattle.follow.specs.Following.{standing, total, followerAllowed}
 use Rattle.follow.specs.Calls.{starting as following}
 use Rattle.follow.specs.Laws.{matched, calls}
 use Rattle.follow.specs.declared.Follower.{Follower}
-use Rattle.follow.specs.declared.Outcome as follows
+use Rattle.follow.specs.declared.Standing as follows
 use Rattle.collect.specs.Collecting.{allowed}
-use Rattle.collect.specs.Calls.{outcomeOf, starting}
+use Rattle.collect.specs.Calls.{stageOf, starting}
 use Rattle.collect.specs.Laws.{calls as collects, carried}
-use Rattle.collect.specs.declared.Phase.{Phase}
+use Rattle.collect.specs.declared.Stage.{Stage}
 use Rattle.collect.specs.declared.Collector.{Collector}
 use Rattle.collect.specs.declared.Collected.{Collected}
 use Rattle.backup.specs.Text.{textOf, good}
@@ -37,7 +37,7 @@ use Rattle.sentences.specs.declared.Kept.{Kept}
 -- its list has.
 pub record AllDone (f : Follower) : Type 0 where
   pub is-allowed : followerAllowed f ≡ true
-  pub is-done : standing f ≡ follows.Outcome.Done
+  pub is-done : standing f ≡ follows.Standing.Done
   pub all-confirmed : f .confirmed ≡ total f
 
 abbrev pub DoneIsDone : Type 0
@@ -46,7 +46,7 @@ DoneIsDone = (f : Follower) → Says (lineOf (followedText f)) 0 "done: " ↔ Al
 -- It says "equal" exactly where such a follower found nothing to set: its list has no Set.
 pub record NothingDue (f : Follower) : Type 0 where
   pub is-allowed : followerAllowed f ≡ true
-  pub is-equal : standing f ≡ follows.Outcome.Equal
+  pub is-equal : standing f ≡ follows.Standing.Equal
   pub none-due : total f ≡ 0
 
 abbrev pub EqualIsEqual : Type 0
@@ -73,7 +73,7 @@ LineIsMatched = (from to : Table) (events : List Event) → bothAllowed from to 
 -- where, besides, the caller says that it is on the disk; and to be as it was exactly where, besides, the caller says that.
 pub record Complete (c : Collector) : Type 0 where
   pub is-allowed : allowed c ≡ true
-  pub is-done : c .phase ≡ Phase.Done
+  pub is-done : stageOf (c .len) (c .stopped) ≡ Stage.Done
 
 abbrev pub ReadIsRead : Type 0
 ReadIsRead = (c : Collector) → Says (lineOf (collectedText c)) 0 "all " ↔ Complete c
@@ -92,7 +92,7 @@ collectedBy events = collects starting events
 
 pub record ReadingSays (events : List Event) : Type 0 where
   pub all-when : Says (lineOf (collectedText (collectedBy events .collector))) 0 "all " ↔ (length (carried [] events) ≡ count)
-  pub numbers-are : collectedText (collectedBy events .collector) ≡ readText (collectedBy events .outcome) (length (carried [] events)) count
+  pub numbers-are : collectedText (collectedBy events .collector) ≡ readText (collectedBy events .stage) (length (carried [] events)) count
 
 abbrev pub LineIsCarried : Type 0
 LineIsCarried = (events : List Event) → OnStream events → ReadingSays events
@@ -119,7 +119,7 @@ pub record NoneLeft (t : Tally) : Type 0 where
   pub is-allowed : tallyAllowed t ≡ true
   pub none-stopped : t .stopped ≡ 0
   pub none-silent : t .silent ≡ 0
-  pub none-unread : t .unread ≡ 0
+  pub none-unbegun : t .unbegun ≡ 0
 
 abbrev pub WellIsWell : Type 0
 WellIsWell = (t : Tally) → Says (lineOf (summedText t)) (length (frontText t)) " equal, 0 stopped, 0 silent, 0 not begun; " ↔ NoneLeft t
@@ -149,7 +149,7 @@ StrayTally = (t : Tally) → Says (lineOf (summedText t)) 0 "refused 12" ↔ (ta
 -- 7. The number of settings printed is the collector's own, which is all of them where all are read (the numbers of a collector are
 -- as many as the settings in every value of the type, which `length` says);
 pub record CollectorSays (c : Collector) : Type 0 where
-  pub read-is : allowed c ≡ true → collectedText c ≡ readText (outcomeOf (c .phase) (c .len)) (c .len) (length (c .numbers))
+  pub read-is : allowed c ≡ true → collectedText c ≡ readText (stageOf (c .len) (c .stopped)) (c .len) (length (c .numbers))
   pub saved-is : (kept : Kept) → Complete c → savedText c kept ≡ keptText kept (c .len)
   pub all-read : Complete c → c .len ≡ length (c .numbers)
 

@@ -5,14 +5,12 @@ use mathlib.Core.List.{List, [], _++_}
 use lib.Dec.{eqb}
 use Rattle.paper.specs.Numbers as paper
 use Rattle.settings.specs.Columns.{count}
-use Rattle.reply.specs.Events.{refusedFrame}
 use Rattle.follow.specs.Following.{standing, total, followerAllowed}
 use Rattle.follow.specs.declared.Follower.{Follower}
-use Rattle.follow.specs.declared.Outcome as follows
-use Rattle.collect.specs.Calls.{collecting}
+use Rattle.follow.specs.declared.Standing as follows
+use Rattle.collect.specs.Calls.{told}
 use Rattle.collect.specs.declared.Collector.{Collector}
-use Rattle.collect.specs.declared.Collected.{Collected}
-use Rattle.collect.specs.declared.Outcome as collects
+use Rattle.collect.specs.declared.Stage as collects
 use Rattle.backup.specs.declared.Checked.{Checked}
 use Rattle.tally.specs.Results.{tallyAllowed}
 use Rattle.tally.specs.declared.Tally.{Tally}
@@ -37,12 +35,12 @@ unfoldable pub stoppedText : ℕ → ℕ → List ℕ
 stoppedText confirmed due =
     ofText (chars "stopped: ") confirmed due (chars " settings confirmed, ") ++ betweenText [] (due - confirmed) (chars " not confirmed")
 
-abbrev pub endText : follows.Outcome → ℕ → ℕ → List ℕ
-endText follows.Outcome.Done confirmed due = ofText (chars "done: ") confirmed due (chars " settings confirmed")
-endText follows.Outcome.Equal confirmed due = chars "equal: nothing to set"
-endText (follows.Outcome.Stopped wanted) confirmed due = stoppedText confirmed due
-endText (follows.Outcome.Waiting wanted) confirmed due = ofText (chars "not ended: ") confirmed due (chars " settings confirmed")
-endText (follows.Outcome.Refused number) confirmed due = refusedText number
+abbrev pub endText : follows.Standing → ℕ → ℕ → List ℕ
+endText follows.Standing.Done confirmed due = ofText (chars "done: ") confirmed due (chars " settings confirmed")
+endText follows.Standing.Equal confirmed due = chars "equal: nothing to set"
+endText (follows.Standing.Stopped wanted) confirmed due = stoppedText confirmed due
+endText (follows.Standing.Waiting wanted) confirmed due = ofText (chars "not ended: ") confirmed due (chars " settings confirmed")
+endText (follows.Standing.Refused number) confirmed due = refusedText number
 
 -- 12 where no start and events give the follower
 unfoldable pub followedText : Follower → List ℕ
@@ -53,19 +51,15 @@ progressText f = cond (followerAllowed f) (ofText [] (f .confirmed) (total f) (c
 
 -- A board read, by the outcome, the settings answered, and those that there are.
 
-abbrev pub readText : collects.Outcome → ℕ → ℕ → List ℕ
-readText collects.Outcome.Done answered due = betweenText (chars "all ") answered (chars " settings read")
-readText (collects.Outcome.Stopped setting) answered due = ofText (chars "stopped: ") answered due (chars " settings read")
-readText (collects.Outcome.Waiting setting) answered due = ofText (chars "not ended: ") answered due (chars " settings read")
-readText (collects.Outcome.Refused number) answered due = refusedText number
+abbrev pub readText : collects.Stage → ℕ → ℕ → List ℕ
+readText collects.Stage.Done answered due = betweenText (chars "all ") answered (chars " settings read")
+readText (collects.Stage.Stopped setting) answered due = ofText (chars "stopped: ") answered due (chars " settings read")
+readText (collects.Stage.Waiting setting) answered due = ofText (chars "not ended: ") answered due (chars " settings read")
+readText (collects.Stage.Refused number) answered due = refusedText number
 
--- a collector's own word, which it gives to a refused frame, as that changes nothing: its outcome (12 where no start and events give it) and
--- its own count
-abbrev pub own : Collector → Collected
-own c = collecting c refusedFrame
-
+-- a collector's own word: how far it is (12 where no start and events give it), and its own count
 unfoldable pub collectedText : Collector → List ℕ
-collectedText c = readText (own c .outcome) (own c .answered) count
+collectedText c = readText (told c .stage) (told c .answered) count
 
 -- The file of its settings: what became of it, by the caller's word, where every setting was read.
 
@@ -77,14 +71,14 @@ keptText Kept.Whole settings = betweenText (chars "saved: ") settings (chars " s
 abbrev pub unreadText : List ℕ
 unreadText = chars "not saved: not every setting was read"
 
-abbrev pub fileText : collects.Outcome → ℕ → Kept → List ℕ
-fileText collects.Outcome.Done answered kept = keptText kept answered
-fileText (collects.Outcome.Stopped setting) answered kept = unreadText
-fileText (collects.Outcome.Waiting setting) answered kept = unreadText
-fileText (collects.Outcome.Refused number) answered kept = refusedText number
+abbrev pub fileText : collects.Stage → ℕ → Kept → List ℕ
+fileText collects.Stage.Done answered kept = keptText kept answered
+fileText (collects.Stage.Stopped setting) answered kept = unreadText
+fileText (collects.Stage.Waiting setting) answered kept = unreadText
+fileText (collects.Stage.Refused number) answered kept = refusedText number
 
 unfoldable pub savedText : Collector → Kept → List ℕ
-savedText c kept = fileText (own c .outcome) (own c .answered) kept
+savedText c kept = fileText (told c .stage) (told c .answered) kept
 
 -- A backup checked. The refusals' numbers are document 01's, "Backup text"; 17 and 18 are about no row of it.
 
@@ -104,7 +98,7 @@ unfoldable pub countsText : Tally → List ℕ
 countsText t =
     betweenText (chars "yard: ") (t .done) (chars " done, ") ++ betweenText [] (t .equal) (chars " equal, ")
     ++ betweenText [] (t .stopped) (chars " stopped, ") ++ betweenText [] (t .silent) (chars " silent, ")
-    ++ betweenText [] (t .unread) (chars " not begun; ") ++ ofText [] (t .confirmed) (t .due) (chars " settings confirmed")
+    ++ betweenText [] (t .unbegun) (chars " not begun; ") ++ ofText [] (t .confirmed) (t .due) (chars " settings confirmed")
 
 -- 12 where a count is over a million
 unfoldable pub summedText : Tally → List ℕ

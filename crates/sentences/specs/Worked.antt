@@ -6,8 +6,8 @@ use mathlib.Core.List.{List, [], _∷_}
 use Rattle.settings.specs.Columns.{count}
 use Rattle.settings.specs.Calls.{settingAt}
 use Rattle.reply.specs.declared.Status.{Status}
-use Rattle.follow.specs.declared.Outcome as follows
-use Rattle.collect.specs.declared.Outcome as collects
+use Rattle.follow.specs.declared.Standing as follows
+use Rattle.collect.specs.declared.Stage as collects
 use Rattle.backup.specs.declared.Checked.{Checked}
 use Rattle.tally.specs.Results.{tallyOf, withSets}
 use Rattle.view.specs.Calls.{onStatus}
@@ -23,20 +23,20 @@ told id value = sightText value (onStatus id value Status.Good)
 
 abbrev pub lines : List Sample
 lines =
-    sample (endText follows.Outcome.Done 12 12) "done: 12 of 12 settings confirmed" ∷
-    sample (endText follows.Outcome.Equal 0 0) "equal: nothing to set" ∷
-    sample (endText (follows.Outcome.Stopped (record { setting = settingAt 0; number = 120 })) 5 12) "stopped: 5 of 12 settings confirmed, 7 not confirmed" ∷
-    sample (endText (follows.Outcome.Waiting (record { setting = settingAt 0; number = 120 })) 5 12) "not ended: 5 of 12 settings confirmed" ∷
-    sample (endText (follows.Outcome.Refused 12) 0 0) "refused 12" ∷
+    sample (endText follows.Standing.Done 12 12) "done: 12 of 12 settings confirmed" ∷
+    sample (endText follows.Standing.Equal 0 0) "equal: nothing to set" ∷
+    sample (endText (follows.Standing.Stopped (record { setting = settingAt 0; number = 120 })) 5 12) "stopped: 5 of 12 settings confirmed, 7 not confirmed" ∷
+    sample (endText (follows.Standing.Waiting (record { setting = settingAt 0; number = 120 })) 5 12) "not ended: 5 of 12 settings confirmed" ∷
+    sample (endText (follows.Standing.Refused 12) 0 0) "refused 12" ∷
     sample (ofText [] 7 12 (chars " confirmed")) "7 of 12 confirmed" ∷
-    sampleOf (readText collects.Outcome.Done count count) "all " count " settings read" ∷
-    sampleOf (readText (collects.Outcome.Stopped (settingAt 5)) 5 count) "stopped: 5 of " count " settings read" ∷
-    sampleOf (readText (collects.Outcome.Waiting (settingAt 5)) 5 count) "not ended: 5 of " count " settings read" ∷
-    sample (readText (collects.Outcome.Refused 12) 0 count) "refused 12" ∷
-    sampleOf (fileText collects.Outcome.Done count Kept.Whole) "saved: " count " settings" ∷
-    sample (fileText collects.Outcome.Done count Kept.Unsure) "not sure: a power cut may bring the old file back" ∷
-    sample (fileText collects.Outcome.Done count Kept.Not) "not saved: the file is as it was" ∷
-    sample (fileText (collects.Outcome.Stopped (settingAt 5)) 5 Kept.Whole) "not saved: not every setting was read" ∷
+    sampleOf (readText collects.Stage.Done count count) "all " count " settings read" ∷
+    sampleOf (readText (collects.Stage.Stopped (settingAt 5)) 5 count) "stopped: 5 of " count " settings read" ∷
+    sampleOf (readText (collects.Stage.Waiting (settingAt 5)) 5 count) "not ended: 5 of " count " settings read" ∷
+    sample (readText (collects.Stage.Refused 12) 0 count) "refused 12" ∷
+    sampleOf (fileText collects.Stage.Done count Kept.Whole) "saved: " count " settings" ∷
+    sample (fileText collects.Stage.Done count Kept.Unsure) "not sure: a power cut may bring the old file back" ∷
+    sample (fileText collects.Stage.Done count Kept.Not) "not saved: the file is as it was" ∷
+    sample (fileText (collects.Stage.Stopped (settingAt 5)) 5 Kept.Whole) "not saved: not every setting was read" ∷
     sampleOf (checkedText Checked.Accepted) "good: " count " settings, every number in range, every pair agrees" ∷
     sample (checkedText (Checked.Refused 16 13)) "refused 16, line 13" ∷
     sample (checkedText (Checked.Refused 17 0)) "refused 17" ∷

@@ -7,12 +7,9 @@ ghost use Rattle.lines.specs.Lines.{adding};
 ghost use Rattle.sentences.specs.Texts.{stoppedText, endText, followedText, progressText};
 use crate::parts;
 use follow::Follower;
-use follow::Outcome;
+use follow::Standing;
 use lines::Line;
-use restore::Listed;
-
-// The room that a restore list takes.
-const LIST_ROOM: usize = 390;
+use restore::Sets;
 
 // How many of `due` are left.
 fn left_of(confirmed: usize, due: usize) -> usize
@@ -29,33 +26,33 @@ fn put_stopped(line: Line, confirmed: usize, due: usize) -> Line
     parts::put_between(counted, b"", left_of(confirmed, due), b" not confirmed")
 }
 
-// A follower's outcome in words.
-fn put_end(line: Line, outcome: Outcome, confirmed: usize, due: usize) -> Line
-    ensures { λ r. ⌜ r ≡ adding line (endText outcome confirmed due) ⌝ }
+// How far a follower is, in words.
+fn put_end(line: Line, standing: Standing, confirmed: usize, due: usize) -> Line
+    ensures { λ r. ⌜ r ≡ adding line (endText standing confirmed due) ⌝ }
 {
-    match outcome {
-        Outcome::Waiting(_) => {
+    match standing {
+        Standing::Waiting(_) => {
             parts::put_of(line, b"not ended: ", confirmed, due, b" settings confirmed")
         }
-        Outcome::Equal => line.put(b"equal: nothing to set"),
-        Outcome::Done => parts::put_of(line, b"done: ", confirmed, due, b" settings confirmed"),
-        Outcome::Stopped(_) => put_stopped(line, confirmed, due),
-        Outcome::Refused(number) => parts::put_refused(line, number),
+        Standing::Equal => line.put(b"equal: nothing to set"),
+        Standing::Done => parts::put_of(line, b"done: ", confirmed, due, b" settings confirmed"),
+        Standing::Stopped(_) => put_stopped(line, confirmed, due),
+        Standing::Refused(number) => parts::put_refused(line, number),
     }
 }
 
-// Whether a start and events give the follower: any other refuses what it is told, and a refused frame changes nothing.
+// Whether a start and events give the follower: any other is told as refused.
 fn is_allowed(follower: Follower) -> bool
     ensures { λ r. ⌜ r ≡ followerAllowed follower ⌝ }
 {
-    let followed = follower.refused_frame();
-    let outcome = followed.outcome;
-    match outcome {
-        Outcome::Waiting(_) => true,
-        Outcome::Equal => true,
-        Outcome::Done => true,
-        Outcome::Stopped(_) => true,
-        Outcome::Refused(_) => false,
+    let followed = follower.told();
+    let standing = followed.standing;
+    match standing {
+        Standing::Waiting(_) => true,
+        Standing::Equal => true,
+        Standing::Done => true,
+        Standing::Stopped(_) => true,
+        Standing::Refused(_) => false,
     }
 }
 
@@ -64,11 +61,10 @@ fn due_of(follower: Follower) -> usize
     requires { ⌜ followerAllowed follower ≡ true ⌝ }
     ensures { λ r. ⌜ r ≡ total follower ⌝ }
 {
-    let mut list = [0u8; LIST_ROOM];
-    let listed = restore::list(follower.from, follower.to, &mut list);
-    match listed {
-        Listed::List { sets, .. } => sets,
-        Listed::Refused(_) => 0,
+    let sets = restore::sets_due(follower.from, follower.to);
+    match sets {
+        Sets::Due(number) => number,
+        Sets::Refused(_) => 0,
     }
 }
 
@@ -83,14 +79,14 @@ pub(crate) fn put_confirmed(line: Line, follower: Follower) -> Line
     parts::put_of(line, b"", follower.confirmed, due, b" confirmed")
 }
 
-// A follower tells its outcome when it is told of a refused frame.
+// How a restore ended, by the follower's own word.
 pub(crate) fn put_follower(line: Line, follower: Follower) -> Line
     ensures { λ r. ⌜ r ≡ adding line (followedText follower) ⌝ }
 {
     if !is_allowed(follower) {
         return parts::put_stray(line);
     }
-    let followed = follower.refused_frame();
-    let outcome = followed.outcome;
-    put_end(line, outcome, follower.confirmed, due_of(follower))
+    let followed = follower.told();
+    let standing = followed.standing;
+    put_end(line, standing, follower.confirmed, due_of(follower))
 }

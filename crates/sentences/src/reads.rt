@@ -5,35 +5,29 @@ ghost use Rattle.sentences.specs.Texts.{readText, keptText, unreadText, 
 use crate::Kept;
 use crate::parts;
 use collect::Collector;
-use collect::Outcome;
+use collect::Stage;
 use lines::Line;
 use settings::COUNT;
 
-// A collector's outcome in words.
-fn put_read(line: Line, outcome: Outcome, answered: usize, due: usize) -> Line
-    ensures { λ r. ⌜ r ≡ adding line (readText outcome answered due) ⌝ }
+// How far a collector is, in words.
+fn put_read(line: Line, stage: Stage, answered: usize, due: usize) -> Line
+    ensures { λ r. ⌜ r ≡ adding line (readText stage answered due) ⌝ }
 {
-    match outcome {
-        Outcome::Waiting(_) => parts::put_of(
-            line,
-            b"not ended: ",
-            answered,
-            due,
-            b" settings read",
-        ),
-        Outcome::Done => parts::put_between(line, b"all ", answered, b" settings read"),
-        Outcome::Stopped(_) => parts::put_of(line, b"stopped: ", answered, due, b" settings read"),
-        Outcome::Refused(number) => parts::put_refused(line, number),
+    match stage {
+        Stage::Waiting(_) => parts::put_of(line, b"not ended: ", answered, due, b" settings read"),
+        Stage::Done => parts::put_between(line, b"all ", answered, b" settings read"),
+        Stage::Stopped(_) => parts::put_of(line, b"stopped: ", answered, due, b" settings read"),
+        Stage::Refused(number) => parts::put_refused(line, number),
     }
 }
 
-// A collector tells its outcome and its own count when it is told of a refused frame, which changes nothing.
+// How the reading of a board ended, by the collector's own word and count.
 pub(crate) fn put_collector(line: Line, collector: Collector) -> Line
     ensures { λ r. ⌜ r ≡ adding line (collectedText collector) ⌝ }
 {
-    let collected = collector.refused_frame();
-    let outcome = collected.outcome;
-    put_read(line, outcome, collected.answered, COUNT)
+    let collected = collector.told();
+    let stage = collected.stage;
+    put_read(line, stage, collected.answered, COUNT)
 }
 
 // What became of a file, in words.
@@ -54,15 +48,15 @@ fn put_unread(line: Line) -> Line
     line.put(b"not saved: not every setting was read")
 }
 
-// A file by the outcome of the reading: it can be saved only where every setting was read.
-fn put_file(line: Line, outcome: Outcome, answered: usize, kept: Kept) -> Line
-    ensures { λ r. ⌜ r ≡ adding line (fileText outcome answered kept) ⌝ }
+// A file by how far the reading came: it can be saved only where every setting was read.
+fn put_file(line: Line, stage: Stage, answered: usize, kept: Kept) -> Line
+    ensures { λ r. ⌜ r ≡ adding line (fileText stage answered kept) ⌝ }
 {
-    match outcome {
-        Outcome::Waiting(_) => put_unread(line),
-        Outcome::Done => put_kept(line, kept, answered),
-        Outcome::Stopped(_) => put_unread(line),
-        Outcome::Refused(number) => parts::put_refused(line, number),
+    match stage {
+        Stage::Waiting(_) => put_unread(line),
+        Stage::Done => put_kept(line, kept, answered),
+        Stage::Stopped(_) => put_unread(line),
+        Stage::Refused(number) => parts::put_refused(line, number),
     }
 }
 
@@ -70,7 +64,7 @@ fn put_file(line: Line, outcome: Outcome, answered: usize, kept: Kept) -> Line
 pub(crate) fn put_saved(line: Line, collector: Collector, kept: Kept) -> Line
     ensures { λ r. ⌜ r ≡ adding line (savedText collector kept) ⌝ }
 {
-    let collected = collector.refused_frame();
-    let outcome = collected.outcome;
-    put_file(line, outcome, collected.answered, kept)
+    let collected = collector.told();
+    let stage = collected.stage;
+    put_file(line, stage, collected.answered, kept)
 }

@@ -1,24 +1,10 @@
 // The sums of a yard in words.
 ghost use mathlib.Core.Path.{_≡_};
-ghost use Rattle.tally.specs.Results.{tallyAllowed};
 ghost use Rattle.lines.specs.Lines.{adding};
 ghost use Rattle.sentences.specs.Texts.{countsText, summedText};
 use crate::parts;
 use lines::Line;
 use tally::Tally;
-use who::Verdict;
-
-// Whether the tally counts: one with a count over a million refuses one more trailer. That it would be one more is not used.
-fn is_allowed(tally: Tally) -> bool
-    ensures { λ r. ⌜ r ≡ tallyAllowed tally ⌝ }
-{
-    let counted = tally.unread();
-    let verdict = counted.verdict;
-    match verdict {
-        Verdict::Accepted => true,
-        Verdict::Refused(_) => false,
-    }
-}
 
 // How many boards ended in which way, and how many settings were confirmed of those that were due.
 fn put_counts(line: Line, tally: Tally) -> Line
@@ -28,7 +14,7 @@ fn put_counts(line: Line, tally: Tally) -> Line
     let line = parts::put_between(line, b"", tally.equal, b" equal, ");
     let line = parts::put_between(line, b"", tally.stopped, b" stopped, ");
     let line = parts::put_between(line, b"", tally.silent, b" silent, ");
-    let line = parts::put_between(line, b"", tally.unread, b" not begun; ");
+    let line = parts::put_between(line, b"", tally.unbegun, b" not begun; ");
     parts::put_of(
         line,
         b"",
@@ -42,7 +28,7 @@ fn put_counts(line: Line, tally: Tally) -> Line
 pub(crate) fn put_sums(line: Line, tally: Tally) -> Line
     ensures { λ r. ⌜ r ≡ adding line (summedText tally) ⌝ }
 {
-    if !is_allowed(tally) {
+    if !tally.is_allowed() {
         return parts::put_stray(line);
     }
     put_counts(line, tally)

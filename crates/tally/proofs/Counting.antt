@@ -1,26 +1,22 @@
 -- What the calls come to. Assumes nothing.
-use mathlib.Core.Path.{_≡_, refl, sym, ap, _∙_}
-use mathlib.Core.Bool.{Bool, true, false, cond, _&&_}
+use mathlib.Core.Path.{_≡_, refl, sym, _∙_}
+use mathlib.Core.Bool.{Bool, true, false, _&&_}
 use Prim.Native.Nat.{ℕ, _≤_}
 use native.Mathlib.Omega.{arith}
 use borrow.Author.Tests.{leb-true, le-leb}
-use lib.ListN.{length}
 use lib.Dec.{leb}
 use Rattle.laws.proofs.Bools.{and-left, and-right}
 use Rattle.settings.specs.Columns.{count}
-use Rattle.tables.specs.declared.Table.{Table}
-use Rattle.restore.specs.Order.{dueSets}
-use Rattle.restore.specs.Calls.{bothAllowed, listedAs, unlisted, listing}
-use Rattle.restore.specs.declared.Listed.{Listed}
+use Rattle.restore.specs.Calls.{bothAllowed, setsDue}
+use Rattle.restore.specs.declared.Sets.{Sets}
 use Rattle.restore.proofs.Theorems.{sets-are-few}
-use Rattle.reply.specs.Events.{refusedFrame}
 use Rattle.follow.specs.Following.{standing, total, followerAllowed}
-use Rattle.follow.specs.Calls.{answered, unanswered, told, following}
+use Rattle.follow.specs.Calls.{answered, unanswered, told}
 use Rattle.follow.specs.declared.Follower.{Follower}
 use Rattle.follow.specs.declared.Followed.{Followed}
-use Rattle.follow.specs.declared.Outcome.{Outcome}
-use Rattle.follow.proofs.Standing.{told-good, told-stray, following-refused, confirmed-few}
-use Rattle.tally.specs.Results.{Result, restored, silent, unread, nothing, tallyOf, hasEnded, endedAs, withSets, shareOf, fits, most, tallyAllowed, plus}
+use Rattle.follow.specs.declared.Standing.{Standing}
+use Rattle.follow.proofs.Standings.{told-good, told-stray, confirmed-few}
+use Rattle.tally.specs.Results.{Result, restored, silent, notBegun, nothing, tallyOf, hasEnded, endedAs, withSets, shareOf, fits, most, tallyAllowed, plus}
 use Rattle.tally.specs.Calls.{counted, uncounted, counting}
 use Rattle.tally.specs.AsHeld.{Within}
 use Rattle.tally.specs.declared.Tally.{Tally}
@@ -34,11 +30,11 @@ within-of t e7 =
     let a2 : Bool = a1 && leb (t .equal) most in
     let a3 : Bool = a2 && leb (t .stopped) most in
     let a4 : Bool = a3 && leb (t .silent) most in
-    let a5 : Bool = a4 && leb (t .unread) most in
+    let a5 : Bool = a4 && leb (t .unbegun) most in
     let a6 : Bool = a5 && leb (t .confirmed) most in
     let e6 = and-left a6 (leb (t .due) most) e7 in
     let e5 = and-left a5 (leb (t .confirmed) most) e6 in
-    let e4 = and-left a4 (leb (t .unread) most) e5 in
+    let e4 = and-left a4 (leb (t .unbegun) most) e5 in
     let e3 = and-left a3 (leb (t .silent) most) e4 in
     let e2 = and-left a2 (leb (t .stopped) most) e3 in
     record {
@@ -46,7 +42,7 @@ within-of t e7 =
       equal-few = leb-true (t .equal) most (and-right a1 (leb (t .equal) most) e2);
       stopped-few = leb-true (t .stopped) most (and-right a2 (leb (t .stopped) most) e3);
       silent-few = leb-true (t .silent) most (and-right a3 (leb (t .silent) most) e4);
-      unread-few = leb-true (t .unread) most (and-right a4 (leb (t .unread) most) e5);
+      unbegun-few = leb-true (t .unbegun) most (and-right a4 (leb (t .unbegun) most) e5);
       confirmed-few = leb-true (t .confirmed) most (and-right a5 (leb (t .confirmed) most) e6);
       due-few = leb-true (t .due) most (and-right a6 (leb (t .due) most) e7);
     }
@@ -54,7 +50,7 @@ within-of t e7 =
 pub of-within : (t : Tally) → Within t → tallyAllowed t ≡ true
 unfolding tallyAllowed
 of-within t w =
-    rw (le-leb (t .done) most (w .done-few), le-leb (t .equal) most (w .equal-few), le-leb (t .stopped) most (w .stopped-few), le-leb (t .silent) most (w .silent-few), le-leb (t .unread) most (w .unread-few), le-leb (t .confirmed) most (w .confirmed-few), le-leb (t .due) most (w .due-few))
+    rw (le-leb (t .done) most (w .done-few), le-leb (t .equal) most (w .equal-few), le-leb (t .stopped) most (w .stopped-few), le-leb (t .silent) most (w .silent-few), le-leb (t .unbegun) most (w .unbegun-few), le-leb (t .confirmed) most (w .confirmed-few), le-leb (t .due) most (w .due-few))
 
 -- the calls
 
@@ -75,9 +71,9 @@ pub silent-fits : fits silent ≡ true
 unfolding fits
 silent-fits = refl
 
-pub unread-fits : fits unread ≡ true
+pub not-begun-fits : fits notBegun ≡ true
 unfolding fits
-unread-fits = refl
+not-begun-fits = refl
 
 pub ones-within : (t : Tally) {d e s n u : ℕ} → t ≡ tallyOf d e s n u → d ≤ 1 → e ≤ 1 → s ≤ 1 → n ≤ 1 → u ≤ 1 → Within t
 ones-within t is hd he hs hn hu =
@@ -87,44 +83,10 @@ ones-within t is hd he hs hn hu =
       equal-few = omega arith;
       stopped-few = omega arith;
       silent-few = omega arith;
-      unread-few = omega arith;
+      unbegun-few = omega arith;
       confirmed-few = omega arith;
       due-few = omega arith;
     })
-
--- how many Sets a list has
-
-module _ (from to : Table) where
-  list-made : bothAllowed from to ≡ true → listing from to 390 ≡ listedAs (dueSets from to)
-  unfolding listing
-  list-made e = rw e
-
-  list-refused : bothAllowed from to ≡ false → listing from to 390 ≡ unlisted 12
-  unfolding listing
-  list-refused e = rw e
-
-  pub sets-listed : (r : Listed) → r ≡ listing from to 390 .answer → (len sets : ℕ) → r ≡ Listed.List len sets → sets ≡ cond (bothAllowed from to) (length (dueSets from to)) 0
-  sets-listed r given len sets e = by (bothAllowed from to) refl
-    where
-      by : (t : Bool) → bothAllowed from to ≡ t → sets ≡ cond (bothAllowed from to) (length (dueSets from to)) 0
-      by true ok =
-          let is : Listed.List len sets ≡ listedAs (dueSets from to) .answer = sym e ∙ given ∙ ap (λ g. g .answer) (list-made ok) in
-          let same : sets ≡ length (dueSets from to) = cc in
-          rw ok same
-      by false ok =
-          let is : Listed.List len sets ≡ Listed.Refused 12 = sym e ∙ given ∙ ap (λ g. g .answer) (list-refused ok) in
-          let z : _≡_ {A = ℕ} 0 1 = cc in
-          absurd (omega arith)
-
-  pub sets-unlisted : (r : Listed) → r ≡ listing from to 390 .answer → (number : ℕ) → r ≡ Listed.Refused number → 0 ≡ cond (bothAllowed from to) (length (dueSets from to)) 0
-  sets-unlisted r given number e = by (bothAllowed from to) refl
-    where
-      by : (t : Bool) → bothAllowed from to ≡ t → 0 ≡ cond (bothAllowed from to) (length (dueSets from to)) 0
-      by true ok =
-          let is : Listed.Refused number ≡ listedAs (dueSets from to) .answer = sym e ∙ given ∙ ap (λ g. g .answer) (list-made ok) in
-          let z : _≡_ {A = ℕ} 0 1 = cc in
-          absurd (omega arith)
-      by false ok = rw ok
 
 -- what a follower says of itself
 
@@ -136,20 +98,17 @@ pub fits-is : (f : Follower) (a : Bool) → fits (restored f a) ≡ (followerAll
 unfolding fits
 fits-is f a = refl
 
-module _ (f : Follower) (followed : Followed) (asked : followed ≡ following f refusedFrame) where
-  says : followed ≡ told f
-  says = asked ∙ sym (following-refused f)
-
+module _ (f : Follower) (followed : Followed) (says : followed ≡ told f) where
   says-good : followerAllowed f ≡ true → followed ≡ answered f
   says-good e = says ∙ sym (told-good f e)
 
   says-stray : followerAllowed f ≡ false → followed ≡ unanswered f
   says-stray e = says ∙ sym (told-stray f e)
 
-  pub ended-fits : (a : Bool) → hasEnded (followed .outcome) ≡ fits (restored f a)
+  pub ended-fits : (a : Bool) → hasEnded (followed .standing) ≡ fits (restored f a)
   ended-fits a = by (followerAllowed f) refl ∙ sym (fits-is f a)
     where
-      by : (t : Bool) → followerAllowed f ≡ t → hasEnded (followed .outcome) ≡ (followerAllowed f && hasEnded (standing f))
+      by : (t : Bool) → followerAllowed f ≡ t → hasEnded (followed .standing) ≡ (followerAllowed f && hasEnded (standing f))
       by true e = rw (says-good e, e)
       by false e = rw (says-stray e, e)
 
@@ -157,32 +116,40 @@ module _ (f : Follower) (followed : Followed) (asked : followed ≡ following f 
     ok : followerAllowed f ≡ true
     ok = and-left (followerAllowed f) (hasEnded (standing f)) (sym (fits-is f a) ∙ fit)
 
-    pub share-is : (due : ℕ) → due ≡ cond (bothAllowed (f .from) (f .to)) (total f) 0
-        → withSets (endedAs (followed .outcome) a) (followed .confirmed) due ≡ shareOf (restored f a)
+    sets-told : setsDue (f .from) (f .to) ≡ Sets.Due (total f)
+    unfolding setsDue
+    sets-told = rw (allowed-both f ok)
+
+    pub share-is : (due : ℕ) → setsDue (f .from) (f .to) ≡ Sets.Due due
+        → withSets (endedAs (followed .standing) a) (followed .confirmed) due ≡ shareOf (restored f a)
     share-is due e =
-        let all : due ≡ total f = e ∙ rw (allowed-both f ok) in
+        let own = sets-told in
+        let all : due ≡ total f = cc in
         rw (says-good ok, all)
 
-ended-ones : (o : Outcome) (a : Bool) → Within (endedAs o a)
-ended-ones (Outcome.Waiting due) a = ones-within _ refl (omega arith) (omega arith) (omega arith) (omega arith) (omega arith)
-ended-ones Outcome.Equal a = ones-within _ refl (omega arith) (omega arith) (omega arith) (omega arith) (omega arith)
-ended-ones Outcome.Done a = ones-within _ refl (omega arith) (omega arith) (omega arith) (omega arith) (omega arith)
-ended-ones (Outcome.Stopped due) true = ones-within _ refl (omega arith) (omega arith) (omega arith) (omega arith) (omega arith)
-ended-ones (Outcome.Stopped due) false = ones-within _ refl (omega arith) (omega arith) (omega arith) (omega arith) (omega arith)
-ended-ones (Outcome.Refused number) a = ones-within _ refl (omega arith) (omega arith) (omega arith) (omega arith) (omega arith)
+    pub never-refused : (number : ℕ) → setsDue (f .from) (f .to) ≡ Sets.Refused number → ⊥
+    never-refused number e = let own = sets-told in let z : _≡_ {A = ℕ} 0 1 = cc in omega arith
+
+ended-ones : (o : Standing) (a : Bool) → Within (endedAs o a)
+ended-ones (Standing.Waiting due) a = ones-within _ refl (omega arith) (omega arith) (omega arith) (omega arith) (omega arith)
+ended-ones Standing.Equal a = ones-within _ refl (omega arith) (omega arith) (omega arith) (omega arith) (omega arith)
+ended-ones Standing.Done a = ones-within _ refl (omega arith) (omega arith) (omega arith) (omega arith) (omega arith)
+ended-ones (Standing.Stopped due) true = ones-within _ refl (omega arith) (omega arith) (omega arith) (omega arith) (omega arith)
+ended-ones (Standing.Stopped due) false = ones-within _ refl (omega arith) (omega arith) (omega arith) (omega arith) (omega arith)
+ended-ones (Standing.Refused number) a = ones-within _ refl (omega arith) (omega arith) (omega arith) (omega arith) (omega arith)
 
 pub share-within : (f : Follower) (a : Bool) → fits (restored f a) ≡ true → Within (shareOf (restored f a))
 share-within f a fit =
     let ones : Within (endedAs (standing f) a) = ended-ones (standing f) a in
     let ok : followerAllowed f ≡ true = and-left (followerAllowed f) (hasEnded (standing f)) (sym (fits-is f a) ∙ fit) in
-    let few : f .confirmed ≤ 26 = confirmed-few f ok in
-    let all : total f ≤ 26 = sets-are-few (f .from) (f .to) in
+    let few : f .confirmed ≤ count = confirmed-few f ok in
+    let all : total f ≤ count = sets-are-few (f .from) (f .to) in
     record {
       done-few = ones .done-few;
       equal-few = ones .equal-few;
       stopped-few = ones .stopped-few;
       silent-few = ones .silent-few;
-      unread-few = ones .unread-few;
+      unbegun-few = ones .unbegun-few;
       confirmed-few = omega arith;
       due-few = omega arith;
     }

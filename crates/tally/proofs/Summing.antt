@@ -8,15 +8,16 @@ use borrow.Author.Tests.{leb-true, ltb-true}
 use lib.ListN.{length}
 use lib.Dec.{leb, ltb}
 use Rattle.laws.proofs.Bools.{and-left, and-right}
+use Rattle.settings.specs.Columns.{count}
 use Rattle.restore.specs.Calls.{bothAllowed}
 use Rattle.restore.proofs.Theorems.{sets-are-few}
 use Rattle.follow.specs.Following.{standing, total, followerAllowed}
 use Rattle.follow.specs.declared.Follower.{Follower}
-use Rattle.follow.specs.declared.Outcome.{Outcome}
-use Rattle.tally.specs.Results.{Result, restored, silent, unread, nothing, hasEnded, endedAs, shareOf, fits, most, tallyAllowed, plus}
+use Rattle.follow.specs.declared.Standing.{Standing}
+use Rattle.tally.specs.Results.{Result, restored, silent, notBegun, nothing, hasEnded, endedAs, shareOf, fits, most, tallyAllowed, plus}
 use Rattle.tally.specs.Calls.{counted, counting}
 use Rattle.tally.specs.AsHeld.{Within}
-use Rattle.tally.specs.Laws.{tallied, fitting, one, number, addUp, isDone, isEqual, isStopped, wasDone, wasEqual, wasStopped, wasSilent, wasUnread, confirmedOf, dueOf, SumsUp, TallySumsUp, allFit, AllAreCounted}
+use Rattle.tally.specs.Laws.{tallied, fitting, one, number, addUp, isDone, isEqual, isStopped, wasDone, wasEqual, wasStopped, wasSilent, wasNotBegun, confirmedOf, dueOf, SumsUp, TallySumsUp, allFit, AllAreCounted}
 use Rattle.tally.specs.declared.Tally.{Tally}
 use Rattle.tally.proofs.Counting.{of-within, counting-unfit, counting-fit, fits-is}
 
@@ -27,12 +28,12 @@ pub record Shares (r : Result) : Type 0 where
   pub equal-is : shareOf r .equal ≡ one (wasEqual r)
   pub stopped-is : shareOf r .stopped ≡ one (wasStopped r)
   pub silent-is : shareOf r .silent ≡ one (wasSilent r)
-  pub unread-is : shareOf r .unread ≡ one (wasUnread r)
+  pub unbegun-is : shareOf r .unbegun ≡ one (wasNotBegun r)
   pub confirmed-is : shareOf r .confirmed ≡ confirmedOf r
   pub due-is : shareOf r .due ≡ dueOf r
-  pub once : one (wasDone r) + one (wasEqual r) + one (wasStopped r) + one (wasSilent r) + one (wasUnread r) ≡ 1
+  pub once : one (wasDone r) + one (wasEqual r) + one (wasStopped r) + one (wasSilent r) + one (wasNotBegun r) ≡ 1
   pub confirmed-few : confirmedOf r ≤ dueOf r
-  pub due-few : dueOf r ≤ 26
+  pub due-few : dueOf r ≤ count
 
 -- a follower counts no Set that is not of its list
 follower-few : (f : Follower) → followerAllowed f ≡ true → f .confirmed ≤ total f
@@ -43,21 +44,21 @@ follower-few f e = by (f .stopped) (and-right (bothAllowed (f .from) (f .to)) _ 
     by true h = let less : f .confirmed < total f = ltb-true _ _ h in omega arith
     by false h = leb-true _ _ h
 
-record Ended (o : Outcome) (a : Bool) : Type 0 where
+record Ended (o : Standing) (a : Bool) : Type 0 where
   pub done-is : endedAs o a .done ≡ one (isDone o)
   pub equal-is : endedAs o a .equal ≡ one (isEqual o)
   pub stopped-is : endedAs o a .stopped ≡ one (isStopped o && a)
   pub silent-is : endedAs o a .silent ≡ one (isStopped o && not a)
-  pub unread-is : endedAs o a .unread ≡ 0
+  pub unbegun-is : endedAs o a .unbegun ≡ 0
   pub once : one (isDone o) + one (isEqual o) + one (isStopped o && a) + one (isStopped o && not a) + 0 ≡ 1
 
-ended : (o : Outcome) (a : Bool) → hasEnded o ≡ true → Ended o a
-ended (Outcome.Waiting due) a e = absurd (false≢true e)
-ended Outcome.Equal a e = record { done-is = refl; equal-is = refl; stopped-is = refl; silent-is = refl; unread-is = refl; once = refl }
-ended Outcome.Done a e = record { done-is = refl; equal-is = refl; stopped-is = refl; silent-is = refl; unread-is = refl; once = refl }
-ended (Outcome.Stopped due) true e = record { done-is = refl; equal-is = refl; stopped-is = refl; silent-is = refl; unread-is = refl; once = refl }
-ended (Outcome.Stopped due) false e = record { done-is = refl; equal-is = refl; stopped-is = refl; silent-is = refl; unread-is = refl; once = refl }
-ended (Outcome.Refused number) a e = absurd (false≢true e)
+ended : (o : Standing) (a : Bool) → hasEnded o ≡ true → Ended o a
+ended (Standing.Waiting due) a e = absurd (false≢true e)
+ended Standing.Equal a e = record { done-is = refl; equal-is = refl; stopped-is = refl; silent-is = refl; unbegun-is = refl; once = refl }
+ended Standing.Done a e = record { done-is = refl; equal-is = refl; stopped-is = refl; silent-is = refl; unbegun-is = refl; once = refl }
+ended (Standing.Stopped due) true e = record { done-is = refl; equal-is = refl; stopped-is = refl; silent-is = refl; unbegun-is = refl; once = refl }
+ended (Standing.Stopped due) false e = record { done-is = refl; equal-is = refl; stopped-is = refl; silent-is = refl; unbegun-is = refl; once = refl }
+ended (Standing.Refused number) a e = absurd (false≢true e)
 
 shares : (r : Result) → fits r ≡ true → Shares r
 shares (restored f a) e =
@@ -68,7 +69,7 @@ shares (restored f a) e =
       equal-is = end .equal-is;
       stopped-is = end .stopped-is;
       silent-is = end .silent-is;
-      unread-is = end .unread-is;
+      unbegun-is = end .unbegun-is;
       confirmed-is = refl;
       due-is = refl;
       once = end .once;
@@ -81,20 +82,20 @@ shares silent e =
       equal-is = refl;
       stopped-is = refl;
       silent-is = refl;
-      unread-is = refl;
+      unbegun-is = refl;
       confirmed-is = refl;
       due-is = refl;
       once = refl;
       confirmed-few = omega arith;
       due-few = omega arith;
     }
-shares unread e =
+shares notBegun e =
     record {
       done-is = refl;
       equal-is = refl;
       stopped-is = refl;
       silent-is = refl;
-      unread-is = refl;
+      unbegun-is = refl;
       confirmed-is = refl;
       due-is = refl;
       once = refl;
@@ -104,13 +105,13 @@ shares unread e =
 
 -- A tally that has room for this many more.
 record Room (t : Tally) (n : ℕ) : Type 0 where
-  pub done-room : t .done + 26 * n ≤ most
-  pub equal-room : t .equal + 26 * n ≤ most
-  pub stopped-room : t .stopped + 26 * n ≤ most
-  pub silent-room : t .silent + 26 * n ≤ most
-  pub unread-room : t .unread + 26 * n ≤ most
-  pub confirmed-room : t .confirmed + 26 * n ≤ most
-  pub due-room : t .due + 26 * n ≤ most
+  pub done-room : t .done + count * n ≤ most
+  pub equal-room : t .equal + count * n ≤ most
+  pub stopped-room : t .stopped + count * n ≤ most
+  pub silent-room : t .silent + count * n ≤ most
+  pub unbegun-room : t .unbegun + count * n ≤ most
+  pub confirmed-room : t .confirmed + count * n ≤ most
+  pub due-room : t .due + count * n ≤ most
 
 room-within : (t : Tally) (n : ℕ) → Room t n → Within t
 room-within t n r =
@@ -119,7 +120,7 @@ room-within t n r =
       equal-few = omega arith;
       stopped-few = omega arith;
       silent-few = omega arith;
-      unread-few = omega arith;
+      unbegun-few = omega arith;
       confirmed-few = omega arith;
       due-few = omega arith;
     }
@@ -131,7 +132,7 @@ room-less t n r =
       equal-room = omega arith;
       stopped-room = omega arith;
       silent-room = omega arith;
-      unread-room = omega arith;
+      unbegun-room = omega arith;
       confirmed-room = omega arith;
       due-room = omega arith;
     }
@@ -143,7 +144,7 @@ room-plus t n r s room =
       equal-room = omega arith;
       stopped-room = omega arith;
       silent-room = omega arith;
-      unread-room = omega arith;
+      unbegun-room = omega arith;
       confirmed-room = omega arith;
       due-room = omega arith;
     }
@@ -154,7 +155,7 @@ record Adds (t : Tally) (results : List Result) (t′ : Tally) : Type 0 where
   pub equal-are : t′ .equal ≡ t .equal + number wasEqual results
   pub stopped-are : t′ .stopped ≡ t .stopped + number wasStopped results
   pub silent-are : t′ .silent ≡ t .silent + number wasSilent results
-  pub unread-are : t′ .unread ≡ t .unread + number wasUnread results
+  pub unbegun-are : t′ .unbegun ≡ t .unbegun + number wasNotBegun results
   pub confirmed-are : t′ .confirmed ≡ t .confirmed + addUp confirmedOf results
   pub due-are : t′ .due ≡ t .due + addUp dueOf results
 
@@ -165,7 +166,7 @@ adds-one t r rest t′ s a =
       equal-are = omega (arith, s .equal-is, a .equal-are);
       stopped-are = omega (arith, s .stopped-is, a .stopped-are);
       silent-are = omega (arith, s .silent-is, a .silent-are);
-      unread-are = omega (arith, s .unread-is, a .unread-are);
+      unbegun-are = omega (arith, s .unbegun-is, a .unbegun-are);
       confirmed-are = omega (arith, s .confirmed-is, a .confirmed-are);
       due-are = omega (arith, s .due-is, a .due-are);
     }
@@ -177,7 +178,7 @@ adds [] t room =
       equal-are = omega arith;
       stopped-are = omega arith;
       silent-are = omega arith;
-      unread-are = omega arith;
+      unbegun-are = omega arith;
       confirmed-are = omega arith;
       due-are = omega arith;
     }
@@ -196,7 +197,7 @@ adds (r ∷ more) t room = by (fits r) refl (adds more t) (adds more (plus t (sh
 
 -- every one that fits is counted once, and adds no more confirmed Sets than due ones
 record Kinds (results : List Result) : Type 0 where
-  pub once : number wasDone results + number wasEqual results + number wasStopped results + number wasSilent results + number wasUnread results ≡ length results
+  pub once : number wasDone results + number wasEqual results + number wasStopped results + number wasSilent results + number wasNotBegun results ≡ length results
   pub few : addUp confirmedOf results ≤ addUp dueOf results
 
 kinds-one : (r : Result) (rest : List Result) → Shares r → Kinds rest → Kinds (r ∷ rest)
@@ -218,7 +219,7 @@ sums-up results few =
       equal-room = omega arith;
       stopped-room = omega arith;
       silent-room = omega arith;
-      unread-room = omega arith;
+      unbegun-room = omega arith;
       confirmed-room = omega arith;
       due-room = omega arith;
     } in
@@ -229,7 +230,7 @@ sums-up results few =
       equal-are = omega (arith, a .equal-are);
       stopped-are = omega (arith, a .stopped-are);
       silent-are = omega (arith, a .silent-are);
-      unread-are = omega (arith, a .unread-are);
+      unbegun-are = omega (arith, a .unbegun-are);
       confirmed-are = omega (arith, a .confirmed-are);
       due-are = omega (arith, a .due-are);
       each-once = omega arith;

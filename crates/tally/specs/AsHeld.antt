@@ -9,6 +9,6 @@ pub record Within (t : Tally) : Type 0 where
   pub equal-few : t .equal ≤ most
   pub stopped-few : t .stopped ≤ most
   pub silent-few : t .silent ≤ most
-  pub unread-few : t .unread ≤ most
+  pub unbegun-few : t .unbegun ≤ most
   pub confirmed-few : t .confirmed ≤ most
   pub due-few : t .due ≤ most

@@ -1,14 +1,15 @@
 -- What is proved of the definitions, as statements to read. Each is proved under its name in proofs/Theorems.antt.
 -- Assumes nothing.
-use Prim.Native.Nat.{ℕ, zero, _+_, _≤_}
+use Prim.Native.Nat.{ℕ, zero, _+_, _/_, _≤_}
 use mathlib.Core.Path.{_≡_}
 use mathlib.Core.Bool.{Bool, true, false, cond, not, _&&_}
 use mathlib.Core.List.{List, [], _∷_}
 use lib.ListN.{length}
+use Rattle.settings.specs.Columns.{count}
 use Rattle.restore.specs.Order.{dueSets}
 use Rattle.follow.specs.Following.{standing}
-use Rattle.follow.specs.declared.Outcome.{Outcome}
-use Rattle.tally.specs.Results.{Result, restored, silent, unread, nothing, fits}
+use Rattle.follow.specs.declared.Standing.{Standing}
+use Rattle.tally.specs.Results.{Result, restored, silent, notBegun, nothing, fits, most}
 use Rattle.tally.specs.Calls.{counting}
 use Rattle.tally.specs.declared.Tally.{Tally}
 
@@ -36,65 +37,65 @@ addUp n [] = zero
 addUp n (r ∷ more) = n r + addUp n more
 
 -- how far a follower is, by its own word
-abbrev pub isDone : Outcome → Bool
-isDone (Outcome.Waiting due) = false
-isDone Outcome.Equal = false
-isDone Outcome.Done = true
-isDone (Outcome.Stopped due) = false
-isDone (Outcome.Refused number) = false
+abbrev pub isDone : Standing → Bool
+isDone (Standing.Waiting due) = false
+isDone Standing.Equal = false
+isDone Standing.Done = true
+isDone (Standing.Stopped due) = false
+isDone (Standing.Refused number) = false
 
-abbrev pub isEqual : Outcome → Bool
-isEqual (Outcome.Waiting due) = false
-isEqual Outcome.Equal = true
-isEqual Outcome.Done = false
-isEqual (Outcome.Stopped due) = false
-isEqual (Outcome.Refused number) = false
+abbrev pub isEqual : Standing → Bool
+isEqual (Standing.Waiting due) = false
+isEqual Standing.Equal = true
+isEqual Standing.Done = false
+isEqual (Standing.Stopped due) = false
+isEqual (Standing.Refused number) = false
 
-abbrev pub isStopped : Outcome → Bool
-isStopped (Outcome.Waiting due) = false
-isStopped Outcome.Equal = false
-isStopped Outcome.Done = false
-isStopped (Outcome.Stopped due) = true
-isStopped (Outcome.Refused number) = false
+abbrev pub isStopped : Standing → Bool
+isStopped (Standing.Waiting due) = false
+isStopped Standing.Equal = false
+isStopped Standing.Done = false
+isStopped (Standing.Stopped due) = true
+isStopped (Standing.Refused number) = false
 
 -- the kinds of results
 abbrev pub wasDone : Result → Bool
 wasDone (restored f answered) = isDone (standing f)
 wasDone silent = false
-wasDone unread = false
+wasDone notBegun = false
 
 abbrev pub wasEqual : Result → Bool
 wasEqual (restored f answered) = isEqual (standing f)
 wasEqual silent = false
-wasEqual unread = false
+wasEqual notBegun = false
 
 -- stopped at another answer
 abbrev pub wasStopped : Result → Bool
 wasStopped (restored f answered) = isStopped (standing f) && answered
 wasStopped silent = false
-wasStopped unread = false
+wasStopped notBegun = false
 
 -- no answer: while it was restored, or while it was read
 abbrev pub wasSilent : Result → Bool
 wasSilent (restored f answered) = isStopped (standing f) && not answered
 wasSilent silent = true
-wasSilent unread = false
+wasSilent notBegun = false
 
-abbrev pub wasUnread : Result → Bool
-wasUnread (restored f answered) = false
-wasUnread silent = false
-wasUnread unread = true
+abbrev pub wasNotBegun : Result → Bool
+wasNotBegun (restored f answered) = false
+wasNotBegun silent = false
+wasNotBegun notBegun = true
 
 -- the Sets that a follower counted as confirmed, and those of its list
 abbrev pub confirmedOf : Result → ℕ
 confirmedOf (restored f answered) = f .confirmed
 confirmedOf silent = zero
-confirmedOf unread = zero
+confirmedOf notBegun = zero
 
 abbrev pub dueOf : Result → ℕ
 dueOf (restored f answered) = length (dueSets (f .from) (f .to))
 dueOf silent = zero
-dueOf unread = zero
+dueOf notBegun = zero
 
 -- 1. The tally of a yard is the sums of its results and of nothing else: each count is the number of results of its kind, the Sets confirmed
 -- are those that the followers counted and no other, every result is counted once, and no more Sets are confirmed than were due.
@@ -103,15 +104,15 @@ pub record SumsUp (results : List Result) (t : Tally) : Type 0 where
   pub equal-are : t .equal ≡ number wasEqual results
   pub stopped-are : t .stopped ≡ number wasStopped results
   pub silent-are : t .silent ≡ number wasSilent results
-  pub unread-are : t .unread ≡ number wasUnread results
+  pub unbegun-are : t .unbegun ≡ number wasNotBegun results
   pub confirmed-are : t .confirmed ≡ addUp confirmedOf results
   pub due-are : t .due ≡ addUp dueOf results
-  pub each-once : t .done + t .equal + t .stopped + t .silent + t .unread ≡ length results
+  pub each-once : t .done + t .equal + t .stopped + t .silent + t .unbegun ≡ length results
   pub confirmed-within : t .confirmed ≤ t .due
 
--- A follower adds at most 26 Sets, so a yard of 38000 trailers stays under the end of every count.
+-- A follower adds at most one Set for each setting, so a yard of this many trailers stays under the end of every count.
 abbrev pub mostTrailers : ℕ
-mostTrailers = 38000
+mostTrailers = most / count
 
 abbrev pub TallySumsUp : Type 0
 TallySumsUp = (results : List Result) → length results ≤ mostTrailers → SumsUp (fitting results) (tallied nothing results)

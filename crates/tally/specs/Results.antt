@@ -5,7 +5,7 @@ use mathlib.Core.Bool.{Bool, true, false, cond, _&&_}
 use lib.Dec.{leb}
 use Rattle.follow.specs.Following.{standing, total, followerAllowed}
 use Rattle.follow.specs.declared.Follower.{Follower}
-use Rattle.follow.specs.declared.Outcome.{Outcome}
+use Rattle.follow.specs.declared.Standing.{Standing}
 use Rattle.tally.specs.declared.Tally.{Tally}
 
 -- how a trailer came out: its restore was followed, and where that stopped the board answered something else or gave no answer; it gave no
@@ -13,52 +13,52 @@ use Rattle.tally.specs.declared.Tally.{Tally}
 pub data Result : Type 0 where
   restored : Follower → Bool → Result
   silent : Result
-  unread : Result
+  notBegun : Result
 
 -- this many trailers of each kind, and no Set
 abbrev pub tallyOf : ℕ → ℕ → ℕ → ℕ → ℕ → Tally
 tallyOf done equal stopped mute unbegun =
-    record { done = done; equal = equal; stopped = stopped; silent = mute; unread = unbegun; confirmed = zero; due = zero }
+    record { done = done; equal = equal; stopped = stopped; silent = mute; unbegun = unbegun; confirmed = zero; due = zero }
 
 abbrev pub nothing : Tally
 nothing = tallyOf 0 0 0 0 0
 
 -- an end: all confirmed, nothing differed, or stopped
-abbrev pub hasEnded : Outcome → Bool
-hasEnded (Outcome.Waiting due) = false
-hasEnded Outcome.Equal = true
-hasEnded Outcome.Done = true
-hasEnded (Outcome.Stopped due) = true
-hasEnded (Outcome.Refused number) = false
+abbrev pub hasEnded : Standing → Bool
+hasEnded (Standing.Waiting due) = false
+hasEnded Standing.Equal = true
+hasEnded Standing.Done = true
+hasEnded (Standing.Stopped due) = true
+hasEnded (Standing.Refused number) = false
 
 -- a follower that stopped, at another answer or at none
 abbrev pub stoppedAs : Bool → Tally
 stoppedAs answered = cond answered (tallyOf 0 0 1 0 0) (tallyOf 0 0 0 1 0)
 
 -- one trailer, by where its follower is; nothing where that is no end
-abbrev pub endedAs : Outcome → Bool → Tally
-endedAs (Outcome.Waiting due) answered = nothing
-endedAs Outcome.Equal answered = tallyOf 0 1 0 0 0
-endedAs Outcome.Done answered = tallyOf 1 0 0 0 0
-endedAs (Outcome.Stopped due) answered = stoppedAs answered
-endedAs (Outcome.Refused number) answered = nothing
+abbrev pub endedAs : Standing → Bool → Tally
+endedAs (Standing.Waiting due) answered = nothing
+endedAs Standing.Equal answered = tallyOf 0 1 0 0 0
+endedAs Standing.Done answered = tallyOf 1 0 0 0 0
+endedAs (Standing.Stopped due) answered = stoppedAs answered
+endedAs (Standing.Refused number) answered = nothing
 
 -- with this many Sets confirmed, of this many that were due
 abbrev pub withSets : Tally → ℕ → ℕ → Tally
 withSets t confirmed due =
-    record { done = t .done; equal = t .equal; stopped = t .stopped; silent = t .silent; unread = t .unread; confirmed = confirmed; due = due }
+    record { done = t .done; equal = t .equal; stopped = t .stopped; silent = t .silent; unbegun = t .unbegun; confirmed = confirmed; due = due }
 
 -- What one trailer adds: where its follower is, the Sets that its follower counted as confirmed, and those of its list.
 abbrev pub shareOf : Result → Tally
 shareOf (restored f answered) = withSets (endedAs (standing f) answered) (f .confirmed) (total f)
 shareOf silent = tallyOf 0 0 0 1 0
-shareOf unread = tallyOf 0 0 0 0 1
+shareOf notBegun = tallyOf 0 0 0 0 1
 
 -- a follower that a start and events give, at an end
 unfoldable pub fits : Result → Bool
 fits (restored f answered) = followerAllowed f && hasEnded (standing f)
 fits silent = true
-fits unread = true
+fits notBegun = true
 
 -- no count is over a million
 abbrev pub most : ℕ
@@ -66,7 +66,7 @@ most = 1000000
 
 unfoldable pub tallyAllowed : Tally → Bool
 tallyAllowed t =
-    leb (t .done) most && leb (t .equal) most && leb (t .stopped) most && leb (t .silent) most && leb (t .unread) most
+    leb (t .done) most && leb (t .equal) most && leb (t .stopped) most && leb (t .silent) most && leb (t .unbegun) most
     && leb (t .confirmed) most && leb (t .due) most
 
 -- count by count
@@ -77,7 +77,7 @@ plus t s =
       equal = t .equal + s .equal;
       stopped = t .stopped + s .stopped;
       silent = t .silent + s .silent;
-      unread = t .unread + s .unread;
+      unbegun = t .unbegun + s .unbegun;
       confirmed = t .confirmed + s .confirmed;
       due = t .due + s .due;
     }

@@ -1,7 +1,7 @@
 // The yard's sums: how many trailers came out how, and how many Sets their boards confirmed of how many that were due. The numbers are
 // those of the followers, and of nothing else. Every call takes anything, and its promise fixes its answer (specs/Calls.antt).
 ghost use mathlib.Core.Path.{_≡_};
-ghost use Rattle.tally.specs.Results.{nothing};
+ghost use Rattle.tally.specs.Results.{nothing, tallyAllowed};
 ghost use Rattle.tally.specs.Results as results;
 ghost use Rattle.tally.specs.Calls.{counting};
 use follow::Follower;
@@ -18,7 +18,7 @@ pub struct Tally {
     pub equal: usize,
     pub stopped: usize,
     pub silent: usize,
-    pub unread: usize,
+    pub unbegun: usize,
     pub confirmed: usize,
     pub due: usize,
 }
@@ -37,12 +37,25 @@ impl Tally {
         share::tally_of(0, 0, 0, 0, 0)
     }
 
+    // Whether no count is over a million.
+    pub fn is_allowed(self) -> bool
+        ensures { λ r. ⌜ r ≡ tallyAllowed self ⌝ }
+    {
+        (self.done <= numbers::MOST)
+            & (self.equal <= numbers::MOST)
+            & (self.stopped <= numbers::MOST)
+            & (self.silent <= numbers::MOST)
+            & (self.unbegun <= numbers::MOST)
+            & (self.confirmed <= numbers::MOST)
+            & (self.due <= numbers::MOST)
+    }
+
     // A trailer whose restore was followed to its end; `answered` says that a follower which stopped heard another answer, and not none.
     // Refuses 12 for a tally with a count over a million, and for a follower that no start and events give or that still waits.
     pub fn restored(self, follower: Follower, answered: bool) -> Counted
         ensures { λ r. ⌜ r ≡ counting self (results.restored follower answered) ⌝ }
     {
-        if !sums::is_allowed(self) {
+        if !self.is_allowed() {
             return sums::refused(self);
         }
         sums::with_follower(self, follower, answered)
@@ -52,17 +65,17 @@ impl Tally {
     pub fn silent(self) -> Counted
         ensures { λ r. ⌜ r ≡ counting self results.silent ⌝ }
     {
-        if !sums::is_allowed(self) {
+        if !self.is_allowed() {
             return sums::refused(self);
         }
         sums::accepted(sums::plus(self, share::tally_of(0, 0, 0, 1, 0)))
     }
 
     // A trailer that was not begun: its file was refused, or its line could not be opened. Refuses 12 alike for the tally.
-    pub fn unread(self) -> Counted
-        ensures { λ r. ⌜ r ≡ counting self results.unread ⌝ }
+    pub fn not_begun(self) -> Counted
+        ensures { λ r. ⌜ r ≡ counting self results.notBegun ⌝ }
     {
-        if !sums::is_allowed(self) {
+        if !self.is_allowed() {
             return sums::refused(self);
         }
         sums::accepted(sums::plus(self, share::tally_of(0, 0, 0, 0, 1)))

@@ -2,6 +2,3 @@
 
 // No count of a tally that is handed in is over a million (ours).
 pub(crate) const MOST: usize = 1_000_000;
-
-// The list of all Sets.
-pub(crate) const LIST_ROOM: usize = 390;

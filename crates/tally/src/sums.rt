@@ -6,23 +6,10 @@ ghost use Rattle.tally.specs.AsHeld.{Within};
 ghost use Rattle.tally.specs.Calls as calls;
 use crate::Counted;
 use crate::Tally;
-use crate::numbers;
 use crate::share;
 use follow::Follower;
+use restore::Sets;
 use who::Verdict;
-
-// Whether no count is over a million.
-pub(crate) fn is_allowed(tally: Tally) -> bool
-    ensures { λ r. ⌜ r ≡ tallyAllowed tally ⌝ }
-{
-    (tally.done <= numbers::MOST)
-        & (tally.equal <= numbers::MOST)
-        & (tally.stopped <= numbers::MOST)
-        & (tally.silent <= numbers::MOST)
-        & (tally.unread <= numbers::MOST)
-        & (tally.confirmed <= numbers::MOST)
-        & (tally.due <= numbers::MOST)
-}
 
 // Count by count.
 pub(crate) fn plus(tally: Tally, share: Tally) -> Tally
@@ -34,7 +21,7 @@ pub(crate) fn plus(tally: Tally, share: Tally) -> Tally
         equal: tally.equal + share.equal,
         stopped: tally.stopped + share.stopped,
         silent: tally.silent + share.silent,
-        unread: tally.unread + share.unread,
+        unbegun: tally.unbegun + share.unbegun,
         confirmed: tally.confirmed + share.confirmed,
         due: tally.due + share.due,
     }
@@ -60,19 +47,22 @@ pub(crate) fn accepted(tally: Tally) -> Counted
     }
 }
 
-// A follower tells where it is and its own count when it is told of a refused frame, which changes nothing.
+// A trailer by its follower's own word, with the Sets that it counted and those that were due.
 pub(crate) fn with_follower(tally: Tally, follower: Follower, answered: bool) -> Counted
     requires { ⌜ tallyAllowed tally ≡ true ⌝ }
     ensures { λ r. ⌜ r ≡ calls.counting tally (restored follower answered) ⌝ }
 {
-    let followed = follower.refused_frame();
-    let outcome = followed.outcome;
-    if !share::has_ended(outcome) {
+    let followed = follower.told();
+    let standing = followed.standing;
+    if !share::has_ended(standing) {
         return refused(tally);
     }
-    let due = share::due_of(follower.from, follower.to);
-    accepted(plus(
-        tally,
-        share::share_of(outcome, answered, followed.confirmed, due),
-    ))
+    let sets = restore::sets_due(follower.from, follower.to);
+    match sets {
+        Sets::Due(due) => accepted(plus(
+            tally,
+            share::share_of(standing, answered, followed.confirmed, due),
+        )),
+        Sets::Refused(_) => refused(tally),
+    }
 }

@@ -10,8 +10,7 @@ use crate::say;
 use crate::words;
 use collect::Collected;
 use collect::Collector;
-use collect::Outcome;
-use collect::Phase;
+use collect::Stage;
 use settings::COUNT;
 use settings::Found;
 use settings::Setting;
@@ -36,7 +35,7 @@ pub fn gather(row: &[u8]) {
     let made = Collector {
         len: args::number(row, 1),
         numbers: [0u16; COUNT],
-        phase: Phase::Waiting,
+        stopped: false,
     };
     items(made, row);
 }
@@ -124,9 +123,9 @@ fn heard(collector: Collector, read: Read, space: [u8; SPACE]) -> Collected {
 // An answer: where the collecting is, how many settings were answered, and what is not the factory's in the table. The collector in it
 // goes on.
 fn told(answer: Collected) -> Collector {
-    let outcome = answer.outcome;
+    let stage = answer.stage;
     let collector = answer.collector;
-    standing(outcome);
+    say_stage(stage);
     say::number(answer.answered);
     filled::differences(answer.table);
     words::say(words::END);
@@ -134,12 +133,12 @@ fn told(answer: Collected) -> Collector {
 }
 
 // Where the collecting is.
-fn standing(outcome: Outcome) {
-    match outcome {
-        Outcome::Waiting(setting) => with_id(words::WAITING, setting),
-        Outcome::Done => words::say(words::DONE),
-        Outcome::Stopped(setting) => with_id(words::STOPPED, setting),
-        Outcome::Refused(number) => say::refused(number),
+fn say_stage(stage: Stage) {
+    match stage {
+        Stage::Waiting(setting) => with_id(words::WAITING, setting),
+        Stage::Done => words::say(words::DONE),
+        Stage::Stopped(setting) => with_id(words::STOPPED, setting),
+        Stage::Refused(number) => say::refused(number),
     }
 }
 

@@ -10,7 +10,7 @@ use crate::say;
 use crate::words;
 use follow::Followed;
 use follow::Follower;
-use follow::Outcome;
+use follow::Standing;
 use restore::Wanted;
 use wire::Read;
 
@@ -57,22 +57,22 @@ fn heard(follower: Follower, read: Read, space: [u8; SPACE]) -> Followed {
 
 // An answer: where the restore is, and how many Sets are confirmed. The follower in it goes on.
 fn told(answer: Followed) -> Follower {
-    let outcome = answer.outcome;
+    let standing = answer.standing;
     let follower = answer.follower;
-    standing(outcome);
+    say_standing(standing);
     say::number(answer.confirmed);
     words::say(words::END);
     follower
 }
 
 // Where a restore is.
-fn standing(outcome: Outcome) {
-    match outcome {
-        Outcome::Waiting(wanted) => with_set(words::WAITING, wanted),
-        Outcome::Equal => words::say(words::EQUAL),
-        Outcome::Done => words::say(words::DONE),
-        Outcome::Stopped(wanted) => with_set(words::STOPPED, wanted),
-        Outcome::Refused(number) => say::refused(number),
+fn say_standing(standing: Standing) {
+    match standing {
+        Standing::Waiting(wanted) => with_set(words::WAITING, wanted),
+        Standing::Equal => words::say(words::EQUAL),
+        Standing::Done => words::say(words::DONE),
+        Standing::Stopped(wanted) => with_set(words::STOPPED, wanted),
+        Standing::Refused(number) => say::refused(number),
     }
 }
 

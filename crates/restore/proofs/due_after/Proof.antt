@@ -7,6 +7,7 @@ use Rattle.restore.specs.Order.{order, wanted, dueSets}
 use Rattle.restore.specs.declared.Due.{Due}
 use Rattle.laws.proofs.Bools.{and-right}
 use lib.ListN.{length}
+use Rattle.settings.specs.Columns.{count}
 use Rattle.restore.proofs.Placing.{entry-fits}
 use Rattle.restore.proofs.Rows.{row-sets, row-few, row-entry, due-stray, due-is, after-last, after-some}
 use borrow.Author.Needs.{needs}
@@ -14,12 +15,12 @@ use native.Mathlib.Omega.{arith}
 use Rattle.restore.proofs.due_after.Statement.{statement}
 use Rattle.restore.proofs.due_after.Tie as tie
 
-long : (c : tie.After-indices) → length (c .before .before .before .row-of .result .indices) ≡ 26
+long : (c : tie.After-indices) → length (c .before .before .before .row-of .result .indices) ≡ count
 long c = search needs
 
-within : (c : tie.After-indices) → c .before .before .before .before .before .before .args .done < 26
+within : (c : tie.After-indices) → c .before .before .before .before .before .before .args .done < count
 within c =
-    let few : c .before .before .before .row-of .result .len ≤ 26 = row-few (c .before .before .before .before .before .before .args .from) (c .before .before .before .before .before .before .args .to) _ (c .before .before .before .row-of .ensures) (long c) in
+    let few : c .before .before .before .row-of .result .len ≤ count = row-few (c .before .before .before .before .before .before .args .from) (c .before .before .before .before .before .before .args .to) _ (c .before .before .before .row-of .ensures) (long c) in
     omega (arith, c .before .if2 .left)
 
 inside : (c : tie.After-indices) → c .before .before .before .before .before .before .args .done < length (order (c .before .before .before .before .before .before .args .from) (c .before .before .before .before .before .before .args .to))

@@ -6,12 +6,13 @@ use Rattle.tables.specs.Rules.{allowed}
 use Rattle.laws.proofs.Bools.{and-right}
 use Rattle.laws.proofs.Promise.{gives-none}
 use lib.ListN.{length}
+use Rattle.settings.specs.Columns.{count}
 use Rattle.restore.proofs.Rows.{row-fits, row-few, list-short, list-stray, list-gives}
 use borrow.Author.Needs.{needs}
 use Rattle.restore.proofs.list.Statement.{statement}
 use Rattle.restore.proofs.list.Tie as tie
 
-long : (c : tie.After-put-sets-arg) → length (c .before .row-of .result .indices) ≡ 26
+long : (c : tie.After-put-sets-arg) → length (c .before .row-of .result .indices) ≡ count
 long c = search needs
 
 returns : tie.Need-returns

@@ -1,8 +1,8 @@
 -- `collect::Collector::no_answer` meets its contract. Assumes nothing.
 use mathlib.Core.Path.{sym, ap, _∙_}
 use borrow.Author.Tests.{not-true, not-false}
-use Rattle.collect.specs.Calls.{told}
-use Rattle.collect.proofs.Moving.{collecting-stray, collecting-told}
+use Rattle.collect.specs.Calls.{good}
+use Rattle.collect.proofs.Moving.{collecting-stray, collecting-good}
 use borrow.Author.Needs.{needs}
 use Rattle.collect.proofs.Collector.no_answer.Statement.{statement}
 use Rattle.collect.proofs.Collector.no_answer.Tie as tie
@@ -19,11 +19,11 @@ returns c = c .stray .ensures ∙ collecting-stray _ _ (sym (c .before .before .
 after-silence-requires : tie.Need-after-silence-requires
 after-silence-requires c κs = search needs
 
-told-requires : tie.Need-told-requires
-told-requires c κs = search needs
+good-requires : tie.Need-good-requires
+good-requires c κs = search needs
 
 returns-2 : tie.Need-returns-2
-returns-2 c = c .told .ensures ∙ ap told (c .before .after-silence .ensures) ∙ collecting-told _ _ (sym (c .before .before .before .is-allowed .ensures) ∙ not-false _ (c .before .before .if1 .left))
+returns-2 c = c .good2 .ensures ∙ ap good (c .before .after-silence .ensures) ∙ collecting-good _ _ (sym (c .before .before .before .is-allowed .ensures) ∙ not-false _ (c .before .before .if1 .left))
 
 pub no-answer-spec : {M : Type 1} → statement M
 no-answer-spec =
@@ -33,5 +33,5 @@ no-answer-spec =
     stray-requires
     returns
     after-silence-requires
-    told-requires
+    good-requires
     returns-2)

@@ -1,8 +1,8 @@
 -- `collect::Collector::reply` meets its contract. Assumes nothing.
 use mathlib.Core.Path.{sym, ap, _∙_}
 use borrow.Author.Tests.{not-true, not-false}
-use Rattle.collect.specs.Calls.{told}
-use Rattle.collect.proofs.Moving.{collecting-stray, collecting-told}
+use Rattle.collect.specs.Calls.{good}
+use Rattle.collect.proofs.Moving.{collecting-stray, collecting-good}
 use borrow.Author.Needs.{needs}
 use Rattle.collect.proofs.Collector.reply.Statement.{statement}
 use Rattle.collect.proofs.Collector.reply.Tie as tie
@@ -17,13 +17,13 @@ returns : tie.Need-returns
 returns c = c .stray .ensures ∙ collecting-stray _ _ (sym (c .before .before .is-allowed .ensures) ∙ not-true _ (c .before .if1 .taken))
 
 after-frame-requires : tie.Need-after-frame-requires
-after-frame-requires c κs = sym (c .before .is-allowed .ensures) ∙ not-false _ (c .if1 .left)
+after-frame-requires c κs = search needs
 
-told-requires : tie.Need-told-requires
-told-requires c κs = search needs
+good-requires : tie.Need-good-requires
+good-requires c κs = search needs
 
 returns-2 : tie.Need-returns-2
-returns-2 c = c .told .ensures ∙ ap told (c .before .after-frame .ensures) ∙ collecting-told _ _ (sym (c .before .before .before .is-allowed .ensures) ∙ not-false _ (c .before .before .if1 .left))
+returns-2 c = c .good2 .ensures ∙ ap good (c .before .after-frame .ensures) ∙ collecting-good _ _ (sym (c .before .before .before .is-allowed .ensures) ∙ not-false _ (c .before .before .if1 .left))
 
 pub reply-spec : {M : Type 1} → statement M
 reply-spec =
@@ -33,5 +33,5 @@ reply-spec =
     stray-requires
     returns
     after-frame-requires
-    told-requires
+    good-requires
     returns-2)

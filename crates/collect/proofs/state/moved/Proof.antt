@@ -5,8 +5,8 @@ use borrow.Author.Needs.{needs}
 use Rattle.collect.proofs.state.moved.Statement.{statement}
 use Rattle.collect.proofs.state.moved.Tie as tie
 
-enum-known-verdict : tie.Need-enum-known-verdict
-enum-known-verdict c = search needs
+enum-known-intake : tie.Need-enum-known-intake
+enum-known-intake c = search needs
 
 took-requires : tie.Need-took-requires
 took-requires c κs = c .before .before .before .pre
@@ -14,17 +14,17 @@ took-requires c κs = c .before .before .before .pre
 enum-told : tie.Need-enum-told
 enum-told c = search needs
 
-stopped-requires : tie.Need-stopped-requires
-stopped-requires c κs = search needs
+halted-requires : tie.Need-halted-requires
+halted-requires c κs = search needs
 
 enum-told-2 : tie.Need-enum-told-2
 enum-told-2 c = search needs
 
 returns : tie.Need-returns
-returns c = c .took .ensures ∙ ap (moved _) (sym (c .before .before .verdict .given .1))
+returns c = c .took .ensures ∙ ap (moved _) (sym (c .before .before .intake .given .1))
 
 returns-2 : tie.Need-returns-2
-returns-2 c = c .stopped .ensures ∙ ap (moved _) (sym (c .before .enum-told .given .1))
+returns-2 c = c .halted .ensures ∙ ap (moved _) (sym (c .before .enum-told .given .1))
 
 returns-3 : tie.Need-returns-3
 returns-3 c = ap (moved _) (sym (c .enum-told2 .given .1))
@@ -33,10 +33,10 @@ pub moved-spec : {M : Type 1} → statement M
 moved-spec =
     tie.close
     (tie.spec
-    enum-known-verdict
+    enum-known-intake
     took-requires
     enum-told
-    stopped-requires
+    halted-requires
     enum-told-2
     returns
     returns-2

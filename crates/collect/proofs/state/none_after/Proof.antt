@@ -4,6 +4,7 @@ use mathlib.Core.Bool.{_&&_}
 use Prim.Native.Nat.{_≤_, _-_}
 use lib.ListN.{length, drop}
 use lib.Dec.{eqb}
+use Rattle.settings.specs.Columns.{count}
 use Rattle.laws.specs.Lists.{every}
 use Rattle.collect.specs.Collecting.{noneAfter}
 use Rattle.collect.proofs.Moving.{none-turn, none-end}
@@ -13,12 +14,12 @@ use Rattle.collect.proofs.state.none_after.Statement.{statement}
 use Rattle.collect.proofs.state.none_after.Tie as tie
 
 abbrev Inv-loop : tie.InvT-loop
-Inv-loop len numbers all₀ i₀ all i = (i ≤ 26) × ((all && every (eqb 0) (drop i numbers)) ≡ noneAfter numbers len)
+Inv-loop len numbers all₀ i₀ all i = (i ≤ count) × ((all && every (eqb 0) (drop i numbers)) ≡ noneAfter numbers len)
 
 abbrev μ-loop : tie.MeasureT-loop
-μ-loop len numbers all₀ i₀ all i = 26 - i
+μ-loop len numbers all₀ i₀ all i = count - i
 
-long : (s : tie.Start Inv-loop μ-loop) → length (s .args .t1) ≡ 26
+long : (s : tie.Start Inv-loop μ-loop) → length (s .args .t1) ≡ count
 long s = search needs
 
 loop-holds : tie.Need-loop-holds Inv-loop μ-loop

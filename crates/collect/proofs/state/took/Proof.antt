@@ -14,17 +14,9 @@ array-write-numbers c = search needs
 add-t5 : tie.Need-add-t5
 add-t5 c = search needs
 
-add-phase-at : tie.Need-add-phase-at
-add-phase-at c = search needs
-
-phase-at-requires : tie.Need-phase-at-requires
-phase-at-requires c κs = search needs
-
 returns : tie.Need-returns
 unfolding took
-returns c = rw (c .phase-at .ensures, add-one (c .before .before .args .collector .len))
+returns c = rw (add-one (c .before .args .collector .len))
 
 pub took-spec : {M : Type 1} → statement M
-took-spec =
-    tie.close
-    (tie.spec mul-numbers array-write-numbers add-t5 add-phase-at phase-at-requires returns)
+took-spec = tie.close (tie.spec mul-numbers array-write-numbers add-t5 returns)

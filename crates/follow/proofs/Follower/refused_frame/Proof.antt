@@ -1,7 +1,7 @@
 -- `follow::Follower::refused_frame` meets its contract. Assumes nothing.
 use mathlib.Core.Path.{_∙_}
 use Prim.Native.Nat.{_-_}
-use Rattle.follow.proofs.Standing.{following-refused}
+use Rattle.follow.proofs.Standings.{following-refused}
 use borrow.Author.Needs.{needs}
 use Rattle.follow.proofs.Follower.refused_frame.Statement.{statement}
 use Rattle.follow.proofs.Follower.refused_frame.Tie as tie

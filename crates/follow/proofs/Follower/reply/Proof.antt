@@ -4,7 +4,7 @@ use Prim.Native.Nat.{_-_}
 use borrow.Author.Tests.{not-true, not-false}
 use Rattle.reply.specs.Events.{heard}
 use Rattle.follow.specs.Calls.{answered}
-use Rattle.follow.proofs.Standing.{following-good, following-stray}
+use Rattle.follow.proofs.Standings.{following-good, following-stray}
 use borrow.Author.Needs.{needs}
 use Rattle.follow.proofs.Follower.reply.Statement.{statement}
 use Rattle.follow.proofs.Follower.reply.Tie as tie

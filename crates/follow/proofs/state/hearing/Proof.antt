@@ -3,7 +3,7 @@ use mathlib.Core.Path.{sym, ap, _∙_}
 use Prim.Native.Nat.{_-_}
 use Rattle.reply.specs.Events.{heard}
 use Rattle.follow.specs.Following.{moved}
-use Rattle.follow.proofs.Standing.{advanced-is, waiting-narrow}
+use Rattle.follow.proofs.Standings.{advanced-is, waiting-narrow}
 use borrow.Author.Needs.{needs}
 use Rattle.follow.proofs.state.hearing.Statement.{statement}
 use Rattle.follow.proofs.state.hearing.Tie as tie
@@ -11,11 +11,11 @@ use Rattle.follow.proofs.state.hearing.Tie as tie
 standing-of-requires : tie.Need-standing-of-requires
 standing-of-requires c κs = search needs
 
-enum-known-outcome : tie.Need-enum-known-outcome
-enum-known-outcome c = search needs
+enum-known-standing : tie.Need-enum-known-standing
+enum-known-standing c = search needs
 
 on-reply-requires : tie.Need-on-reply-requires
-on-reply-requires c κs = waiting-narrow _ _ (sym (c .before .before .before .standing-of .ensures) ∙ c .before .outcome .given .1)
+on-reply-requires c κs = waiting-narrow _ _ (sym (c .before .before .before .standing-of .ensures) ∙ c .before .standing .given .1)
 
 moved-by-requires : tie.Need-moved-by-requires
 moved-by-requires c κs = c .before .before .before .before .before .before .pre
@@ -33,7 +33,7 @@ enum-told-4 : tie.Need-enum-told-4
 enum-told-4 c = search needs
 
 returns : tie.Need-returns
-returns c = c .moved-by .ensures ∙ ap (moved (c .before .before .before .before .before .before .before .args .follower)) (c .before .on-reply .ensures) ∙ advanced-is _ (heard _ _) _ (sym (c .before .before .before .before .before .standing-of .ensures) ∙ c .before .before .before .outcome .given .1)
+returns c = c .moved-by .ensures ∙ ap (moved (c .before .before .before .before .before .before .before .args .follower)) (c .before .on-reply .ensures) ∙ advanced-is _ (heard _ _) _ (sym (c .before .before .before .before .before .standing-of .ensures) ∙ c .before .before .before .standing .given .1)
 
 returns-2 : tie.Need-returns-2
 returns-2 c = advanced-is _ (heard _ _) _ (sym (c .before .before .standing-of .ensures) ∙ c .enum-told .given .1)
@@ -52,7 +52,7 @@ hearing-spec =
     tie.close
     (tie.spec
     standing-of-requires
-    enum-known-outcome
+    enum-known-standing
     on-reply-requires
     moved-by-requires
     enum-told

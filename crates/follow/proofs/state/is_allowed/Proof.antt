@@ -2,7 +2,7 @@
 use mathlib.Core.Path.{sym, ap, _∙_}
 use Prim.Native.Nat.{_-_}
 use mathlib.Core.Bool.{not, _&&_}
-use Rattle.follow.proofs.Standing.{due-known, allowed-more, allowed-last, allowed-stray}
+use Rattle.follow.proofs.Standings.{due-known, allowed-more, allowed-last, allowed-stray}
 use borrow.Author.Needs.{needs}
 use Rattle.follow.proofs.state.is_allowed.Statement.{statement}
 use Rattle.follow.proofs.state.is_allowed.Tie as tie

@@ -1,7 +1,7 @@
 -- `follow::state::is_reached` meets its contract. Assumes nothing.
 use mathlib.Core.Path.{sym, _∙_}
 use Prim.Native.Nat.{_-_}
-use Rattle.follow.proofs.Standing.{reached-none, reached-some}
+use Rattle.follow.proofs.Standings.{reached-none, reached-some}
 use borrow.Author.Needs.{needs}
 use Rattle.follow.proofs.state.is_reached.Statement.{statement}
 use Rattle.follow.proofs.state.is_reached.Tie as tie

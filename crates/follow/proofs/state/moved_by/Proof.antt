@@ -2,7 +2,7 @@
 use mathlib.Core.Path.{ap, _∙_}
 use Prim.Native.Nat.{ℕ, _-_}
 use native.Mathlib.Numerals.{add-one}
-use Rattle.follow.proofs.Standing.{confirmed-few}
+use Rattle.follow.proofs.Standings.{confirmed-few}
 use borrow.Author.Needs.{needs}
 use native.Mathlib.Omega.{arith}
 use Rattle.follow.proofs.state.moved_by.Statement.{statement}

@@ -1,7 +1,7 @@
 -- `follow::state::standing_of` meets its contract. Assumes nothing.
 use mathlib.Core.Path.{sym, _∙_}
 use Prim.Native.Nat.{_-_}
-use Rattle.follow.proofs.Standing.{standing-is}
+use Rattle.follow.proofs.Standings.{standing-is}
 use borrow.Author.Needs.{needs}
 use Rattle.follow.proofs.state.standing_of.Statement.{statement}
 use Rattle.follow.proofs.state.standing_of.Tie as tie

@@ -3,7 +3,7 @@ use mathlib.Core.Path.{sym, _∙_}
 use Prim.Native.Nat.{_-_}
 use borrow.Author.Tests.{not-true, not-false}
 use Rattle.follow.specs.Calls.{answered}
-use Rattle.follow.proofs.Standing.{told-good, told-stray}
+use Rattle.follow.proofs.Standings.{told-good, told-stray}
 use borrow.Author.Needs.{needs}
 use Rattle.follow.proofs.state.told.Statement.{statement}
 use Rattle.follow.proofs.state.told.Tie as tie

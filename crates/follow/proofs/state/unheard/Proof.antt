@@ -2,7 +2,7 @@
 use mathlib.Core.Path.{sym, _∙_}
 use Prim.Native.Nat.{_-_}
 use Rattle.reply.specs.Events.{noAnswer}
-use Rattle.follow.proofs.Standing.{advanced-is}
+use Rattle.follow.proofs.Standings.{advanced-is}
 use borrow.Author.Needs.{needs}
 use Rattle.follow.proofs.state.unheard.Statement.{statement}
 use Rattle.follow.proofs.state.unheard.Tie as tie

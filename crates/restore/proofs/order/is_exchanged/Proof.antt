@@ -3,11 +3,12 @@ use mathlib.Core.Path.{sym, ap, _∙_}
 use Prim.Native.Nat.{ℕ, _-_, _<_}
 use Rattle.restore.specs.Order.{higherFirst}
 use Rattle.settings.proofs.Theorems.{rows-hold}
+use Rattle.settings.specs.Columns.{count}
 use Rattle.restore.proofs.Placing.{by-lower, by-higher}
 use Rattle.restore.proofs.order.is_exchanged.Statement.{statement}
 use Rattle.restore.proofs.order.is_exchanged.Tie as tie
 
-partner-in : (s : tie.Start) → s .args .partner < 26
+partner-in : (s : tie.Start) → s .args .partner < count
 partner-in s = rw (s .pre .2) (rows-hold _ (s .pre .1) .partner-is)
 
 is-turned-requires : tie.Need-is-turned-requires

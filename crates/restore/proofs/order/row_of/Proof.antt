@@ -1,6 +1,7 @@
 -- `restore::order::row_of` meets its contract. Assumes nothing.
 use mathlib.Core.Path.{refl}
 use Prim.Native.Nat.{_-_, _≤_}
+use Rattle.settings.specs.Columns.{count}
 use Rattle.restore.proofs.Placing.{placed-below}
 use Rattle.restore.proofs.Rows.{one-few, Ordering, ordering-start, ordering-turn, ordering-end}
 use borrow.Author.Needs.{needs}
@@ -12,7 +13,7 @@ abbrev Inv-loop : tie.InvT-loop
 Inv-loop from to indices₀ len₀ place₀ indices len place = Ordering from to indices len place
 
 abbrev μ-loop : tie.MeasureT-loop
-μ-loop from to indices₀ len₀ place₀ indices len place = 26 - place
+μ-loop from to indices₀ len₀ place₀ indices len place = count - place
 
 loop-holds : tie.Need-loop-holds Inv-loop μ-loop
 loop-holds c = ordering-start _ _ _ refl

@@ -6,12 +6,13 @@ use Rattle.settings.specs.declared.Found.{Found}
 use Rattle.settings.specs.Calls.{settingAt}
 use Rattle.settings.proofs.Theorems.{place-is-found}
 use borrow.Author.Needs.{needs}
+use Rattle.settings.specs.Columns.{count}
 use Rattle.restore.proofs.order.setting_at.Statement.{statement}
 use Rattle.restore.proofs.order.setting_at.Tie as tie
 
 abbrev settingOf : Found → Setting
 settingOf (Found.At s) = s
-settingOf Found.Nothing = record { index = 26; id = 0; width = 0; partner = 26 }
+settingOf Found.Nothing = record { index = count; id = 0; width = 0; partner = count }
 
 at-requires : tie.Need-at-requires
 at-requires c κs = search needs

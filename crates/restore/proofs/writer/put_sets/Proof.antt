@@ -2,6 +2,7 @@
 use mathlib.Core.Path.{_≡_}
 use Prim.Native.Nat.{_-_}
 use lib.ListN.{length}
+use Rattle.settings.specs.Columns.{count}
 use Rattle.restore.proofs.Writing.{number-fits, Putting, entry-below, putting-start, putting-room, putting-turn, putting-end}
 use borrow.Author.Needs.{needs}
 use native.Mathlib.Omega.{arith}
@@ -14,7 +15,7 @@ Inv-loop row out₀ indices numbers at₀ i₀ out at i = Putting (record { numb
 abbrev μ-loop : tie.MeasureT-loop
 μ-loop row out₀ indices numbers at₀ i₀ out at i = row .len - i
 
-long : (s : tie.Start Inv-loop μ-loop) → length (s .args .row .indices) ≡ 26
+long : (s : tie.Start Inv-loop μ-loop) → length (s .args .row .indices) ≡ count
 long s = search needs
 
 loop-holds : tie.Need-loop-holds Inv-loop μ-loop

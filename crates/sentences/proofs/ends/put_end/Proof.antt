@@ -16,7 +16,7 @@ returns-4 : tie.Need-returns-4
 returns-4 c = rw (c .before .enum-told4 .given .1) (c .put-stopped .ensures)
 
 returns-5 : tie.Need-returns-5
-returns-5 c = rw (c .before .before .outcome .given .1) (c .put-refused .ensures)
+returns-5 c = rw (c .before .before .standing .given .1) (c .put-refused .ensures)
 
 pub put-end-spec : {M : Type 1} → statement M
 put-end-spec =

@@ -16,7 +16,7 @@ due-of-requires c κs = sym (c .before .before .is-allowed .ensures) ∙ not-fal
 returns-2 : tie.Need-returns-2
 returns-2 c =
     let c3 = c .before .before .before in
-    follower-line _ _ _ _ (sym (c3 .before .is-allowed .ensures) ∙ not-false _ (c3 .if1 .left)) (c .before .before .refused-frame .ensures) (c .before .due-of .ensures) (c .put-end .ensures)
+    follower-line _ _ _ _ (sym (c3 .before .is-allowed .ensures) ∙ not-false _ (c3 .if1 .left)) (c .before .before .told .ensures) (c .before .due-of .ensures) (c .put-end .ensures)
 
 pub put-follower-spec : {M : Type 1} → statement M
 put-follower-spec =

@@ -13,7 +13,7 @@ returns-3 : tie.Need-returns-3
 returns-3 c = rw (c .before .before .before .enum-told3 .given .1) (c .put-of2 .ensures)
 
 returns-4 : tie.Need-returns-4
-returns-4 c = rw (c .before .before .outcome .given .1) (c .put-refused .ensures)
+returns-4 c = rw (c .before .before .stage .given .1) (c .put-refused .ensures)
 
 pub put-read-spec : {M : Type 1} → statement M
 put-read-spec =

@@ -4,20 +4,20 @@ use mathlib.Core.Bool.{true}
 use borrow.Author.Tests.{not-true, not-false}
 use Rattle.tally.specs.Results.{restored, fits, plus, shareOf}
 use Rattle.tally.specs.Calls.{counted}
-use Rattle.tally.proofs.Counting.{within-of, share-within, share-is, ended-fits, counting-unfit, counting-fit}
+use Rattle.tally.proofs.Counting.{within-of, share-within, share-is, never-refused, ended-fits, counting-unfit, counting-fit}
 use borrow.Author.Needs.{needs}
 use Rattle.tally.proofs.sums.with_follower.Statement.{statement}
 use Rattle.tally.proofs.sums.with_follower.Tie as tie
 
 -- the follower is at an end, and what it adds is what it says of itself
-fit : (c : tie.After-share-of) → fits (restored (c .before .before .before .before .before .args .follower) (c .before .before .before .before .before .args .answered)) ≡ true
-fit c = sym (ended-fits _ _ (c .before .before .before .before .refused-frame .ensures) _) ∙ sym (c .before .before .before .has-ended .ensures) ∙ not-false _ (c .before .before .if1 .left)
+fit : (c : tie.After-sets-due) → fits (restored (c .before .before .before .before .args .follower) (c .before .before .before .before .args .answered)) ≡ true
+fit c = sym (ended-fits _ _ (c .before .before .before .told .ensures) _) ∙ sym (c .before .before .has-ended .ensures) ∙ not-false _ (c .before .if1 .left)
 
-share : (c : tie.After-share-of) → c .share-of .result ≡ shareOf (restored (c .before .before .before .before .before .args .follower) (c .before .before .before .before .before .args .answered))
-share c = c .share-of .ensures ∙ share-is _ _ (c .before .before .before .before .refused-frame .ensures) _ (fit c) _ (c .before .due-of .ensures)
+share : (c : tie.After-share-of) → c .share-of .result ≡ shareOf (restored (c .before .before .before .before .before .before .before .before .args .follower) (c .before .before .before .before .before .before .before .before .args .answered))
+share c = c .share-of .ensures ∙ share-is _ _ (c .before .before .before .before .before .before .before .told .ensures) _ (fit (c .before .before .before .before)) _ (sym (c .before .before .before .before .sets-due .ensures) ∙ c .before .before .sets .given .1)
 
-refused-frame-requires : tie.Need-refused-frame-requires
-refused-frame-requires c κs = search needs
+told-requires : tie.Need-told-requires
+told-requires c κs = search needs
 
 has-ended-requires : tie.Need-has-ended-requires
 has-ended-requires c κs = search needs
@@ -26,33 +26,49 @@ refused-requires : tie.Need-refused-requires
 refused-requires c κs = search needs
 
 returns : tie.Need-returns
-returns c = c .refused .ensures ∙ counting-unfit _ _ (c .before .before .before .before .pre) (sym (ended-fits _ _ (c .before .before .before .refused-frame .ensures) _) ∙ sym (c .before .before .has-ended .ensures) ∙ not-true _ (c .before .if1 .taken))
+returns c = c .refused .ensures ∙ counting-unfit _ _ (c .before .before .before .before .pre) (sym (ended-fits _ _ (c .before .before .before .told .ensures) _) ∙ sym (c .before .before .has-ended .ensures) ∙ not-true _ (c .before .if1 .taken))
 
-due-of-requires : tie.Need-due-of-requires
-due-of-requires c κs = search needs
+sets-due-requires : tie.Need-sets-due-requires
+sets-due-requires c κs = search needs
+
+enum-known-sets : tie.Need-enum-known-sets
+enum-known-sets c = search needs
 
 share-of-requires : tie.Need-share-of-requires
 share-of-requires c κs = search needs
 
 plus-requires : tie.Need-plus-requires
-plus-requires c κs = (within-of _ (c .before .before .before .before .before .pre), rw (share c) (share-within _ _ (fit c)))
+plus-requires c κs = (within-of _ (c .before .before .before .before .before .before .before .before .pre), rw (share c) (share-within _ _ (fit (c .before .before .before .before))))
 
 accepted-requires : tie.Need-accepted-requires
 accepted-requires c κs = search needs
 
+enum-told : tie.Need-enum-told
+enum-told c = search needs
+
+refused-requires-2 : tie.Need-refused-requires-2
+refused-requires-2 c κs = search needs
+
 returns-2 : tie.Need-returns-2
-returns-2 c = c .accepted .ensures ∙ ap counted (c .before .plus .ensures ∙ ap (plus _) (share (c .before .before))) ∙ counting-fit _ _ (c .before .before .before .before .before .before .before .pre) (fit (c .before .before))
+returns-2 c = c .accepted .ensures ∙ ap counted (c .before .plus .ensures ∙ ap (plus _) (share (c .before .before))) ∙ counting-fit _ _ (c .before .before .before .before .before .before .before .before .before .before .pre) (fit (c .before .before .before .before .before .before))
+
+returns-3 : tie.Need-returns-3
+returns-3 c = absurd (never-refused _ _ (c .before .before .before .before .before .before .told .ensures) _ (fit (c .before .before .before)) _ (sym (c .before .before .before .sets-due .ensures) ∙ c .before .enum-told .given .1))
 
 pub with-follower-spec : {M : Type 1} → statement M
 with-follower-spec =
     tie.close
     (tie.spec
-    refused-frame-requires
+    told-requires
     has-ended-requires
     refused-requires
     returns
-    due-of-requires
+    sets-due-requires
+    enum-known-sets
     share-of-requires
     plus-requires
     accepted-requires
-    returns-2)
+    enum-told
+    refused-requires-2
+    returns-2
+    returns-3)
