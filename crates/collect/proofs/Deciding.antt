@@ -23,44 +23,6 @@ use Rattle.reply.specs.Events.{heard}
 use Rattle.collect.specs.Collecting.{fits, valued, onHeeded, intakeOf}
 use Rattle.collect.specs.declared.intake.Intake.{Intake}
 
--- past a list is what is asked for there
-getD-past : (l : List ℕ) (k d : ℕ) → length l ≤ k → getD l k d ≡ d
-getD-past [] k d h = refl
-getD-past (x ∷ l) zero d h = absurd (omega arith)
-getD-past (x ∷ l) (suc k) d h = getD-past l k d (le-of-suc-le-suc h)
-
--- what a look-up found is the setting at the place, which past the table has neither id nor width
-pub found-is : (k : ℕ) (s : Setting) → placing k ≡ Found.At s → s ≡ settingAt k
-unfolding placing
-found-is k s = by (ltb k count)
-  where
-    settingOf : Found → Setting
-    settingOf (Found.At here) = here
-    settingOf Found.Nothing = s
-
-    isFound : Found → Bool
-    isFound (Found.At here) = true
-    isFound Found.Nothing = false
-
-    by : (b : Bool) → cond b (Found.At (settingAt k)) Found.Nothing ≡ Found.At s → s ≡ settingAt k
-    by true e = sym (ap settingOf e)
-    by false e = absurd (false≢true (ap isFound e))
-
-pub nothing-is : (k : ℕ) → placing k ≡ Found.Nothing → record { index = k; id = 0; width = 0; partner = 0 } ≡ settingAt k
-unfolding placing
-nothing-is k = by (ltb k count) refl
-  where
-    isFound : Found → Bool
-    isFound (Found.At here) = true
-    isFound Found.Nothing = false
-
-    by : (b : Bool) → ltb k count ≡ b → cond b (Found.At (settingAt k)) Found.Nothing ≡ Found.Nothing
-        → record { index = k; id = 0; width = 0; partner = 0 } ≡ settingAt k
-    by true h e = absurd (false≢true (sym (ap isFound e)))
-    by false h e =
-        let past : count ≤ k = ltb-false _ _ h in
-        rw (getD-past ids k 0 past, getD-past widths k 0 past, getD-past partners k 0 past)
-
 -- a number that fits, by the setting that is found
 pub partner-small : (k : ℕ) (s : Setting) → s ≡ settingAt k → k < count → s .partner < count
 partner-small k s is h = rw (ap (λ (t : Setting). t .partner) is) (rows-hold k h .partner-is)

@@ -4,7 +4,6 @@ ghost use Rattle.collect.specs.Calls as spec;
 use crate::Collected;
 use crate::Collector;
 use crate::Stage;
-use crate::place;
 use crate::state;
 use settings::COUNT;
 use tables::Table;
@@ -16,7 +15,7 @@ fn stage_of(len: usize, stopped: bool) -> Stage
     if len >= COUNT {
         return Stage::Done;
     }
-    let due = place::setting_at(len);
+    let due = settings::setting_at(len);
     if stopped {
         return Stage::Stopped(due);
     }

@@ -1,9 +1,6 @@
 // What a frame does to a follower that waits for the Set that is due.
-ghost use Prim.Native.Nat.{_≤_};
 ghost use mathlib.Core.Path.{_≡_};
 ghost use mathlib.Core.Bool.{cond};
-ghost use lib.ListN.{length};
-ghost use Rattle.endian.specs.Numbers.{fromLittle};
 ghost use Rattle.follow.specs.Following.{carries, onReply};
 ghost use Rattle.follow.specs.AsHeld.{Narrow};
 ghost use Rattle.follow.specs.declared.effect.Effect.{Effect};
@@ -17,17 +14,6 @@ pub(crate) enum Effect {
     Waits,
 }
 
-// The number of one or two bytes, the low one first.
-fn number_of(value: &[u8]) -> u16
-    requires { ⌜ (1 ≤ length (now value)) × (length (now value) ≤ 2) ⌝ }
-    ensures { λ r. ⌜ r ≡ fromLittle (now (value .entry)) ⌝ }
-{
-    if value.len() == 1 {
-        return value[0] as u16;
-    }
-    value[0] as u16 + 256 * (value[1] as u16)
-}
-
 // Whether a value is the due number in its width.
 fn is_carried(wanted: Wanted, value: &[u8]) -> bool
     requires { ⌜ Narrow wanted ⌝ }
@@ -36,7 +22,7 @@ fn is_carried(wanted: Wanted, value: &[u8]) -> bool
     if value.len() != wanted.setting.width {
         return false;
     }
-    number_of(value) == wanted.number
+    endian::read_16(value) == wanted.number
 }
 
 // The value of a good reply to the Set that is due.

@@ -5,14 +5,11 @@ ghost use mathlib.Core.Path.{_≡_};
 ghost use mathlib.Core.Bool.{true, cond};
 ghost use Rattle.settings.specs.Columns.{count, partnerAt};
 ghost use Rattle.tables.specs.Rules.{allowed};
-ghost use Rattle.settings.specs.Calls.{settingAt};
 ghost use Rattle.restore.specs.Order.{differs, higherFirst, exchanged, placed, order, wanted};
 ghost use Rattle.restore.specs.Calls.{bothAllowed};
 ghost use Rattle.restore.specs.AsHeld.{Holds};
 use crate::Wanted;
 use settings::COUNT;
-use settings::Found;
-use settings::Setting;
 use tables::Table;
 
 // The differing settings by their places, in the order in which their Sets go.
@@ -28,23 +25,6 @@ pub(crate) fn both_allowed(from: Table, to: Table) -> bool
     from.is_allowed() & to.is_allowed()
 }
 
-// The setting at a place of the table.
-fn setting_at(index: usize) -> Setting
-    requires { ⌜ index < count ⌝ }
-    ensures { λ r. ⌜ r ≡ settingAt index ⌝ }
-{
-    let found = settings::at(index);
-    match found {
-        Found::At(setting) => setting,
-        Found::Nothing => Setting {
-            index: COUNT,
-            id: 0,
-            width: 0,
-            partner: COUNT,
-        },
-    }
-}
-
 // A setting with the number that is wanted for it.
 pub(crate) fn wanted_at(to: Table, index: usize) -> Wanted
     requires { ⌜ index < count ⌝ }
@@ -52,7 +32,7 @@ pub(crate) fn wanted_at(to: Table, index: usize) -> Wanted
 {
     let numbers = to.numbers;
     Wanted {
-        setting: setting_at(index),
+        setting: settings::setting_at(index),
         number: numbers[index],
     }
 }
@@ -101,7 +81,7 @@ fn turn_of(from: Table, to: Table, place: usize) -> usize
     requires { ⌜ (allowed to ≡ true) × (place < count) ⌝ }
     ensures { λ r. ⌜ r ≡ placed from to place ⌝ }
 {
-    let partner = setting_at(place).partner;
+    let partner = settings::setting_at(place).partner;
     if is_exchanged(from, to, place, partner) {
         return partner;
     }

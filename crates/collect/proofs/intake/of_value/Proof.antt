@@ -2,9 +2,12 @@
 use mathlib.Core.Path.{_≡_, refl, sym, ap, _∙_}
 use borrow.Author.Tests.{not-true, not-false}
 use denote.Ref.{now}
-use lib.ListN.{length, drop, length-drop}
+use Prim.Native.Nat.{ℕ, _≤_}
+use mathlib.Core.List.{List}
+use lib.ListN.{length, take, drop, length-drop}
 use Rattle.laws.proofs.Lists.{part-to-end}
 use Rattle.endian.specs.Numbers.{fromLittle}
+use Rattle.endian.proofs.Little.{all-first}
 use Rattle.collect.specs.Collecting.{fits}
 use Rattle.collect.specs.declared.intake.Intake.{Intake}
 use Rattle.collect.proofs.Deciding.{width-between, value-other, value-unfit, value-taken}
@@ -13,9 +16,14 @@ use native.Mathlib.Omega.{arith}
 use Rattle.collect.proofs.intake.of_value.Statement.{statement}
 use Rattle.collect.proofs.intake.of_value.Tie as tie
 
--- the number after the first three bytes
-number-is : (c : tie.After-number-of) → c .number-of .result ≡ fromLittle (drop 3 (now (c .before .before .before .before .before .before .args .bytes)))
-number-is c = c .number-of .ensures ∙ ap fromLittle (part-to-end (now (c .before .before .before .before .before .before .args .bytes)) _ 3 refl)
+-- the number after the first three bytes, which are one or two
+number-is : (c : tie.After-read-16) → c .read-16 .result ≡ fromLittle (drop 3 (now (c .before .before .before .before .before .before .args .bytes)))
+number-is c =
+    let s = c .before .before .before .before .before .before in
+    let bytes = now (s .args .bytes) in
+    let width : length (drop 3 bytes) ≡ c .before .before .before .before .setting-at .result .width = length-drop 3 bytes ∙ omega (arith, c .before .before .if1 .left) in
+    let few : length (drop 3 bytes) ≤ 2 = rw width (width-between _ _ (c .before .before .before .before .setting-at .ensures) (s .pre) .1) in
+    c .read-16 .ensures ∙ ap (λ (l : List ℕ). fromLittle (take 2 l)) (part-to-end bytes _ 3 refl) ∙ all-first 2 (drop 3 bytes) few
 
 setting-at-requires : tie.Need-setting-at-requires
 setting-at-requires c κs = search needs
@@ -26,20 +34,17 @@ add-if1 c = record { fits = omega (arith, width-between _ _ (c .before .setting-
 returns : tie.Need-returns
 returns c = value-other _ _ (now (c .before .before .before .before .args .bytes)) _ (c .before .before .setting-at .ensures) (c .before .before .before .before .pre) (c .if1 .taken)
 
-sub-number-of : tie.Need-sub-number-of
-sub-number-of c = search needs
+sub-read-16 : tie.Need-sub-read-16
+sub-read-16 c = search needs
 
-part-number-of-start : tie.Need-part-number-of-start
-part-number-of-start c = search needs
+part-read-16-start : tie.Need-part-read-16-start
+part-read-16-start c = search needs
 
-part-number-of-end : tie.Need-part-number-of-end
-part-number-of-end c = search needs
+part-read-16-end : tie.Need-part-read-16-end
+part-read-16-end c = search needs
 
-number-of-requires : tie.Need-number-of-requires
-number-of-requires c κs =
-    let s = c .before .before .before .before .before in
-    let size : length (drop 3 (now (s .args .bytes))) ≡ c .before .before .before .setting-at .result .width = length-drop 3 (now (s .args .bytes)) ∙ omega (arith, c .before .if1 .left) in
-    rw (part-to-end (now (s .args .bytes)) _ 3 refl, size) (width-between _ _ (c .before .before .before .setting-at .ensures) (s .pre))
+read-16-requires : tie.Need-read-16-requires
+read-16-requires c κs = tt
 
 is-fit-requires : tie.Need-is-fit-requires
 is-fit-requires c κs = search needs
@@ -63,10 +68,10 @@ of-value-spec =
     setting-at-requires
     add-if1
     returns
-    sub-number-of
-    part-number-of-start
-    part-number-of-end
-    number-of-requires
+    sub-read-16
+    part-read-16-start
+    part-read-16-end
+    read-16-requires
     is-fit-requires
     returns-2
     returns-3)
