@@ -19,7 +19,7 @@ returns-2 c =
     let s = c .before .before .before .before .before in
     let same = c .before .before .if1 .left in
     let few : length (now (s .args .value)) ≤ 2 = rw same (s .pre .few) in
-    carries-number _ _ _ same (c .before .read-16 .ensures ∙ all-first 2 _ few)
+    carries-number _ _ _ same (c .before .read-16 .ensures ∙ all-first 2 (now (s .args .value)) few)
 
 pub is-carried-spec : {M : Type 1} → statement M
 is-carried-spec = tie.close (tie.spec returns read-16-requires returns-2)
