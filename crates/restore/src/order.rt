@@ -9,7 +9,7 @@ ghost use Rattle.settings.specs.Calls.{settingAt};
 ghost use Rattle.restore.specs.Order.{differs, higherFirst, exchanged, placed, order, wanted};
 ghost use Rattle.restore.specs.Calls.{bothAllowed};
 ghost use Rattle.restore.specs.AsHeld.{Holds};
-use crate::Wanted;
+use requests::Wanted;
 use settings::COUNT;
 use settings::Found;
 use settings::Setting;
