@@ -30,7 +30,7 @@ use Rattle.board.proofs.Theorems.{answer-keeps-allowed}
 use Rattle.restore.specs.Order.{dueSets}
 use Rattle.restore.specs.Calls.{framesFor}
 use Rattle.restore.specs.Laws.{Tables}
-use Rattle.restore.specs.declared.Wanted.{Wanted}
+use Rattle.requests.specs.declared.Wanted.{Wanted}
 use Rattle.restore.proofs.Theorems.{list-restores-it}
 use Rattle.demands.specs.Talk.{Deed, stores, calls, Said, Talk, talk, boardAt}
 use Rattle.demands.specs.Demand3.{isCalls, AnyCutting, isFeeding, acceptedSet, ListIsAccepted, repliesOf, eventFor, followed, Confirmed, ListIsConfirmed}

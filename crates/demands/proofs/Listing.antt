@@ -33,7 +33,7 @@ use Rattle.board.specs.Calls.{replyBytes, deciding}
 use Rattle.restore.specs.Order.{wanted, order, differs, dueSets}
 use Rattle.restore.specs.Calls.{framesFor}
 use Rattle.restore.specs.Laws.{isAccepted, accepted, left}
-use Rattle.restore.specs.declared.Wanted.{Wanted}
+use Rattle.requests.specs.declared.Wanted.{Wanted}
 use Rattle.restore.proofs.Theorems.{no-other-set}
 use Rattle.demands.specs.Talk.{Said, ofFrame, afterAll, saidToAll}
 use Rattle.demands.specs.Demand3.{acceptedSet}

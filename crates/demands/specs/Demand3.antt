@@ -32,7 +32,7 @@ use Rattle.restore.specs.Order.{dueSets}
 use Rattle.restore.specs.Calls.{framesFor}
 use Rattle.restore.specs.Laws as restore
 use Rattle.restore.specs.Laws.{Tables}
-use Rattle.restore.specs.declared.Wanted.{Wanted}
+use Rattle.requests.specs.declared.Wanted.{Wanted}
 use Rattle.follow.specs.Following.{standing, begun}
 use Rattle.follow.specs.Laws.{run}
 use Rattle.follow.specs.declared.Follower.{Follower}

@@ -21,7 +21,7 @@ use Rattle.board.specs.Calls.{starting, answering}
 use Rattle.board.specs.declared.Board.{Board}
 use Rattle.board.specs.declared.Answered.{Answered}
 use Rattle.restore.specs.Order.{dueSets}
-use Rattle.restore.specs.declared.Wanted.{Wanted}
+use Rattle.requests.specs.declared.Wanted.{Wanted}
 
 -- A line of the paper. A frame is written as it is printed there, from its colon to its check byte.
 pub data Line : Type 0 where

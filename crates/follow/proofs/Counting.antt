@@ -18,7 +18,8 @@ use Rattle.tables.proofs.Tables.{range-at}
 use Rattle.restore.specs.Order.{wanted, dueSets}
 use Rattle.restore.specs.Calls.{bothAllowed, dueAfter, dueIn}
 use Rattle.restore.specs.Laws.{Tells, a-set, none-left, not-allowed}
-use Rattle.restore.specs.declared.Wanted.{Wanted}
+use Rattle.requests.specs.declared.Wanted.{Wanted}
+use Rattle.requests.specs.declared.Request.{Request}
 use Rattle.restore.specs.declared.Due.{Due}
 use Rattle.restore.proofs.Theorems.{due-tells}
 use Rattle.restore.proofs.Rows.{due-is}
@@ -107,8 +108,8 @@ module _ (from to : Table) (ok : bothAllowed from to ≡ true) where
       by false z = sym (advanced-is (at n stopped) e Standing.Done (sym (standing-is (at n stopped) Due.Nothing due) ∙ rw z))
 
   -- one that waits moves by the verdict
-  pub waits-moves : (n : ℕ) (w : Wanted) → dueIn from to n ≡ Due.Set w → (e : Event) → advanced (at n false) e ≡ moved (at n false) (effectOf w e)
-  waits-moves n w due e = sym (advanced-is (at n false) e (Standing.Waiting w) (sym (standing-is (at n false) (Due.Set w) due)))
+  pub waits-moves : (n : ℕ) (w : Wanted) → dueIn from to n ≡ Due.Set w → (e : Event) → advanced (at n false) e ≡ moved (at n false) (effectOf (Request.Set w) e)
+  waits-moves n w due e = sym (advanced-is (at n false) e (Standing.Waiting (Request.Set w)) (sym (standing-is (at n false) (Due.Set w) due)))
 
   -- what is confirmed is what matched of the Sets that were left
   counted : (n : ℕ) (l : List Wanted) (events : List Event) → drop n (dueSets from to) ≡ l → OnStream events
@@ -186,7 +187,7 @@ module _ (from to : Table) (ok : bothAllowed from to ≡ true) where
       by true less =
           let more = ltb-true _ _ less in
           let due = some-left n more in
-          rw (waits-moves n (due .0) (due .1) e) (moved-allowed n more (effectOf (due .0) e))
+          rw (waits-moves n (due .0) (due .1) e) (moved-allowed n more (effectOf (Request.Set (due .0)) e))
       by false most = rw (none-stays n false (all-done n (ltb-false _ _ most)) e) h
 
 -- An event keeps the two tables.

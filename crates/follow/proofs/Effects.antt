@@ -14,7 +14,7 @@ use Rattle.reply.specs.Replies.{rest}
 use Rattle.reply.specs.Calls.{heeding}
 use Rattle.reply.specs.declared.Heeded.{Heeded}
 use Rattle.reply.proofs.Theorems.{heeded-is-long}
-use Rattle.restore.specs.declared.Wanted.{Wanted}
+use Rattle.requests.specs.declared.Wanted.{Wanted}
 use Rattle.follow.specs.Following.{carries, onHeeded, onReply}
 
 pub more-than-one : (n : ℕ) → 1 ≤ n → n ≢ 1 → 1 < n

@@ -23,7 +23,8 @@ use Rattle.reply.specs.declared.Status.{Status}
 use Rattle.reply.specs.declared.Heeded.{Heeded}
 use Rattle.reply.proofs.Flags.{flag-good, said-answers, none-answers}
 use Rattle.reply.proofs.Theorems.{heed-is-said}
-use Rattle.restore.specs.declared.Wanted.{Wanted}
+use Rattle.requests.specs.declared.Wanted.{Wanted}
+use Rattle.requests.specs.declared.Request.{Request}
 use Rattle.follow.specs.Following.{carries, onHeeded, onReply, effectOf}
 use Rattle.follow.specs.Laws.{ownData, matches, ends}
 use Rattle.follow.specs.declared.effect.Effect.{Effect}
@@ -96,7 +97,7 @@ pub data AsRead : Event → Type 0 where
   broken-read : AsRead refusedFrame
   silence-read : AsRead noAnswer
 
-pub effect-is : (due : Wanted) → Sound due → (e : Event) → AsRead e → effectOf due e ≡ cond (matches due e) Effect.Confirms (cond (ends due e) Effect.Stops Effect.Waits)
+pub effect-is : (due : Wanted) → Sound due → (e : Event) → AsRead e → effectOf (Request.Set due) e ≡ cond (matches due e) Effect.Confirms (cond (ends due e) Effect.Stops Effect.Waits)
 effect-is due sound (heard command bytes) (frame-read small) = heard-effect due sound command bytes small
 effect-is due sound refusedFrame broken-read = refl
 effect-is due sound noAnswer silence-read = refl

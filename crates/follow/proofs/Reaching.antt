@@ -16,7 +16,8 @@ use Rattle.tables.specs.declared.Table.{Table}
 use Rattle.endian.proofs.Little.{bytes-little}
 use Rattle.restore.specs.Order.{dueSets}
 use Rattle.restore.specs.Calls.{bothAllowed, dueIn}
-use Rattle.restore.specs.declared.Wanted.{Wanted}
+use Rattle.requests.specs.declared.Wanted.{Wanted}
+use Rattle.requests.specs.declared.Request.{Request}
 use Rattle.restore.specs.declared.Due.{Due}
 use Rattle.reply.specs.Events.{Event, noAnswer}
 use Rattle.follow.specs.Following.{effectOf, standing, moved, advanced, begun, followerAllowed}
@@ -64,7 +65,7 @@ isDone Standing.Done = true
 isDone (Standing.Stopped due) = false
 isDone (Standing.Refused number) = false
 
-either : (stopped : Bool) (w : Wanted) → isEnd (cond stopped (Standing.Stopped w) (Standing.Waiting w)) ≡ false
+either : (stopped : Bool) (w : Wanted) → isEnd (cond stopped (Standing.Stopped w) (Standing.Waiting (Request.Set w))) ≡ false
 either true w = refl
 either false w = refl
 
@@ -72,7 +73,7 @@ module _ (from to : Table) (ok : bothAllowed from to ≡ true) where
   -- the board's own replies to the Sets that are left, one after another
   own-moves : (n : ℕ) (w : Wanted) → dueIn from to n ≡ Due.Set w → advanced (at from to ok n false) (ownReply w) ≡ at from to ok (suc n) false
   own-moves n w due =
-      let confirms : effectOf w (ownReply w) ≡ Effect.Confirms = rw (own-matches w) at (effect-is w (sound-due from to ok n w due) (ownReply w) (frame-read (own-bytes w))) in
+      let confirms : effectOf (Request.Set w) (ownReply w) ≡ Effect.Confirms = rw (own-matches w) at (effect-is w (sound-due from to ok n w due) (ownReply w) (frame-read (own-bytes w))) in
       waits-moves from to ok n w due (ownReply w) ∙ ap (moved (at from to ok n false)) confirms
 
   all-own : (m n : ℕ) → n + m ≤ length (dueSets from to) → run (at from to ok n false) (map ownReply (take m (drop n (dueSets from to)))) ≡ at from to ok (n + m) false

@@ -14,12 +14,13 @@ use Rattle.settings.proofs.Theorems.{rows-hold}
 use Rattle.restore.specs.Order.{dueSets}
 use Rattle.restore.specs.Calls.{bothAllowed, dueIn}
 use Rattle.restore.specs.Laws.{Tells, a-set, none-left, not-allowed}
-use Rattle.restore.specs.declared.Wanted.{Wanted}
+use Rattle.requests.specs.declared.Wanted.{Wanted}
+use Rattle.requests.specs.declared.Request.{Request}
 use Rattle.restore.specs.declared.Due.{Due}
 use Rattle.restore.proofs.Theorems.{due-tells, sets-are-few}
 use Rattle.reply.specs.Events.{Event, refusedFrame}
 use Rattle.follow.specs.Following.{standsAt, standing, after, advanced, total, followerAllowed}
-use Rattle.follow.specs.AsHeld.{Narrow, isSet, reached}
+use Rattle.follow.specs.AsHeld.{Narrow, Sent, isSet, reached}
 use Rattle.follow.specs.Calls.{answered, unanswered, told, following}
 use Rattle.follow.specs.declared.Follower.{Follower}
 use Rattle.follow.specs.declared.Standing.{Standing}
@@ -36,16 +37,16 @@ isWaiting Standing.Done = false
 isWaiting (Standing.Stopped due) = false
 isWaiting (Standing.Refused number) = false
 
-abbrev waitedFor : Wanted → Standing → Wanted
+abbrev waitedFor : Request → Standing → Request
 waitedFor other (Standing.Waiting due) = due
 waitedFor other Standing.Equal = other
 waitedFor other Standing.Done = other
 waitedFor other (Standing.Stopped due) = other
 waitedFor other (Standing.Refused number) = other
 
-pub waits-for : (stopped : Bool) (w due : Wanted) → cond stopped (Standing.Stopped w) (Standing.Waiting w) ≡ Standing.Waiting due → w ≡ due
+pub waits-for : (stopped : Bool) (w : Wanted) (due : Request) → cond stopped (Standing.Stopped w) (Standing.Waiting (Request.Set w)) ≡ Standing.Waiting due → Request.Set w ≡ due
 waits-for true w due e = absurd (false≢true (ap isWaiting e))
-waits-for false w due e = ap (waitedFor w) e
+waits-for false w due e = ap (waitedFor (Request.Set w)) e
 
 none-waits : (b : Bool) → isWaiting (cond b Standing.Equal Standing.Done) ≡ false
 none-waits true = refl
@@ -160,11 +161,11 @@ module _ (f : Follower) where
   advanced-is e o h = rw h
 
   -- a follower that waits has a Set before it
-  pub waiting-narrow : (due : Wanted) → standing f ≡ Standing.Waiting due → Narrow due
+  pub waiting-narrow : (due : Request) → standing f ≡ Standing.Waiting due → Sent due
   unfolding standing
   waiting-narrow due = by (dueIn (f .from) (f .to) (f .confirmed)) (due-known (f .from) (f .to) (f .confirmed) _ refl)
     where
-      by : (d : Due) → Known (f .from) (f .to) (f .confirmed) d → standsAt (f .stopped) (f .confirmed) d ≡ Standing.Waiting due → Narrow due
+      by : (d : Due) → Known (f .from) (f .to) (f .confirmed) d → standsAt (f .stopped) (f .confirmed) d ≡ Standing.Waiting due → Sent due
       by (Due.Set w) k e = rw (sym (waits-for (f .stopped) w due e)) (k .narrow)
       by Due.Nothing k e = absurd (false≢true (sym (none-waits (eqb (f .confirmed) 0)) ∙ ap isWaiting e))
       by (Due.Refused number) k e = absurd (false≢true (ap isWaiting e))

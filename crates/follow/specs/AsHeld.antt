@@ -4,13 +4,19 @@ use mathlib.Core.Bool.{Bool, true, false, cond}
 use lib.Dec.{eqb}
 use Rattle.tables.specs.declared.Table.{Table}
 use Rattle.restore.specs.Calls.{dueIn}
-use Rattle.restore.specs.declared.Wanted.{Wanted}
+use Rattle.requests.specs.declared.Wanted.{Wanted}
+use Rattle.requests.specs.declared.Request.{Request}
 use Rattle.restore.specs.declared.Due.{Due}
 
 -- a Set of one or two bytes
 pub record Narrow (due : Wanted) : Type 0 where
   pub some : 1 ≤ due .setting .width
   pub few : due .setting .width ≤ 2
+
+-- a request to send: a Set is of one or two bytes
+abbrev pub Sent : Request → Type 0
+Sent (Request.Get id) = Unit {0}
+Sent (Request.Set due) = Narrow due
 
 abbrev pub isSet : Due → Bool
 isSet (Due.Set due) = true

@@ -16,7 +16,8 @@ use Rattle.reply.specs.Events.{Event, heard, refusedFrame, noAnswer}
 use Rattle.reply.specs.declared.Heeded.{Heeded}
 use Rattle.restore.specs.Order.{dueSets}
 use Rattle.restore.specs.Calls.{bothAllowed, dueIn}
-use Rattle.restore.specs.declared.Wanted.{Wanted}
+use Rattle.requests.specs.declared.Wanted.{Wanted}
+use Rattle.requests.specs.declared.Request.{Request}
 use Rattle.restore.specs.declared.Due.{Due}
 use Rattle.follow.specs.declared.Follower.{Follower}
 use Rattle.follow.specs.declared.Standing.{Standing}
@@ -36,14 +37,19 @@ onHeeded due value (Heeded.Bad status) = Effect.Stops
 unfoldable pub onReply : Wanted → ℕ → List ℕ → Effect
 onReply due command bytes = onHeeded due (rest bytes) (heeding setCode (due .setting .id) command bytes)
 
-abbrev pub effectOf : Wanted → Event → Effect
-effectOf due (heard command bytes) = onReply due command bytes
-effectOf due refusedFrame = Effect.Waits
-effectOf due noAnswer = Effect.Stops
+-- by the request that is due, which is a Set; a Get would keep waiting
+abbrev pub onRequest : Request → ℕ → List ℕ → Effect
+onRequest (Request.Get id) command bytes = Effect.Waits
+onRequest (Request.Set due) command bytes = onReply due command bytes
+
+abbrev pub effectOf : Request → Event → Effect
+effectOf request (heard command bytes) = onRequest request command bytes
+effectOf request refusedFrame = Effect.Waits
+effectOf request noAnswer = Effect.Stops
 
 -- how far a follower is, by the Set that is due after those confirmed; 12 where a table is not allowed
 abbrev pub standsAt : Bool → ℕ → Due → Standing
-standsAt stopped confirmed (Due.Set due) = cond stopped (Standing.Stopped due) (Standing.Waiting due)
+standsAt stopped confirmed (Due.Set due) = cond stopped (Standing.Stopped due) (Standing.Waiting (Request.Set due))
 standsAt stopped confirmed Due.Nothing = cond (eqb confirmed 0) Standing.Equal Standing.Done
 standsAt stopped confirmed (Due.Refused number) = Standing.Refused number
 
@@ -58,7 +64,7 @@ moved f Effect.Waits = f
 
 -- "Ended stays ended."
 abbrev pub after : Follower → Event → Standing → Follower
-after f e (Standing.Waiting due) = moved f (effectOf due e)
+after f e (Standing.Waiting request) = moved f (effectOf request e)
 after f e Standing.Equal = f
 after f e Standing.Done = f
 after f e (Standing.Stopped due) = f

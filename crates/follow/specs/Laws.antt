@@ -14,7 +14,7 @@ use Rattle.paper.specs.Numbers.{setCode}
 use Rattle.answers.specs.Answers.{said}
 use Rattle.restore.specs.Order.{dueSets}
 use Rattle.restore.specs.Calls.{bothAllowed}
-use Rattle.restore.specs.declared.Wanted.{Wanted}
+use Rattle.requests.specs.declared.Wanted.{Wanted}
 use Rattle.reply.specs.Events.{Event, heard, refusedFrame, noAnswer, OnStream, answers}
 use Rattle.follow.specs.Following.{standing, advanced, begun, followerAllowed}
 use Rattle.follow.specs.Calls.{starting, following}

@@ -5,7 +5,7 @@ ghost use Rattle.follow.specs.Following.{carries, onReply};
 ghost use Rattle.follow.specs.AsHeld.{Narrow};
 ghost use Rattle.follow.specs.declared.effect.Effect.{Effect};
 use reply::Heeded;
-use restore::Wanted;
+use requests::Wanted;
 
 // A Set reply with the due id, flag 00 and the due number confirms; one with the due id and anything else stops; all else waits.
 pub(crate) enum Effect {

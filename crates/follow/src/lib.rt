@@ -3,7 +3,8 @@
 ghost use mathlib.Core.Path.{_≡_};
 ghost use Rattle.reply.specs.Events.{heard, refusedFrame, noAnswer};
 ghost use Rattle.follow.specs.Calls.{starting, told, following};
-use restore::Wanted;
+use requests::Request;
+use requests::Wanted;
 use tables::Table;
 
 mod effect;
@@ -18,10 +19,10 @@ pub struct Follower {
     pub stopped: bool,
 }
 
-// How far a restore is: a Set is due; the tables were equal; all Sets are confirmed; it stopped at a Set; or document 01's number of the
+// How far a restore is: a request is due, a Set; the tables were equal; all Sets are confirmed; it stopped at a Set; or document 01's number of the
 // refusal.
 pub enum Standing {
-    Waiting(Wanted),
+    Waiting(Request),
     Equal,
     Done,
     Stopped(Wanted),

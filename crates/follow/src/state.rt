@@ -3,8 +3,9 @@ ghost use mathlib.Core.Path.{_≡_};
 ghost use mathlib.Core.Bool.{true, cond};
 ghost use lib.Dec.{eqb};
 ghost use Rattle.reply.specs.Events.{heard, noAnswer};
-ghost use Rattle.follow.specs.Following.{standing, moved, advanced, followerAllowed};
-ghost use Rattle.follow.specs.AsHeld.{reached};
+ghost use Rattle.requests.specs.declared.Request.{Request};
+ghost use Rattle.follow.specs.Following.{effectOf, standing, moved, advanced, followerAllowed};
+ghost use Rattle.follow.specs.AsHeld.{Sent, reached};
 ghost use Rattle.follow.specs.Calls as calls;
 ghost use Rattle.follow.specs.declared.Standing.{Standing};
 use crate::Followed;
@@ -12,8 +13,9 @@ use crate::Follower;
 use crate::Standing;
 use crate::effect;
 use crate::effect::Effect;
+use requests::Request;
+use requests::Wanted;
 use restore::Due;
-use restore::Wanted;
 use tables::Table;
 
 // Whether this many Sets can have been confirmed: none, or there is a last one of them.
@@ -47,12 +49,12 @@ pub(crate) fn is_allowed(follower: Follower) -> bool
 
 // A Set is due, or was when the follower stopped.
 fn with_due(stopped: bool, due: Wanted) -> Standing
-    ensures { λ r. ⌜ r ≡ cond stopped (Standing.Stopped due) (Standing.Waiting due) ⌝ }
+    ensures { λ r. ⌜ r ≡ cond stopped (Standing.Stopped due) (Standing.Waiting (Request.Set due)) ⌝ }
 {
     if stopped {
         return Standing::Stopped(due);
     }
-    Standing::Waiting(due)
+    Standing::Waiting(Request::Set(due))
 }
 
 // None is due: there was none, or all are confirmed.
@@ -103,6 +105,17 @@ fn moved_by(follower: Follower, effect: Effect) -> Follower
     }
 }
 
+// A frame heard while a request is due.
+fn replied(follower: Follower, request: Request, command: u8, bytes: &[u8]) -> Follower
+    requires { ⌜ (followerAllowed follower ≡ true) × Sent request ⌝ }
+    ensures { λ r. ⌜ r ≡ moved follower (effectOf request (heard command (now (bytes .entry)))) ⌝ }
+{
+    match request {
+        Request::Get(_) => follower,
+        Request::Set(due) => moved_by(follower, effect::on_reply(due, command, bytes)),
+    }
+}
+
 // A frame heard: it has its effect on one that waits, and an ended one stays.
 pub(crate) fn hearing(follower: Follower, command: u8, bytes: &[u8]) -> Follower
     requires { ⌜ followerAllowed follower ≡ true ⌝ }
@@ -110,7 +123,7 @@ pub(crate) fn hearing(follower: Follower, command: u8, bytes: &[u8]) -> Follower
 {
     let standing = standing_of(follower);
     match standing {
-        Standing::Waiting(due) => moved_by(follower, effect::on_reply(due, command, bytes)),
+        Standing::Waiting(request) => replied(follower, request, command, bytes),
         Standing::Equal => follower,
         Standing::Done => follower,
         Standing::Stopped(_) => follower,

@@ -2,22 +2,23 @@
 use crate::line::Ends;
 use crate::names;
 use crate::talk;
-use crate::talk::Request;
+use crate::talk::Turn;
 use crate::words;
 use collect::Collected;
 use collect::Collector;
 use collect::Stage;
 use lines::Line;
 use listen::Told;
+use requests::Request;
 
 // The setting that the collector asks for.
-pub(crate) fn due(collected: Collected) -> Request {
+pub(crate) fn due(collected: Collected) -> Turn {
     let stage = collected.stage;
     match stage {
-        Stage::Waiting(setting) => Request::Get(setting.id),
-        Stage::Done => Request::Nothing,
-        Stage::Stopped(_) => Request::Nothing,
-        Stage::Refused(_) => Request::Nothing,
+        Stage::Waiting(setting) => Turn::Ask(Request::Get(setting.id)),
+        Stage::Done => Turn::Nothing,
+        Stage::Stopped(_) => Turn::Nothing,
+        Stage::Refused(_) => Turn::Nothing,
     }
 }
 

@@ -4,27 +4,28 @@ use crate::line::Ends;
 use crate::names;
 use crate::said;
 use crate::talk;
-use crate::talk::Request;
 use crate::talk::Talk;
+use crate::talk::Turn;
 use crate::words;
 use follow::Followed;
 use follow::Follower;
 use follow::Standing;
 use lines::Line;
 use listen::Told;
+use requests::Request;
+use requests::Wanted;
 use restore::Due;
-use restore::Wanted;
 use tables::Table;
 
-// The Set that is due.
-pub(crate) fn due(followed: Followed) -> Request {
+// The request that is due.
+pub(crate) fn due(followed: Followed) -> Turn {
     let standing = followed.standing;
     match standing {
-        Standing::Waiting(wanted) => Request::Set(wanted),
-        Standing::Equal => Request::Nothing,
-        Standing::Done => Request::Nothing,
-        Standing::Stopped(_) => Request::Nothing,
-        Standing::Refused(_) => Request::Nothing,
+        Standing::Waiting(request) => Turn::Ask(request),
+        Standing::Equal => Turn::Nothing,
+        Standing::Done => Turn::Nothing,
+        Standing::Stopped(_) => Turn::Nothing,
+        Standing::Refused(_) => Turn::Nothing,
     }
 }
 
@@ -54,7 +55,10 @@ pub(crate) fn told_to(followed: Followed, told: Told, data: &[u8]) -> Followed {
 pub(crate) fn show(report: i32, before: Followed, after: Followed) {
     let standing = before.standing;
     let follower = after.follower;
-    let Standing::Waiting(wanted) = standing else {
+    let Standing::Waiting(request) = standing else {
+        return;
+    };
+    let Request::Set(wanted) = request else {
         return;
     };
     let setting = wanted.setting;

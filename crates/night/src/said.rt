@@ -1,7 +1,7 @@
 // What the board said to the Set at which a restore stopped, in words.
 use crate::names;
 use lines::Line;
-use restore::Wanted;
+use requests::Wanted;
 
 // With this flag and a value of the setting's own width comes the nearest allowed number.
 const PARAMETER: u8 = 4;

@@ -13,7 +13,7 @@ use follow::Followed;
 use follow::Follower;
 use listen::Listener;
 use listen::Told;
-use restore::Wanted;
+use requests::Request;
 use tables::Table;
 use view::Viewed;
 use view::Viewer;
@@ -42,10 +42,9 @@ pub(crate) struct Talk {
     pub(crate) len: usize,
 }
 
-// What is to be sent: a Get of an id, a Set, or nothing any more.
-pub(crate) enum Request {
-    Get(u16),
-    Set(Wanted),
+// What is to be sent: a request, or nothing any more.
+pub(crate) enum Turn {
+    Ask(Request),
     Nothing,
 }
 
@@ -83,7 +82,7 @@ pub(crate) fn viewing() -> Talk {
 }
 
 // What the machine that asks wants to be sent.
-fn due(talk: Talk) -> Request {
+fn due(talk: Talk) -> Turn {
     let asker = talk.asker;
     match asker {
         Asker::Collector => reading::due(talk.collected),
@@ -103,11 +102,10 @@ fn answered(talk: Talk) -> usize {
 }
 
 // Whether something is still to be sent, or answered.
-fn is_due(request: Request) -> bool {
-    match request {
-        Request::Get(_) => true,
-        Request::Set(_) => true,
-        Request::Nothing => false,
+fn is_due(turn: Turn) -> bool {
+    match turn {
+        Turn::Ask(_) => true,
+        Turn::Nothing => false,
     }
 }
 
@@ -126,33 +124,21 @@ fn put(output: i32, frame: &[u8], written: Written) {
     }
 }
 
-// Sends a Get.
-fn send_get(output: i32, id: u16) {
+// Sends a request.
+fn ask(output: i32, request: Request) {
     let mut frame = [0u8; paper::FRAME_ROOM];
-    let written = requests::get(id, &mut frame);
-    put(output, &frame, written);
-}
-
-// Sends a Set.
-fn send_set(output: i32, wanted: Wanted) {
-    let setting = wanted.setting;
-    let mut frame = [0u8; paper::FRAME_ROOM];
-    let written = requests::set(setting.index, wanted.number, &mut frame);
+    let written = requests::write(request, &mut frame);
     put(output, &frame, written);
 }
 
 // Sends what is due; false where nothing is.
-fn send(output: i32, request: Request) -> bool {
-    match request {
-        Request::Get(id) => {
-            send_get(output, id);
+fn send(output: i32, turn: Turn) -> bool {
+    match turn {
+        Turn::Ask(request) => {
+            ask(output, request);
             true
         }
-        Request::Set(wanted) => {
-            send_set(output, wanted);
-            true
-        }
-        Request::Nothing => false,
+        Turn::Nothing => false,
     }
 }
 

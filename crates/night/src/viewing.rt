@@ -1,21 +1,22 @@
 // The viewer in a talk: who the board is, and its readings.
-use crate::talk::Request;
+use crate::talk::Turn;
 use crate::words;
 use listen::Told;
+use requests::Request;
 use view::Next;
 use view::Viewed;
 use view::Viewer;
 
 // The value that the viewer asks for; nothing from a board that is silent.
-pub(crate) fn due(viewed: Viewed, silent: bool) -> Request {
+pub(crate) fn due(viewed: Viewed, silent: bool) -> Turn {
     if silent {
-        return Request::Nothing;
+        return Turn::Nothing;
     }
     let next = viewed.next;
     match next {
-        Next::Waiting(id) => Request::Get(id),
-        Next::Done => Request::Nothing,
-        Next::Refused(_) => Request::Nothing,
+        Next::Waiting(id) => Turn::Ask(Request::Get(id)),
+        Next::Done => Turn::Nothing,
+        Next::Refused(_) => Turn::Nothing,
     }
 }
 

@@ -38,7 +38,7 @@ use Rattle.board.proofs.Theorems.{answer-keeps-allowed}
 use Rattle.reply.specs.Events.{Event, heard}
 use Rattle.restore.specs.Calls.{bothAllowed}
 use Rattle.restore.specs.Laws.{isAccepted, accepted, left}
-use Rattle.restore.specs.declared.Wanted.{Wanted}
+use Rattle.requests.specs.declared.Wanted.{Wanted}
 use Rattle.follow.specs.Following.{advanced}
 use Rattle.follow.specs.Calls.{answered, following}
 use Rattle.follow.specs.Laws.{run}

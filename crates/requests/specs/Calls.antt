@@ -11,6 +11,7 @@ use Rattle.wire.specs.declared.Written.{Written}
 use Rattle.settings.specs.Columns.{count, idAt, widthAt}
 use Rattle.answers.specs.Answers.{said}
 use Rattle.answers.specs.Requests.{getRequest}
+use Rattle.requests.specs.declared.Request.{Request}
 
 -- a Get of an id, whatever it is: 11 under the room of the longest frame, as for every frame
 unfoldable pub getWritten : ℕ → ℕ → Given Written
@@ -26,3 +27,8 @@ unfoldable pub setWritten : ℕ → ℕ → ℕ → Given Written
 setWritten k n room =
     cond (ltb room frameRoom) (unwritten shortBuffer)
     (cond (ltb k count) (setOf (idAt k) (widthAt k) n) (unwritten notAllowed))
+
+-- either of them
+unfoldable pub writing : Request → ℕ → Given Written
+writing (Request.Get id) room = getWritten id room
+writing (Request.Set due) room = setWritten (due .setting .index) (due .number) room

@@ -1,5 +1,5 @@
-// What the box asks of a board about a setting, written as a frame: a Get of an id, and a Set of a setting to a number. Both calls take
-// anything, and their promises fix their answers and every lent byte (specs/Calls.antt).
+// What the box asks of a board about a setting, written as a frame: a Get of an id, and a Set of a setting to a number. Every call takes
+// anything, and its promise fixes its answer and every lent byte (specs/Calls.antt).
 ghost use mathlib.Core.Path.{_≡_};
 ghost use Prim.Native.Nat.{_≤_, _^_};
 ghost use lib.Dec.{ltb};
@@ -7,9 +7,33 @@ ghost use lib.ListN.{length};
 ghost use Rattle.paper.specs.Numbers.{frameRoom};
 ghost use Rattle.laws.specs.Promise.{Gives};
 ghost use Rattle.wire.specs.declared.Written.{Written};
-ghost use Rattle.requests.specs.Calls.{getWritten, setOf, setWritten};
+ghost use Rattle.requests.specs.Calls.{getWritten, setOf, setWritten, writing};
 use settings::Found;
+use settings::Setting;
 use wire::Written;
+
+// A Set: the setting, and the number that is wanted for it.
+pub struct Wanted {
+    pub setting: Setting,
+    pub number: u16,
+}
+
+// What the box asks: a Get of an id, or a Set.
+pub enum Request {
+    Get(u16),
+    Set(Wanted),
+}
+
+// Writes a request to the front of `out`. Refuses 11 under 75 bytes of room, then 12 for a Set of no setting or of a number that its width
+// does not hold.
+pub fn write(request: Request, out: &mut [u8]) -> Written
+    ensures { λ r. ⌜ Gives Written (writing request (length (now (out .entry)))) (now (out .entry)) r (now (out .exit)) ⌝ }
+{
+    match request {
+        Request::Get(id) => get(id, out),
+        Request::Set(wanted) => set(wanted.setting.index, wanted.number, out),
+    }
+}
 
 // Writes a Get of an id to the front of `out`. Refuses 11 under 75 bytes of room.
 pub fn get(id: u16, out: &mut [u8]) -> Written

@@ -23,7 +23,7 @@ use Rattle.restore.specs.Order.{differs, higherFirst, placed, turnsFrom,
 use Rattle.restore.specs.AsHeld.{Holds, setsOf}
 use Rattle.restore.specs.Laws.{SetsAreFew, ListIsShort, Tells, a-set, none-left, not-allowed, DueTells}
 use Rattle.restore.specs.Calls.{bothAllowed, framesFor, listRoom, unlisted, listedAs, listing, dueAfter, dueIn}
-use Rattle.restore.specs.declared.Wanted.{Wanted}
+use Rattle.requests.specs.declared.Wanted.{Wanted}
 use Rattle.restore.specs.declared.Due.{Due}
 use Rattle.restore.specs.declared.Listed.{Listed}
 use Rattle.restore.specs.declared.order.Row.{Row}

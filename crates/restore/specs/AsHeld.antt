@@ -5,7 +5,7 @@ use mathlib.Core.List.{List, map}
 use lib.ListN.{length, take}
 use Rattle.tables.specs.declared.Table.{Table}
 use Rattle.restore.specs.Order.{wanted}
-use Rattle.restore.specs.declared.Wanted.{Wanted}
+use Rattle.requests.specs.declared.Wanted.{Wanted}
 use Rattle.restore.specs.declared.order.Row.{Row}
 
 pub record Holds (row : Row) (settings : List ℕ) : Type 0 where

@@ -11,7 +11,7 @@ use Rattle.tables.specs.Rules.{allowed}
 use Rattle.tables.specs.declared.Table.{Table}
 use Rattle.answers.specs.Requests.{setRequest}
 use Rattle.restore.specs.Order.{dueSets}
-use Rattle.restore.specs.declared.Wanted.{Wanted}
+use Rattle.requests.specs.declared.Wanted.{Wanted}
 use Rattle.restore.specs.declared.Due.{Due}
 use Rattle.restore.specs.declared.Listed.{Listed}
 use Rattle.restore.specs.declared.Sets.{Sets}

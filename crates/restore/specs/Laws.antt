@@ -16,7 +16,7 @@ use Rattle.tables.specs.declared.Table.{Table}
 use Rattle.tables.specs.declared.Answer.{Answer}
 use Rattle.restore.specs.Order.{differs, order, wanted, dueSets}
 use Rattle.restore.specs.Calls.{bothAllowed, framesFor, listRoom, dueIn}
-use Rattle.restore.specs.declared.Wanted.{Wanted}
+use Rattle.requests.specs.declared.Wanted.{Wanted}
 use Rattle.restore.specs.declared.Due.{Due}
 
 -- two allowed tables. (A table has its numbers in every value of the type, which `length` says.)

@@ -10,7 +10,7 @@ use Rattle.settings.specs.Rules.{agrees}
 use Rattle.tables.specs.Rules.{numberAt}
 use Rattle.settings.specs.Calls.{settingAt}
 use Rattle.tables.specs.declared.Table.{Table}
-use Rattle.restore.specs.declared.Wanted.{Wanted}
+use Rattle.requests.specs.declared.Wanted.{Wanted}
 
 -- a setting that differs
 unfoldable pub differs : Table → Table → ℕ → Bool

@@ -5,18 +5,12 @@ ghost use lib.ListN.{length};
 ghost use Rattle.laws.specs.Promise.{Gives};
 ghost use Rattle.restore.specs.Calls.{listing, setsDue, dueIn};
 ghost use Rattle.restore.specs.declared.Listed.{Listed};
-use settings::Setting;
+use requests::Wanted;
 use tables::Table;
 
 mod numbers;
 mod order;
 mod writer;
-
-// A Set that is due: the setting, and the number that is wanted for it.
-pub struct Wanted {
-    pub setting: Setting,
-    pub number: u16,
-}
 
 // The Set that is due after this many; nothing after the last; or document 01's number of the refusal.
 pub enum Due {

@@ -8,7 +8,7 @@ ghost use Rattle.tables.specs.Rules.{allowed};
 ghost use Rattle.restore.specs.Order.{differs, higherFirst, exchanged, placed, order, wanted};
 ghost use Rattle.restore.specs.Calls.{bothAllowed};
 ghost use Rattle.restore.specs.AsHeld.{Holds};
-use crate::Wanted;
+use requests::Wanted;
 use settings::COUNT;
 use tables::Table;
 

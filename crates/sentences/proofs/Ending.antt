@@ -10,7 +10,8 @@ use Rattle.laws.proofs.Bools.{and-left, and-right}
 use Rattle.restore.specs.Order.{wanted}
 use Rattle.restore.specs.Calls.{bothAllowed, setsDue, dueIn}
 use Rattle.restore.specs.Laws.{Tells, a-set, none-left, not-allowed}
-use Rattle.restore.specs.declared.Wanted.{Wanted}
+use Rattle.requests.specs.declared.Wanted.{Wanted}
+use Rattle.requests.specs.declared.Request.{Request}
 use Rattle.restore.specs.declared.Due.{Due}
 use Rattle.restore.specs.declared.Sets.{Sets}
 use Rattle.restore.proofs.Theorems.{due-tells}
@@ -38,7 +39,7 @@ isOver Standing.Done = true
 isOver (Standing.Stopped due) = false
 isOver (Standing.Refused number) = false
 
-still-due : (stopped : Bool) (due : Wanted) → isOver (cond stopped (Standing.Stopped due) (Standing.Waiting due)) ≡ false
+still-due : (stopped : Bool) (due : Wanted) → isOver (cond stopped (Standing.Stopped due) (Standing.Waiting (Request.Set due))) ≡ false
 still-due true due = refl
 still-due false due = refl
 
@@ -54,7 +55,7 @@ isKnown Standing.Done = true
 isKnown (Standing.Stopped due) = true
 isKnown (Standing.Refused number) = false
 
-set-known : (stopped : Bool) (due : Wanted) → isKnown (cond stopped (Standing.Stopped due) (Standing.Waiting due)) ≡ true
+set-known : (stopped : Bool) (due : Wanted) → isKnown (cond stopped (Standing.Stopped due) (Standing.Waiting (Request.Set due))) ≡ true
 set-known true due = refl
 set-known false due = refl
 

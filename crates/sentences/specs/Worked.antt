@@ -6,6 +6,7 @@ use mathlib.Core.List.{List, [], _∷_}
 use Rattle.settings.specs.Columns.{count}
 use Rattle.settings.specs.Calls.{settingAt}
 use Rattle.reply.specs.declared.Status.{Status}
+use Rattle.requests.specs.declared.Request.{Request}
 use Rattle.follow.specs.declared.Standing as follows
 use Rattle.collect.specs.declared.Stage as collects
 use Rattle.backup.specs.declared.Checked.{Checked}
@@ -26,7 +27,7 @@ lines =
     sample (endText follows.Standing.Done 12 12) "done: 12 of 12 settings confirmed" ∷
     sample (endText follows.Standing.Equal 0 0) "equal: nothing to set" ∷
     sample (endText (follows.Standing.Stopped (record { setting = settingAt 0; number = 120 })) 5 12) "stopped: 5 of 12 settings confirmed, 7 not confirmed" ∷
-    sample (endText (follows.Standing.Waiting (record { setting = settingAt 0; number = 120 })) 5 12) "not ended: 5 of 12 settings confirmed" ∷
+    sample (endText (follows.Standing.Waiting (Request.Set (record { setting = settingAt 0; number = 120 }))) 5 12) "not ended: 5 of 12 settings confirmed" ∷
     sample (endText (follows.Standing.Refused 12) 0 0) "refused 12" ∷
     sample (ofText [] 7 12 (chars " confirmed")) "7 of 12 confirmed" ∷
     sampleOf (readText collects.Stage.Done count count) "all " count " settings read" ∷

@@ -11,7 +11,8 @@ use crate::words;
 use follow::Followed;
 use follow::Follower;
 use follow::Standing;
-use restore::Wanted;
+use requests::Request;
+use requests::Wanted;
 use wire::Read;
 
 // `follow ITEM ..`: where the restore is after each item, and at the end what the box says of it.
@@ -68,11 +69,19 @@ fn told(answer: Followed) -> Follower {
 // Where a restore is.
 fn say_standing(standing: Standing) {
     match standing {
-        Standing::Waiting(wanted) => with_set(words::WAITING, wanted),
+        Standing::Waiting(request) => waiting(request),
         Standing::Equal => words::say(words::EQUAL),
         Standing::Done => words::say(words::DONE),
         Standing::Stopped(wanted) => with_set(words::STOPPED, wanted),
         Standing::Refused(number) => say::refused(number),
+    }
+}
+
+// The request that is due.
+fn waiting(request: Request) {
+    match request {
+        Request::Get(_) => {}
+        Request::Set(wanted) => with_set(words::WAITING, wanted),
     }
 }
 

@@ -5,9 +5,9 @@ use crate::filled;
 use crate::parts::least;
 use crate::say;
 use crate::words;
+use requests::Wanted;
 use restore::Due;
 use restore::Listed;
-use restore::Wanted;
 
 // `list ROOM SETTING ..`: how many Sets, and their frames.
 pub fn list(row: &[u8]) {

@@ -1,8 +1,7 @@
 -- `follow::state::hearing` meets its contract. Assumes nothing.
-use mathlib.Core.Path.{sym, ap, _∙_}
+use mathlib.Core.Path.{sym, _∙_}
 use Prim.Native.Nat.{_-_}
 use Rattle.reply.specs.Events.{heard}
-use Rattle.follow.specs.Following.{moved}
 use Rattle.follow.proofs.Standings.{advanced-is, waiting-narrow}
 use borrow.Author.Needs.{needs}
 use Rattle.follow.proofs.state.hearing.Statement.{statement}
@@ -14,11 +13,8 @@ standing-of-requires c κs = search needs
 enum-known-standing : tie.Need-enum-known-standing
 enum-known-standing c = search needs
 
-on-reply-requires : tie.Need-on-reply-requires
-on-reply-requires c κs = waiting-narrow _ _ (sym (c .before .before .before .standing-of .ensures) ∙ c .before .standing .given .1)
-
-moved-by-requires : tie.Need-moved-by-requires
-moved-by-requires c κs = c .before .before .before .before .before .before .pre
+replied-requires : tie.Need-replied-requires
+replied-requires c κs = (c .before .before .before .before .before .pre, waiting-narrow _ _ (sym (c .before .before .before .standing-of .ensures) ∙ c .before .standing .given .1))
 
 enum-told : tie.Need-enum-told
 enum-told c = search needs
@@ -33,7 +29,7 @@ enum-told-4 : tie.Need-enum-told-4
 enum-told-4 c = search needs
 
 returns : tie.Need-returns
-returns c = c .moved-by .ensures ∙ ap (moved (c .before .before .before .before .before .before .before .args .follower)) (c .before .on-reply .ensures) ∙ advanced-is _ (heard _ _) _ (sym (c .before .before .before .before .before .standing-of .ensures) ∙ c .before .before .before .standing .given .1)
+returns c = c .replied .ensures ∙ advanced-is _ (heard _ _) _ (sym (c .before .before .before .before .standing-of .ensures) ∙ c .before .before .standing .given .1)
 
 returns-2 : tie.Need-returns-2
 returns-2 c = advanced-is _ (heard _ _) _ (sym (c .before .before .standing-of .ensures) ∙ c .enum-told .given .1)
@@ -53,8 +49,7 @@ hearing-spec =
     (tie.spec
     standing-of-requires
     enum-known-standing
-    on-reply-requires
-    moved-by-requires
+    replied-requires
     enum-told
     enum-told-2
     enum-told-3
