@@ -16,7 +16,7 @@ use Rattle.stream.specs.Stream.{outside, taken}
 use Rattle.stream.specs.Calls.{noChars, heldOf, unfinished}
 use Rattle.stream.specs.declared.Heard.{Heard}
 use Rattle.stream.specs.Calls as stream
-use Rattle.settings.specs.Columns.{count, placeOf}
+use Rattle.settings.specs.Columns.{count, partnerAt, placeOf}
 use Rattle.tables.specs.Rules.{factory, allowed, numberAt, changed}
 use Rattle.settings.specs.Rules.{inRange, lowAgrees, highAgrees, agrees, allowedFor, allAllowed}
 use Rattle.settings.specs.Calls.{placing, finding}
@@ -55,11 +55,11 @@ abbrev withCapacity : ℕ → Table
 withCapacity n = changed factory capacity n
 
 capacity-in : capacity < count
-unfolding placeOf
+unfolding partnerAt placeOf
 capacity-in = ltb-true capacity count refl
 
 other-allowed : allowed (withCapacity 500) ≡ true
-unfolding placeOf allowed allAllowed allowedFor inRange agrees lowAgrees highAgrees
+unfolding partnerAt placeOf allowed allAllowed allowedFor inRange agrees lowAgrees highAgrees
 other-allowed = refl
 
 no-serial : serialFits [] ≡ true
@@ -93,14 +93,14 @@ refuses-all h =
     false≢true (ap (λ (g : Given Answered). isAnswered (g .answer .outcome)) e)
 
 answers-alike : GetsHeld answersAlike → ⊥
-unfolding placeOf frame body check digit
+unfolding partnerAt placeOf frame body check digit
 answers-alike h =
     let e = h (startedWith (withCapacity 500)) capacity 75 (is-allowed (withCapacity 500) other-allowed) (at-rest (withCapacity 500) other-allowed) capacity-in (leb-true 75 75 refl) in
     let written = ap (λ (g : Given Answered). same (g .written) (frame getCode (said 0x1000 0 (little 2 200)))) e in
     false≢true (sym (rw (table-is (withCapacity 500) other-allowed) at written))
 
 stores-nothing : SetsStored storesNothing → ⊥
-unfolding placeOf starting serialFits allowed allAllowed allowedFor inRange agrees lowAgrees highAgrees freshBoard
+unfolding partnerAt placeOf starting serialFits allowed allAllowed allowedFor inRange agrees lowAgrees highAgrees freshBoard
 stores-nothing h =
     let e = h (startedWith factory) capacity 500 75 (is-allowed factory factory-is-allowed) (at-rest factory factory-is-allowed) capacity-in (leb-true 75 75 refl) refl in
     false≢true (ap (λ (g : Given Answered). eqb (numberAt (g .answer .board .core .table) capacity) 500) e)
@@ -118,7 +118,7 @@ twoCalls = calls 15 75 ∷ calls 15 75 ∷ []
 -- demand 3's shams: after two calls, or one, they do not hold the number of the last Set
 decide-not : (Decides firstSetAlone → ⊥) × (Decides storesNothing → ⊥) × (Decides neverChanges → ⊥)
 unfolding overlaid digit nibble check body frame bodySays taken noChars heldOf unfinished stream.allowed
-    inRange lowAgrees highAgrees agrees allowedFor allAllowed allowed placing placeOf finding setTo
+    inRange lowAgrees highAgrees agrees allowedFor allAllowed allowed placing partnerAt placeOf finding setTo
     serialFits frontOf identityOf serialOf identityAllowed setsSetting setAnswer frameAnswer
     coreAllowed boardAllowed freshBoard starting deciding decidedBy heardBy answering isComplete isValid makes made
 decide-not = (
@@ -134,21 +134,21 @@ decide-not = (
 )
 
 takes-all : TakesToTheEnd takesAll → ⊥
-unfolding placeOf starting serialFits allowed allAllowed allowedFor inRange agrees lowAgrees highAgrees freshBoard frame body check digit taken heldOf unfinished
+unfolding partnerAt placeOf starting serialFits allowed allAllowed allowedFor inRange agrees lowAgrees highAgrees freshBoard frame body check digit taken heldOf unfinished
 takes-all h =
     let e = h (startedWith factory) twoSets 75 (is-allowed factory factory-is-allowed) (leb-true 75 75 refl) in
     let f : _≡_ {A = Bool} false true = ap (λ (n : ℕ). eqb n 15) e in
     false≢true f
 
 hears-all : HearsToTheEnd hearsAll → ⊥
-unfolding placeOf stream.allowed heldOf noChars unfinished taken frame body check digit
+unfolding partnerAt placeOf stream.allowed heldOf noChars unfinished taken frame body check digit
 hears-all h =
     let e = h (heldOf outside) twoSets 35 refl (leb-true 35 35 refl) in
     let f : _≡_ {A = Bool} false true = ap (λ (n : ℕ). eqb n 15) e in
     false≢true f
 
 sent-count : Counts sentCount → ⊥
-unfolding placeOf matched order turnsFrom placed exchanged higherFirst differs allowed allAllowed allowedFor inRange agrees lowAgrees highAgrees
+unfolding partnerAt placeOf matched order turnsFrom placed exchanged higherFirst differs allowed allAllowed allowedFor inRange agrees lowAgrees highAgrees
 sent-count h =
     let e = h factory (withCapacity 500) [] refl nothing in
     let f : _≡_ {A = Bool} false true = ap (λ (n : ℕ). eqb n 0) e in
