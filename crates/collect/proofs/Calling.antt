@@ -1,7 +1,7 @@
 -- A row of calls, and what the last one answers. Assumes nothing.
 use mathlib.Core.Path.{_≡_, refl, sym, ap, ap₂, subst, _∙_}
 use mathlib.Core.Logic.{_≢_, ⊎-elim}
-use mathlib.Core.Bool.{Bool, true, false, cond}
+use mathlib.Core.Bool.{Bool, true, false}
 use mathlib.Core.List.{List, [], _∷_, _++_, append-nil}
 use Prim.Native.Nat.{ℕ, _-_, _≤_, _<_}
 use native.Mathlib.Omega.{arith}
@@ -21,7 +21,7 @@ use Rattle.collect.specs.declared.Collector.{Collector}
 use Rattle.collect.specs.declared.Stage.{Stage}
 use Rattle.collect.specs.declared.Collected.{Collected}
 use Rattle.collect.proofs.Moving.{collecting-stray, collecting-good}
-use Rattle.collect.proofs.Fitting.{AllFit, table-fit, fit-table}
+use Rattle.collect.proofs.Fitting.{table-fit, fit-table}
 use Rattle.collect.proofs.Reaching.{zeros, held, begun-held, Ends, taking, begun-ends, ends-allowed}
 use Rattle.collect.proofs.Boards.{board-run, run-append, allowed-reached}
 use Rattle.collect.proofs.Carrying.{taking-carried}

@@ -13,7 +13,7 @@ use Rattle.laws.proofs.Bools.{both}
 use Rattle.laws.proofs.Lists.{every-replicate, upTo-all}
 use Rattle.settings.specs.Columns.{count}
 use Rattle.reply.specs.Events.{Event}
-use Rattle.collect.specs.Collecting.{fits, intakeOf, took, halted, moved, isWaiting, advanced, begun, within, allFit, noneAfter, allowed}
+use Rattle.collect.specs.Collecting.{fits, intakeOf, took, halted, moved, isWaiting, advanced, begun, allFit, noneAfter, allowed}
 use Rattle.collect.specs.Laws.{run, following}
 use Rattle.collect.specs.declared.Collector.{Collector}
 use Rattle.collect.specs.declared.intake.Intake.{Intake}

@@ -8,7 +8,7 @@ use native.Mathlib.Nat.{zero-add, add-zero}
 use native.Mathlib.Omega.{arith}
 use borrow.Author.Tests.{lt-ltb, le-leb, ltb-true, ltb-false, leb-true}
 use lib.ListN.{length, drop}
-use lib.Dec.{ltb, leb, eqb}
+use lib.Dec.{ltb, eqb}
 use Rattle.laws.proofs.Bools.{and-right, both}
 use Rattle.settings.specs.Columns.{count}
 use Rattle.tables.specs.Rules.{allowed, numberAt}
@@ -107,7 +107,7 @@ module _ (from to : Table) (ok : bothAllowed from to ≡ true) where
       by true z = sym (advanced-is (at n stopped) e Standing.Equal (sym (standing-is (at n stopped) Due.Nothing due) ∙ rw z))
       by false z = sym (advanced-is (at n stopped) e Standing.Done (sym (standing-is (at n stopped) Due.Nothing due) ∙ rw z))
 
-  -- one that waits moves by the verdict
+  -- one that waits moves by the effect
   pub waits-moves : (n : ℕ) (w : Wanted) → dueIn from to n ≡ Due.Set w → (e : Event) → advanced (at n false) e ≡ moved (at n false) (effectOf (Request.Set w) e)
   waits-moves n w due e = sym (advanced-is (at n false) e (Standing.Waiting (Request.Set w)) (sym (standing-is (at n false) (Due.Set w) due)))
 

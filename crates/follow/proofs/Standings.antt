@@ -7,7 +7,7 @@ use native.Mathlib.Omega.{arith}
 use borrow.Author.Tests.{lt-ltb, le-ltb, lt-leb, le-leb, ltb-true, leb-true, eq-eqb, ne-eqb, eqb-true, eqb-false}
 use lib.ListN.{length}
 use lib.Dec.{ltb, leb, eqb}
-use Rattle.laws.proofs.Bools.{and-right, both}
+use Rattle.laws.proofs.Bools.{and-right}
 use Rattle.settings.specs.Columns.{count}
 use Rattle.tables.specs.declared.Table.{Table}
 use Rattle.settings.proofs.Theorems.{rows-hold}

@@ -1,7 +1,7 @@
 -- What a collector says of itself, and of the file of its settings. Assumes nothing.
 use mathlib.Core.Path.{_≡_, refl, sym, ap, _∙_}
 use mathlib.Core.Bool.{Bool, true, false, false≢true}
-use Prim.Native.Nat.{ℕ, _≤_}
+use Prim.Native.Nat.{_≤_}
 use native.Mathlib.Omega.{arith}
 use Rattle.settings.specs.Columns.{count}
 use Rattle.collect.specs.Collecting.{allowed}

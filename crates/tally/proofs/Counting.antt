@@ -16,7 +16,7 @@ use Rattle.follow.specs.declared.Follower.{Follower}
 use Rattle.follow.specs.declared.Followed.{Followed}
 use Rattle.follow.specs.declared.Standing.{Standing}
 use Rattle.follow.proofs.Standings.{told-good, told-stray, confirmed-few}
-use Rattle.tally.specs.Results.{Result, restored, silent, notBegun, nothing, tallyOf, hasEnded, endedAs, withSets, shareOf, fits, most, tallyAllowed, plus}
+use Rattle.tally.specs.Results.{Result, restored, silent, notBegun, tallyOf, hasEnded, endedAs, withSets, shareOf, fits, most, tallyAllowed, plus}
 use Rattle.tally.specs.Calls.{counted, uncounted, counting}
 use Rattle.tally.specs.AsHeld.{Within}
 use Rattle.tally.specs.declared.Tally.{Tally}
