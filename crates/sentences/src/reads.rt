@@ -9,7 +9,7 @@ use collect::Outcome;
 use lines::Line;
 use settings::COUNT;
 
-// A collector's outcome in words.
+// Puts a collector's outcome.
 fn put_read(line: Line, outcome: Outcome, answered: usize, due: usize) -> Line
     ensures { λ r. ⌜ r ≡ adding line (readText outcome answered due) ⌝ }
 {
@@ -36,7 +36,7 @@ pub(crate) fn put_collector(line: Line, collector: Collector) -> Line
     put_read(line, outcome, collected.answered, COUNT)
 }
 
-// What became of a file, in words.
+// Puts what became of a file.
 fn put_kept(line: Line, kept: Kept, count: usize) -> Line
     ensures { λ r. ⌜ r ≡ adding line (keptText kept count) ⌝ }
 {
@@ -47,14 +47,14 @@ fn put_kept(line: Line, kept: Kept, count: usize) -> Line
     }
 }
 
-// Not every setting was read.
+// Puts that not every setting was read.
 fn put_unread(line: Line) -> Line
     ensures { λ r. ⌜ r ≡ adding line unreadText ⌝ }
 {
     line.put(b"not saved: not every setting was read")
 }
 
-// A file by the outcome of the reading: it can be saved only where every setting was read.
+// Puts a file by the outcome of the collector: it can be saved only where every setting was read.
 fn put_file(line: Line, outcome: Outcome, answered: usize, kept: Kept) -> Line
     ensures { λ r. ⌜ r ≡ adding line (fileText outcome answered kept) ⌝ }
 {
@@ -66,7 +66,7 @@ fn put_file(line: Line, outcome: Outcome, answered: usize, kept: Kept) -> Line
     }
 }
 
-// Whether the settings of a collector are saved.
+// Puts whether the settings of a collector are saved.
 pub(crate) fn put_saved(line: Line, collector: Collector, kept: Kept) -> Line
     ensures { λ r. ⌜ r ≡ adding line (savedText collector kept) ⌝ }
 {
