@@ -5,14 +5,14 @@ ghost use Rattle.lines.specs.Lines.{lineOf, textOf, adding};
 use crate::Line;
 use crate::MOST;
 
-// The smaller of two numbers.
+// Returns the smaller of two numbers.
 fn least(a: usize, b: usize) -> usize
     ensures { λ r. ⌜ r ≡ min a b ⌝ }
 {
     if a < b { a } else { b }
 }
 
-// A line's own characters alone: whatever the array has past them is 0 afterwards.
+// Returns a line's own characters alone: whatever the array has past them is 0 afterwards.
 fn tidied(line: Line) -> Line
     ensures { λ r. ⌜ r ≡ lineOf (textOf line) ⌝ }
 {
@@ -23,7 +23,7 @@ fn tidied(line: Line) -> Line
     Line { len, chars }
 }
 
-// After the characters of a tidy line as many of the text as there is room for.
+// Puts after the characters of a tidy line as many of the text as there is room for.
 fn joined(line: Line, text: &[u8]) -> Line
     requires { ⌜ line ≡ lineOf (textOf line) ⌝ }
     ensures { λ r. ⌜ r ≡ adding line (now (text .entry)) ⌝ }
@@ -38,7 +38,7 @@ fn joined(line: Line, text: &[u8]) -> Line
     }
 }
 
-// A line with a text after it.
+// Returns a line with a text after it.
 pub(crate) fn put(line: Line, text: &[u8]) -> Line
     ensures { λ r. ⌜ r ≡ adding line (now (text .entry)) ⌝ }
 {

@@ -1,4 +1,4 @@
-// A line of text in an array of fixed room, and what is put after it: words, decimal numbers and numbers of steps in their unit. Every call
+// A printed line in an array of fixed room, and what is put after it: words, decimal numbers and numbers of steps in their unit. Every call
 // takes anything, and its promise fixes its answer (specs/Lines.antt, specs/Numbers.antt).
 ghost use mathlib.Core.Path.{_≡_};
 ghost use mathlib.Core.List.{[]};
@@ -18,7 +18,7 @@ pub struct Line {
 }
 
 impl Line {
-    // A line with nothing in it.
+    // Returns a line with nothing in it.
     pub fn start() -> Line
         ensures { λ r. ⌜ r ≡ lineOf [] ⌝ }
     {
@@ -28,21 +28,21 @@ impl Line {
         }
     }
 
-    // The line with a text after it.
+    // Returns the line with a text after it.
     pub fn put(self, text: &[u8]) -> Line
         ensures { λ r. ⌜ r ≡ adding self (now (text .entry)) ⌝ }
     {
         copied::put(self, text)
     }
 
-    // The line with a number after it, decimal without leading zeros.
+    // Returns the line with a number after it, decimal without leading zeros.
     pub fn put_number(self, n: usize) -> Line
         ensures { λ r. ⌜ r ≡ adding self (decimal n) ⌝ }
     {
         numbers::put_digits(self, n, numbers::MOST_DIGITS - 1)
     }
 
-    // The line with a whole number of steps after it, in the unit: 0 to 3 decimals, and more are taken for 3.
+    // Returns the line with a whole number of steps after it, in the unit: 0 to 3 decimals, and more are taken for 3.
     pub fn put_pointed(self, n: usize, decimals: u8) -> Line
         ensures { λ r. ⌜ r ≡ adding self (pointed n decimals) ⌝ }
     {

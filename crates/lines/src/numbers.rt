@@ -8,14 +8,14 @@ use crate::Line;
 // No number here has more decimal digits.
 pub(crate) const MOST_DIGITS: usize = 20;
 
-// The line with the last decimal digit of a number after it.
+// Returns the line with the last decimal digit of a number after it.
 fn put_digit(line: Line, n: usize) -> Line
     ensures { λ r. ⌜ r ≡ adding line (lastDigit n) ⌝ }
 {
     line.put(&[b'0' + (n % 10) as u8])
 }
 
-// The line with the digits of a number after it, at most `more` of them before the last.
+// Returns the line with the digits of a number after it, at most `more` of them before the last.
 pub(crate) fn put_digits(line: Line, n: usize, more: usize) -> Line
     ensures { λ r. ⌜ r ≡ adding line (decimalFrom more n) ⌝ }
 {
@@ -28,7 +28,7 @@ pub(crate) fn put_digits(line: Line, n: usize, more: usize) -> Line
     put_digit(put_digits(line, n / 10, more - 1), n)
 }
 
-// How many steps a unit has.
+// Returns how many steps a unit has.
 pub(crate) fn steps_of(decimals: u8) -> usize
     ensures { λ r. ⌜ r ≡ steps decimals ⌝ }
 {
@@ -44,7 +44,7 @@ pub(crate) fn steps_of(decimals: u8) -> usize
     1000
 }
 
-// The line with the point and the digits after it.
+// Returns the line with the point and the digits after it, of a unit that has decimals.
 pub(crate) fn put_fraction(line: Line, n: usize, decimals: u8) -> Line
     requires { ⌜ decimals ≢ 0 ⌝ }
     ensures { λ r. ⌜ r ≡ adding line (fraction decimals n) ⌝ }

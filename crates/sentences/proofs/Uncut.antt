@@ -44,7 +44,7 @@ joined a b m n h k = rw (length-append a b) (omega arith)
 
 refused-long : (number : ℕ) → length (refusedText number) ≤ 28
 unfolding refusedText
-refused-long number = between-long (chars "refused ") [] number 20 (digits-few 19 number)
+refused-long number = between-long _ _ number 20 (digits-few 19 number)
 
 refused-fits : (number : ℕ) → Fits (refusedText number)
 refused-fits number = omega (arith, refused-long number)

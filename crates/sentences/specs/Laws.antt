@@ -69,7 +69,7 @@ pub record LineSays (from to : Table) (events : List Event) : Type 0 where
 abbrev pub LineIsMatched : Type 0
 LineIsMatched = (from to : Table) (events : List Event) → bothAllowed from to ≡ true → OnStream events → LineSays from to events
 
--- 3. The line of a reading says "all" exactly where a start and events give the collector and it is done. A file is said to be saved exactly
+-- 3. The line of a board that was read says "all" exactly where a start and events give the collector and it is done. A file is said to be saved exactly
 -- where, besides, the caller says that it is on the disk; and to be as it was exactly where, besides, the caller says that.
 pub record Complete (c : Collector) : Type 0 where
   pub is-allowed : allowed c ≡ true
@@ -90,12 +90,12 @@ NotSavedIsNot =
 abbrev pub collectedBy : List Event → Collected
 collectedBy events = collects starting events
 
-pub record ReadingSays (events : List Event) : Type 0 where
+pub record CarriedSays (events : List Event) : Type 0 where
   pub all-when : Says (lineOf (collectedText (collectedBy events .collector))) 0 "all " ↔ (length (carried [] events) ≡ count)
   pub numbers-are : collectedText (collectedBy events .collector) ≡ readText (collectedBy events .stage) (length (carried [] events)) count
 
 abbrev pub LineIsCarried : Type 0
-LineIsCarried = (events : List Event) → OnStream events → ReadingSays events
+LineIsCarried = (events : List Event) → OnStream events → CarriedSays events
 
 -- 4. A backup is said to be good exactly where it is accepted: where it is byte for byte the text of an allowed table.
 abbrev pub GoodIsGood : Type 0

@@ -11,14 +11,14 @@ use follow::Standing;
 use lines::Line;
 use restore::Sets;
 
-// How many of `due` are left.
+// Returns how many of `due` are left.
 fn left_of(confirmed: usize, due: usize) -> usize
     ensures { λ r. ⌜ r ≡ due - confirmed ⌝ }
 {
     if confirmed < due { due - confirmed } else { 0 }
 }
 
-// A restore that stopped.
+// Puts a restore that stopped.
 fn put_stopped(line: Line, confirmed: usize, due: usize) -> Line
     ensures { λ r. ⌜ r ≡ adding line (stoppedText confirmed due) ⌝ }
 {
@@ -26,7 +26,7 @@ fn put_stopped(line: Line, confirmed: usize, due: usize) -> Line
     parts::put_between(counted, b"", left_of(confirmed, due), b" not confirmed")
 }
 
-// How far a follower is, in words.
+// Puts how far a follower is.
 fn put_end(line: Line, standing: Standing, confirmed: usize, due: usize) -> Line
     ensures { λ r. ⌜ r ≡ adding line (endText standing confirmed due) ⌝ }
 {
@@ -56,7 +56,7 @@ fn is_allowed(follower: Follower) -> bool
     }
 }
 
-// How many Sets the list of a follower has.
+// Returns how many Sets the list of a follower has.
 fn due_of(follower: Follower) -> usize
     requires { ⌜ followerAllowed follower ≡ true ⌝ }
     ensures { λ r. ⌜ r ≡ total follower ⌝ }
@@ -68,7 +68,7 @@ fn due_of(follower: Follower) -> usize
     }
 }
 
-// How many of them the board has confirmed, by the follower's own count.
+// Puts how many of them the board has confirmed, by the follower's own count.
 pub(crate) fn put_confirmed(line: Line, follower: Follower) -> Line
     ensures { λ r. ⌜ r ≡ adding line (progressText follower) ⌝ }
 {

@@ -1,5 +1,5 @@
-// The sentences that claim something: how a restore, the reading of a board, a file and a yard's night ended, and what a board's values are.
-// Each is said from the states of the machines that followed it and from nothing else; a state that no calls of its machine give is told as
+// The sentences that claim something: how a restore and a yard's night ended, how far a board was read, what became of a file, and what a
+// board's values are. Each is said from the states of the machines that followed it and from nothing else; a state that no calls of its machine give is told as
 // refused 12. Every call takes anything, and its promise fixes its answer (specs/Texts.antt, specs/Values.antt).
 ghost use mathlib.Core.Path.{_≡_};
 ghost use Rattle.lines.specs.Lines.{lineOf};
@@ -29,49 +29,49 @@ pub enum Kept {
     Whole,
 }
 
-// How a restore ended, and how many of its Sets the board has confirmed.
+// Returns how a restore ended, and how many of its Sets the board has confirmed.
 pub fn followed(follower: Follower) -> Line
     ensures { λ r. ⌜ r ≡ lineOf (followedText follower) ⌝ }
 {
     ends::put_follower(Line::start(), follower)
 }
 
-// How many Sets of a restore are confirmed, by the follower's own count.
+// Returns how many Sets of a restore are confirmed, by the follower's own count.
 pub fn progress(follower: Follower) -> Line
     ensures { λ r. ⌜ r ≡ lineOf (progressText follower) ⌝ }
 {
     ends::put_confirmed(Line::start(), follower)
 }
 
-// How the reading of a board ended, and how many settings were read.
+// Returns how far a board was read: how many settings, and whether all.
 pub fn collected(collector: Collector) -> Line
     ensures { λ r. ⌜ r ≡ lineOf (collectedText collector) ⌝ }
 {
     reads::put_collector(Line::start(), collector)
 }
 
-// Whether the settings that were read are saved: only where every one was read.
+// Returns whether the settings that were read are saved: only where every one was read.
 pub fn saved(collector: Collector, kept: Kept) -> Line
     ensures { λ r. ⌜ r ≡ lineOf (savedText collector kept) ⌝ }
 {
     reads::put_saved(Line::start(), collector, kept)
 }
 
-// What a backup is: good, or the number of its refusal and the line.
+// Returns what a backup is: good, or the number of its refusal and the line.
 pub fn checked(verdict: Checked) -> Line
     ensures { λ r. ⌜ r ≡ lineOf (checkedText verdict) ⌝ }
 {
     checks::put_verdict(Line::start(), verdict)
 }
 
-// A whole yard: how many boards ended in which way, and how many settings were confirmed.
+// Returns the sums of a yard: how many boards ended in which way, and how many settings were confirmed.
 pub fn summed(tally: Tally) -> Line
     ensures { λ r. ⌜ r ≡ lineOf (summedText tally) ⌝ }
 {
     sums::put_sums(Line::start(), tally)
 }
 
-// What a frame that comes to a viewer says of the value that is due, in its unit; an empty line where it says nothing of it.
+// Returns what a frame that comes to a viewer says of the value that is due, in its unit; an empty line where it says nothing of it.
 pub fn seen(viewer: Viewer, command: u8, bytes: &[u8]) -> Line
     ensures { λ r. ⌜ r ≡ lineOf (seenText viewer command (now (bytes .entry))) ⌝ }
 {
@@ -84,7 +84,7 @@ pub fn seen(viewer: Viewer, command: u8, bytes: &[u8]) -> Line
     }
 }
 
-// How many values were shown, by the viewer's own count.
+// Returns how many values were shown, by the viewer's own count.
 pub fn shown(viewer: Viewer) -> Line
     ensures { λ r. ⌜ r ≡ lineOf (shownText viewer) ⌝ }
 {

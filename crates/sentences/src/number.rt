@@ -4,14 +4,14 @@ ghost use mathlib.Core.Path.{_≡_};
 ghost use lib.ListN.{length};
 ghost use Rattle.endian.specs.Numbers.{fromLittle};
 
-// A byte among the larger numbers.
+// Returns a byte among the larger numbers.
 pub(crate) fn wide(b: u8) -> usize
     ensures { λ r. ⌜ (r ≡ b) × (r < 256) ⌝ }
 {
     b as usize
 }
 
-// The number of two bytes.
+// Returns the number of two bytes.
 pub(crate) fn two(value: &[u8]) -> usize
     requires { ⌜ length (now value) ≡ 2 ⌝ }
     ensures { λ r. ⌜ (r ≡ fromLittle (now (value .entry))) × (r < 65536) ⌝ }
@@ -19,7 +19,7 @@ pub(crate) fn two(value: &[u8]) -> usize
     wide(value[0]) + 256 * wide(value[1])
 }
 
-// The number of four bytes.
+// Returns the number of four bytes.
 pub(crate) fn four(value: &[u8]) -> usize
     requires { ⌜ length (now value) ≡ 4 ⌝ }
     ensures { λ r. ⌜ (r ≡ fromLittle (now (value .entry))) × (r < 4294967296) ⌝ }

@@ -5,14 +5,14 @@ ghost use Rattle.lines.specs.Lines.{adding};
 ghost use Rattle.sentences.specs.Texts.{betweenText, ofText, refusedText};
 use lines::Line;
 
-// A number between words.
+// Puts a number between words.
 pub(crate) fn put_between(line: Line, before: &[u8], n: usize, after: &[u8]) -> Line
     ensures { λ r. ⌜ r ≡ adding line (betweenText (now (before .entry)) n (now (after .entry))) ⌝ }
 {
     line.put(before).put_number(n).put(after)
 }
 
-// How many of how many, between words.
+// Puts how many of how many, between words.
 pub(crate) fn put_of(line: Line, before: &[u8], done: usize, due: usize, after: &[u8]) -> Line
     ensures { λ r. ⌜ r ≡ adding line (ofText (now (before .entry)) done due (now (after .entry))) ⌝ }
 {
@@ -20,21 +20,21 @@ pub(crate) fn put_of(line: Line, before: &[u8], done: usize, due: usize, after: 
     counted.put(b" of ").put_number(due).put(after)
 }
 
-// A refusal's number among the larger ones.
+// Returns a refusal's number among the larger ones.
 fn number_of(n: u8) -> usize
     ensures { λ r. ⌜ r ≡ n ⌝ }
 {
     n as usize
 }
 
-// A refusal by its number.
+// Puts a refusal by its number.
 pub(crate) fn put_refused(line: Line, number: u8) -> Line
     ensures { λ r. ⌜ r ≡ adding line (refusedText number) ⌝ }
 {
     put_between(line, b"refused ", number_of(number), b"")
 }
 
-// A state that no calls of its machine give.
+// Puts a state that no calls of its machine give.
 pub(crate) fn put_stray(line: Line) -> Line
     ensures { λ r. ⌜ r ≡ adding line (refusedText paper.notAllowed) ⌝ }
 {

@@ -9,7 +9,7 @@ use collect::Stage;
 use lines::Line;
 use settings::COUNT;
 
-// How far a collector is, in words.
+// Puts how far a collector is.
 fn put_read(line: Line, stage: Stage, answered: usize, due: usize) -> Line
     ensures { λ r. ⌜ r ≡ adding line (readText stage answered due) ⌝ }
 {
@@ -30,7 +30,7 @@ pub(crate) fn put_collector(line: Line, collector: Collector) -> Line
     put_read(line, stage, collected.answered, COUNT)
 }
 
-// What became of a file, in words.
+// Puts what became of a file.
 fn put_kept(line: Line, kept: Kept, count: usize) -> Line
     ensures { λ r. ⌜ r ≡ adding line (keptText kept count) ⌝ }
 {
@@ -41,14 +41,14 @@ fn put_kept(line: Line, kept: Kept, count: usize) -> Line
     }
 }
 
-// Not every setting was read.
+// Puts that not every setting was read.
 fn put_unread(line: Line) -> Line
     ensures { λ r. ⌜ r ≡ adding line unreadText ⌝ }
 {
     line.put(b"not saved: not every setting was read")
 }
 
-// A file by how far the reading came: it can be saved only where every setting was read.
+// Puts a file by how far the collector came: it can be saved only where every setting was read.
 fn put_file(line: Line, stage: Stage, answered: usize, kept: Kept) -> Line
     ensures { λ r. ⌜ r ≡ adding line (fileText stage answered kept) ⌝ }
 {
@@ -60,7 +60,7 @@ fn put_file(line: Line, stage: Stage, answered: usize, kept: Kept) -> Line
     }
 }
 
-// Whether the settings of a collector are saved.
+// Puts whether the settings of a collector are saved.
 pub(crate) fn put_saved(line: Line, collector: Collector, kept: Kept) -> Line
     ensures { λ r. ⌜ r ≡ adding line (savedText collector kept) ⌝ }
 {

@@ -6,7 +6,7 @@ use crate::parts;
 use lines::Line;
 use tally::Tally;
 
-// How many boards ended in which way, and how many settings were confirmed of those that were due.
+// Puts how many boards ended in which way, and how many settings were confirmed of those that were due.
 fn put_counts(line: Line, tally: Tally) -> Line
     ensures { λ r. ⌜ r ≡ adding line (countsText tally) ⌝ }
 {
@@ -24,7 +24,7 @@ fn put_counts(line: Line, tally: Tally) -> Line
     )
 }
 
-// The sums of a tally that is allowed.
+// Puts the sums of a tally that is allowed.
 pub(crate) fn put_sums(line: Line, tally: Tally) -> Line
     ensures { λ r. ⌜ r ≡ adding line (summedText tally) ⌝ }
 {

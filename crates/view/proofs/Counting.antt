@@ -101,7 +101,7 @@ done-asked v ok = (by (ltb (v .asked) count) refl, λ all. rw (le-ltb (v .asked)
     by false h e = let most : count ≤ v .asked = ltb-false (v .asked) count h in omega (arith, few-asked v ok)
 
 begun-allowed : allowed begun ≡ true
-begun-allowed = is-allowed 0 0 (omega arith) (omega arith)
+begun-allowed = is-allowed (begun .asked) (begun .understood) (omega arith) (omega arith)
 
 pub calls-allowed : (frames : List Frame) → allowed (calls starting frames .viewer) ≡ true
 calls-allowed frames = from-calls frames begun Sight.Nothing begun-allowed .stays

@@ -17,7 +17,7 @@ fn fits(serial: &[u8]) -> bool
     }
 }
 
-// How many bytes the value of a serial has.
+// Returns how many bytes the value of a serial has.
 fn width_of(len: usize) -> usize
     ensures { λ r. ⌜ r ≡ serialWidth len ⌝ }
 {

@@ -18,7 +18,7 @@ fn is_product(value: &[u8]) -> bool
     (value[0] == INSTANCE) & (value[3] == RESERVED)
 }
 
-// How wide the version and the readings are.
+// Returns how wide the version and the readings are.
 fn width_of(id: u16) -> usize
     ensures { λ r. ⌜ r ≡ widthOf id ⌝ }
 {
