@@ -5,11 +5,11 @@ use mathlib.Core.List.{List, [], _∷_}
 use Prim.Native.Nat.{ℕ, zero, suc, _-_, _^_, _≤_, _<_}
 use native.Mathlib.Omega.{arith}
 use native.Mathlib.Nat.{le-of-suc-le-suc}
-use borrow.Author.Tests.{lt-ltb, ltb-true, ltb-false, leb-true, eqb-true}
+use borrow.Author.Tests.{lt-ltb, le-ltb, ltb-true, ltb-false, leb-true, eqb-true}
 use lib.ListN.{length, getD}
 use lib.Dec.{ltb, leb, eqb}
 use Rattle.laws.proofs.Lists.{upTo-at, before-first}
-use Rattle.settings.specs.Columns.{count, ids, idAt, widthAt, lowAt, highAt, factoryAt, partnerAt, placeOf, roleAt}
+use Rattle.settings.specs.Columns.{count, ids, idAt, widthAt, lowAt, highAt, factoryAt, partners, partnerAt, placeOf, roleAt}
 use Rattle.settings.specs.Rules.{inRange, agrees, lowAgrees, highAgrees}
 use Rattle.settings.specs.Calls.{settingAt, placing, finding}
 use Rattle.settings.specs.Laws.{Row, PlaceIsFound, FindIsFound, FoundHasId}
@@ -50,6 +50,27 @@ module _ (k : ℕ) (h : k < count) where
         factory-in = upTo-at count (λ i. inRange i (factoryAt i)) refl k h;
         factory-agrees = upTo-at count (λ i. agrees (roleAt i) (factoryAt i) (factoryAt (partnerAt i))) refl k h;
       }
+
+-- a partner with the larger id is at the next place, one with the smaller id at the place before
+abbrev partnerId : ℕ → ℕ
+partnerId k = getD partners k 0
+
+abbrev byId : ℕ → Bool
+byId k = cond (ltb (idAt k) (partnerId k)) (eqb (partnerAt k) (suc k)) (cond (ltb (partnerId k) (idAt k)) (eqb (suc (partnerAt k)) k) (eqb (partnerAt k) k))
+
+module _ (k : ℕ) (h : k < count) where
+  by-id : byId k ≡ true
+  unfolding partnerAt placeOf
+  by-id = upTo-at count byId refl k h
+
+  pub partner-after : idAt k < partnerId k → partnerAt k ≡ suc k
+  partner-after less = eqb-true _ _ (rw (lt-ltb _ _ less) at by-id)
+
+  pub partner-before : partnerId k ≤ idAt k → partnerId k < idAt k → suc (partnerAt k) ≡ k
+  partner-before few less = eqb-true _ _ (rw (le-ltb _ _ few, lt-ltb _ _ less) at by-id)
+
+  pub partner-self : partnerId k ≤ idAt k → idAt k ≤ partnerId k → partnerAt k ≡ k
+  partner-self few many = eqb-true _ _ (rw (le-ltb _ _ few, le-ltb _ _ many) at by-id)
 
 -- past the table a column has nothing
 pub getD-past : (l : List ℕ) (k d : ℕ) → length l ≤ k → getD l k d ≡ d

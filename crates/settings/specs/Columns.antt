@@ -113,10 +113,17 @@ roles = map (λ (e : Entry). e .role) entries
 abbrev pub roleAt : ℕ → Role
 roleAt k = getD roles k Role.Alone
 
--- the second of a pair, which has its partner before it
-abbrev pub isSecond : Role → Bool
-isSecond Role.Alone = false
-isSecond Role.LowFirst = false
-isSecond Role.LowSecond = true
-isSecond Role.HighFirst = false
-isSecond Role.HighSecond = true
+-- the first of a low pair and of a high one, which have their partner after them
+abbrev pub isLowFirst : Role → Bool
+isLowFirst Role.Alone = false
+isLowFirst Role.LowFirst = true
+isLowFirst Role.LowSecond = false
+isLowFirst Role.HighFirst = false
+isLowFirst Role.HighSecond = false
+
+abbrev pub isHighFirst : Role → Bool
+isHighFirst Role.Alone = false
+isHighFirst Role.LowFirst = false
+isHighFirst Role.LowSecond = false
+isHighFirst Role.HighFirst = true
+isHighFirst Role.HighSecond = false

@@ -283,11 +283,20 @@ pub(crate) fn zero_of(index: usize) -> bool
     ZEROS[index]
 }
 
+// The place of the other one of its pair: ids ascend and the two are neighbours, so the larger id is the next place.
 pub(crate) fn partner_of(index: usize) -> usize
     requires { ⌜ index < count ⌝ }
     ensures { λ r. ⌜ r ≡ partnerAt index ⌝ }
 {
-    place_of(PARTNERS[index])
+    let own = IDS[index];
+    let partner = PARTNERS[index];
+    if own < partner {
+        return index + 1;
+    }
+    if partner < own {
+        return index - 1;
+    }
+    index
 }
 
 pub(crate) fn role_of(index: usize) -> Role

@@ -1,9 +1,10 @@
 // The rules over the table: a setting's own range, the pair rule, and what is allowed.
 ghost use Prim.Native.Nat.{_<_};
 ghost use mathlib.Core.Path.{_≡_};
+ghost use mathlib.Core.Bool.{not, _&&_, _||_};
 ghost use lib.ListN.{getD};
 ghost use Rattle.laws.specs.Lists.{upTo};
-ghost use Rattle.settings.specs.Columns.{count, partnerAt, roleAt, isSecond};
+ghost use Rattle.settings.specs.Columns.{count, partnerAt, roleAt, isLowFirst, isHighFirst};
 ghost use Rattle.settings.specs.Rules.{inWindow, inRange, lowAgrees, highAgrees, agrees, allowedFor};
 ghost use Rattle.settings.specs.Calls.{partnerFits};
 use crate::COUNT;
@@ -90,17 +91,38 @@ pub(crate) fn all_in_range(numbers: [u16; COUNT]) -> bool
     all
 }
 
-// The second of a pair.
-fn is_second(role: Role) -> bool
-    ensures { λ r. ⌜ r ≡ isSecond role ⌝ }
+// The first of a low pair.
+fn is_low_first(role: Role) -> bool
+    ensures { λ r. ⌜ r ≡ isLowFirst role ⌝ }
+{
+    match role {
+        Role::Alone => false,
+        Role::LowFirst => true,
+        Role::LowSecond => false,
+        Role::HighFirst => false,
+        Role::HighSecond => false,
+    }
+}
+
+// The first of a high pair.
+fn is_high_first(role: Role) -> bool
+    ensures { λ r. ⌜ r ≡ isHighFirst role ⌝ }
 {
     match role {
         Role::Alone => false,
         Role::LowFirst => false,
-        Role::LowSecond => true,
-        Role::HighFirst => false,
-        Role::HighSecond => true,
+        Role::LowSecond => false,
+        Role::HighFirst => true,
+        Role::HighSecond => false,
     }
+}
+
+// Whether a setting agrees with the one after it, if that is its partner. There is no branch, so that the compiler may look at many at a
+// time.
+fn agrees_next(role: Role, n: u16, next: u16) -> bool
+    ensures { λ r. ⌜ r ≡ ((not (isLowFirst role) || lowAgrees n next) && (not (isHighFirst role) || highAgrees n next)) ⌝ }
+{
+    (!is_low_first(role) | low_agrees(n, next)) & (!is_high_first(role) | high_agrees(n, next))
 }
 
 // Every number agrees with its partner's. The two of a pair are neighbours: the first is asked about the number after it, and the second
@@ -113,7 +135,7 @@ pub(crate) fn all_agree(numbers: [u16; COUNT]) -> bool
     let mut i = 0;
     while i + 1 < COUNT {
         let role = roles[i];
-        all = all & (is_second(role) | agrees_by(role, numbers[i], numbers[i + 1]));
+        all = all & agrees_next(role, numbers[i], numbers[i + 1]);
         i += 1;
     }
     all

@@ -1,21 +1,49 @@
--- `settings::columns::partner_of` meets its contract. Assumes nothing.
+-- `settings::columns::partner_of` meets its contract: the partner is at a neighbouring place, by its id. Assumes nothing.
+use mathlib.Core.Path.{sym, _∙_}
+use native.Mathlib.Numerals.{add-one}
+use native.Mathlib.Omega.{arith}
+use Rattle.settings.proofs.Rows.{partner-after, partner-before, partner-self}
 use borrow.Author.Needs.{needs}
-use Rattle.settings.specs.Columns.{partnerAt}
 use Rattle.settings.proofs.columns.partner_of.Statement.{statement}
 use Rattle.settings.proofs.columns.partner_of.Tie as tie
 
-mul-place-of : tie.Need-mul-place-of
-mul-place-of c = search needs
+mul-own : tie.Need-mul-own
+mul-own c = search needs
 
-array-read-place-of : tie.Need-array-read-place-of
-array-read-place-of c = search needs
+array-read-own : tie.Need-array-read-own
+array-read-own c = search needs
 
-place-of-requires : tie.Need-place-of-requires
-place-of-requires c κs = search needs
+mul-partner : tie.Need-mul-partner
+mul-partner c = search needs
+
+array-read-partner : tie.Need-array-read-partner
+array-read-partner c = search needs
+
+add-result : tie.Need-add-result
+add-result c = search needs
 
 returns : tie.Need-returns
-unfolding partnerAt
-returns c = c .place-of .ensures
+returns c = add-one _ ∙ sym (partner-after _ (c .before .pre) (c .if1 .taken))
+
+sub-result : tie.Need-sub-result
+sub-result c = omega (arith, partner-before _ (c .before .before .pre) (c .before .if1 .left) (c .if2 .taken))
+
+returns-2 : tie.Need-returns-2
+returns-2 c = omega (arith, partner-before _ (c .before .before .pre) (c .before .if1 .left) (c .if2 .taken))
+
+returns-3 : tie.Need-returns-3
+returns-3 c = sym (partner-self _ (c .before .before .pre) (c .before .if1 .left) (c .if2 .left))
 
 pub partner-of-spec : {M : Type 1} → statement M
-partner-of-spec = tie.close (tie.spec mul-place-of array-read-place-of place-of-requires returns)
+partner-of-spec =
+    tie.close
+    (tie.spec
+    mul-own
+    array-read-own
+    mul-partner
+    array-read-partner
+    add-result
+    returns
+    sub-result
+    returns-2
+    returns-3)

@@ -27,26 +27,23 @@ add-loop c = omega arith
 array-copy-out-role : tie.Need-array-copy-out-role Inv-loop μ-loop
 array-copy-out-role c = omega arith
 
-is-second-requires : tie.Need-is-second-requires Inv-loop μ-loop
-is-second-requires c κs = tt
+mul-agrees-next : tie.Need-mul-agrees-next Inv-loop μ-loop
+mul-agrees-next c = omega arith
 
-mul-agrees-by : tie.Need-mul-agrees-by Inv-loop μ-loop
-mul-agrees-by c = omega arith
+array-read-agrees-next : tie.Need-array-read-agrees-next Inv-loop μ-loop
+array-read-agrees-next c = omega arith
 
-array-read-agrees-by : tie.Need-array-read-agrees-by Inv-loop μ-loop
-array-read-agrees-by c = omega arith
+add-agrees-next : tie.Need-add-agrees-next Inv-loop μ-loop
+add-agrees-next c = omega arith
 
-add-agrees-by : tie.Need-add-agrees-by Inv-loop μ-loop
-add-agrees-by c = omega arith
+mul-agrees-next-2 : tie.Need-mul-agrees-next-2 Inv-loop μ-loop
+mul-agrees-next-2 c = omega arith
 
-mul-agrees-by-2 : tie.Need-mul-agrees-by-2 Inv-loop μ-loop
-mul-agrees-by-2 c = omega arith
+array-read-agrees-next-2 : tie.Need-array-read-agrees-next-2 Inv-loop μ-loop
+array-read-agrees-next-2 c = omega arith
 
-array-read-agrees-by-2 : tie.Need-array-read-agrees-by-2 Inv-loop μ-loop
-array-read-agrees-by-2 c = omega arith
-
-agrees-by-requires : tie.Need-agrees-by-requires Inv-loop μ-loop
-agrees-by-requires c κs = tt
+agrees-next-requires : tie.Need-agrees-next-requires Inv-loop μ-loop
+agrees-next-requires c κs = tt
 
 add-i : tie.Need-add-i Inv-loop μ-loop
 add-i c = omega arith
@@ -56,8 +53,8 @@ loop-less c = omega arith
 
 loop-again : tie.Need-loop-again Inv-loop μ-loop
 loop-again c =
-    let c4 = c .before .before .before .before in
-    (omega arith, rw (c .agrees-by .ensures, c .before .is-second .ensures, c4 .before .roles .ensures, c4 .loop .inv .1, add-one))
+    let c3 = c .before .before .before in
+    (omega arith, rw (c .agrees-next .ensures, c3 .before .roles .ensures, c3 .loop .inv .1, add-one))
 
 returns : tie.Need-returns Inv-loop μ-loop
 returns c =
@@ -74,13 +71,12 @@ all-agree-spec =
     loop-holds
     add-loop
     array-copy-out-role
-    is-second-requires
-    mul-agrees-by
-    array-read-agrees-by
-    add-agrees-by
-    mul-agrees-by-2
-    array-read-agrees-by-2
-    agrees-by-requires
+    mul-agrees-next
+    array-read-agrees-next
+    add-agrees-next
+    mul-agrees-next-2
+    array-read-agrees-next-2
+    agrees-next-requires
     add-i
     loop-less
     loop-again
