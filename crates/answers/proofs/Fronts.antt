@@ -7,9 +7,10 @@ use lib.ListN.{length, getD, set, take, drop, length-set, drop-of-length-le}
 use lib.Seq.{sets, sets-eq}
 use Rattle.laws.specs.Promise.{overlaid, frontOf}
 use Rattle.laws.proofs.Lists.{sets-turn, sets-end}
+use Rattle.paper.specs.Numbers as paper
 use Rattle.who.specs.Calls.{valueOf}
 use Rattle.answers.specs.Answers.{said}
-use Rattle.answers.specs.AsHeld.{noData, messageOf, saidOf}
+use Rattle.answers.specs.AsHeld.{messageOf, saidOf}
 
 pub record Joining (front rest bytes : List ℕ) (i : ℕ) : Type 0 where
   pub within : i ≤ 32
@@ -41,7 +42,7 @@ module _ {front rest : List ℕ} where
 
 -- an id, a flag and a value as it is held are those of the bytes that the value stands for
 pub said-is : (command id flag : ℕ) (v : List ℕ) → saidOf command id flag (valueOf v) ≡ messageOf command (said id flag v)
-unfolding saidOf messageOf valueOf overlaid noData frontOf
+unfolding saidOf messageOf valueOf frontOf overlaid
 said-is command id flag v =
     let three : length v + 3 ≡ suc (suc (suc (length v))) = omega arith in
-    λ i. record { command = command; len = three i; bytes = overlaid (said id flag v) noData }
+    λ i. record { command = command; len = three i; bytes = frontOf paper.mostData (said id flag v) }

@@ -1,8 +1,8 @@
 -- `answers::messages::bare` meets its contract. Assumes nothing.
 use mathlib.Core.Path.{refl}
 use borrow.Author.Needs.{needs}
-use Rattle.laws.specs.Promise.{overlaid}
-use Rattle.answers.specs.AsHeld.{messageOf, noData}
+use Rattle.laws.specs.Promise.{overlaid, frontOf}
+use Rattle.answers.specs.AsHeld.{messageOf}
 use Rattle.answers.proofs.messages.bare.Statement.{statement}
 use Rattle.answers.proofs.messages.bare.Tie as tie
 
@@ -22,7 +22,7 @@ array-write-bytes-3 : tie.Need-array-write-bytes-3
 array-write-bytes-3 c = search needs
 
 returns : tie.Need-returns
-unfolding messageOf overlaid noData
+unfolding messageOf frontOf overlaid
 returns c = refl
 
 pub bare-spec : {M : Type 1} → statement M
