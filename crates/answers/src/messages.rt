@@ -65,13 +65,9 @@ pub(crate) fn bare(command: u8, id: u16, flag: u8) -> Message
 fn joined(front: [u8; paper::MOST_DATA], rest: [u8; paper::MOST_SERIAL]) -> [u8; paper::MOST_DATA]
     ensures { λ r. ⌜ r ≡ take 3 front ++ rest ⌝ }
 {
-    let mut bytes = front;
-    let mut i = 0;
-    while i < paper::MOST_SERIAL {
-        bytes[i + 3] = rest[i];
-        i += 1;
-    }
-    bytes
+    let mut whole = front;
+    bytes::copy(&rest, &mut whole[paper::FRONT..]);
+    whole
 }
 
 // Returns a message of an id, a flag and a value.
