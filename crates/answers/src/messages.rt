@@ -75,10 +75,8 @@ pub(crate) fn saying(command: u8, id: u16, flag: u8, value: Value) -> Message
     requires { ⌜ value .len ≤ 32 ⌝ }
     ensures { λ r. ⌜ r ≡ saidOf command id flag value ⌝ }
 {
-    let mut front = [0u8; paper::MOST_DATA];
-    front[0] = (id % 256) as u8;
-    front[1] = (id / 256 % 256) as u8;
-    front[2] = flag;
+    let said = bare(command, id, flag);
+    let front = said.bytes;
     let len = value.len;
     let rest = value.bytes;
     Message {
