@@ -50,9 +50,8 @@ pub(crate) fn number(command: u8, n: u16) -> Message
 pub(crate) fn bare(command: u8, id: u16, flag: u8) -> Message
     ensures { λ r. ⌜ r ≡ messageOf command (said id flag []) ⌝ }
 {
-    let mut bytes = [0u8; paper::MOST_DATA];
-    bytes[0] = (id % 256) as u8;
-    bytes[1] = (id / 256 % 256) as u8;
+    let named = number(command, id);
+    let mut bytes = named.bytes;
     bytes[2] = flag;
     Message {
         command,
