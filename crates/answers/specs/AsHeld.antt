@@ -1,9 +1,9 @@
 -- Replies and decisions as the program holds them: bytes at the front of an array, zeros after them. Assumes nothing.
 use Prim.Native.Nat.{ℕ, _+_, _≤_, _<_}
 use mathlib.Core.List.{List, [], _∷_, _++_}
-use lib.ListN.{length, replicate}
+use lib.ListN.{length}
 use Rattle.paper.specs.Numbers as paper
-use Rattle.laws.specs.Promise.{overlaid}
+use Rattle.laws.specs.Promise.{frontOf}
 use Rattle.settings.specs.Columns.{count}
 use Rattle.settings.specs.declared.Setting.{Setting}
 use Rattle.endian.specs.Numbers.{little}
@@ -15,11 +15,8 @@ use Rattle.answers.specs.declared.Message.{Message}
 use Rattle.answers.specs.declared.Sends.{Sends}
 use Rattle.answers.specs.declared.Decided.{Decided}
 
-unfoldable pub noData : List ℕ
-noData = replicate paper.mostData 0
-
 unfoldable pub messageOf : ℕ → List ℕ → Message
-messageOf command bytes = record { command = command; len = length bytes; bytes = overlaid bytes noData }
+messageOf command bytes = record { command = command; len = length bytes; bytes = frontOf paper.mostData bytes }
 
 -- an id, a flag and a value that is held
 unfoldable pub saidOf : ℕ → ℕ → ℕ → Value → Message

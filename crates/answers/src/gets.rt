@@ -74,7 +74,7 @@ pub(crate) fn answer(core: Core, bytes: &[u8]) -> Decided
     if bytes[2] != 0 {
         return decisions::malformed(core);
     }
-    let id = values::number_of(&bytes[..2]);
+    let id = endian::read_16(bytes);
     let found = settings::find(id);
     match found {
         Found::At(setting) => get_setting(core, setting),

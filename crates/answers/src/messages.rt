@@ -50,9 +50,8 @@ pub(crate) fn number(command: u8, n: u16) -> Message
 pub(crate) fn bare(command: u8, id: u16, flag: u8) -> Message
     ensures { λ r. ⌜ r ≡ messageOf command (said id flag []) ⌝ }
 {
-    let mut bytes = [0u8; paper::MOST_DATA];
-    bytes[0] = (id % 256) as u8;
-    bytes[1] = (id / 256 % 256) as u8;
+    let named = number(command, id);
+    let mut bytes = named.bytes;
     bytes[2] = flag;
     Message {
         command,
@@ -65,13 +64,9 @@ pub(crate) fn bare(command: u8, id: u16, flag: u8) -> Message
 fn joined(front: [u8; paper::MOST_DATA], rest: [u8; paper::MOST_SERIAL]) -> [u8; paper::MOST_DATA]
     ensures { λ r. ⌜ r ≡ take 3 front ++ rest ⌝ }
 {
-    let mut bytes = front;
-    let mut i = 0;
-    while i < paper::MOST_SERIAL {
-        bytes[i + 3] = rest[i];
-        i += 1;
-    }
-    bytes
+    let mut whole = front;
+    bytes::copy(&rest, &mut whole[paper::FRONT..]);
+    whole
 }
 
 // Returns a message of an id, a flag and a value.
@@ -79,10 +74,8 @@ pub(crate) fn saying(command: u8, id: u16, flag: u8, value: Value) -> Message
     requires { ⌜ value .len ≤ 32 ⌝ }
     ensures { λ r. ⌜ r ≡ saidOf command id flag value ⌝ }
 {
-    let mut front = [0u8; paper::MOST_DATA];
-    front[0] = (id % 256) as u8;
-    front[1] = (id / 256 % 256) as u8;
-    front[2] = flag;
+    let said = bare(command, id, flag);
+    let front = said.bytes;
     let len = value.len;
     let rest = value.bytes;
     Message {

@@ -59,7 +59,7 @@ fn set_setting(mut core: Core, setting: Setting, value: &[u8]) -> Decided
             gets::now_held(core, setting),
         );
     }
-    let number = values::number_of(value);
+    let number = endian::read_16(value);
     let table = core.table;
     let change = table.set(setting.index, number);
     let after = change.table;
@@ -96,7 +96,7 @@ pub(crate) fn answer(core: Core, bytes: &[u8]) -> Decided
     if bytes[2] != 0 {
         return decisions::malformed(core);
     }
-    let id = values::number_of(&bytes[..2]);
+    let id = endian::read_16(bytes);
     let found = settings::find(id);
     match found {
         Found::At(setting) => set_setting(core, setting, &bytes[paper::FRONT..]),

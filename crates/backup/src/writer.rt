@@ -8,26 +8,14 @@ ghost use Rattle.rows.specs.Row.{rowOf, rowRoom};
 ghost use Rattle.backup.specs.Text.{places, linesFor};
 use rows::Written;
 use settings::COUNT;
-use settings::Found;
-
-// The id of the setting at a place.
-fn id_at(index: usize) -> u16
-    requires { ⌜ index < count ⌝ }
-    ensures { λ r. ⌜ r ≡ idAt index ⌝ }
-{
-    let found = settings::at(index);
-    match found {
-        Found::At(setting) => setting.id,
-        Found::Nothing => 0,
-    }
-}
 
 // A setting's line at a place, and the place after it.
 fn put_line(out: &mut [u8], at: usize, index: usize, n: u16) -> usize
     requires { ⌜ (at + rowRoom ≤ length (now out)) × (index < count) ⌝ }
     ensures { λ r. ⌜ (r ≡ at + length (rowOf (idAt index) n)) × (now (out .exit) ≡ sets (now (out .entry)) at (rowOf (idAt index) n)) × (r ≤ at + rowRoom) ⌝ }
 {
-    let written = rows::write(id_at(index), n, &mut out[at..]);
+    let id = settings::setting_at(index).id;
+    let written = rows::write(id, n, &mut out[at..]);
     match written {
         Written::Row(len) => at + len,
         Written::Refused(_) => at,

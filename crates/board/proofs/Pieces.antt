@@ -8,7 +8,7 @@ use borrow.Author.Tests.{leb-true, lt-ltb, le-ltb, eqb-true}
 use lib.ListN.{length, take}
 use lib.Dec.{eqb}
 use Rattle.laws.specs.Promise.{Given, Gives, overlaid}
-use Rattle.laws.proofs.Promise.{gives-none}
+use Rattle.laws.proofs.Promise.{gives-none, overlaid-front}
 use Rattle.laws.proofs.Bools.{and-left, and-right, both}
 use Rattle.wire.specs.Reading.{Ended, good, refused}
 use Rattle.stream.specs.Stream.{taken}
@@ -26,7 +26,6 @@ use Rattle.board.specs.Calls.{errorFrame, endedIn, deciding, decidedBy, 
 use Rattle.board.specs.AsHeld as held
 use Rattle.board.specs.declared.Board.{Board}
 use Rattle.board.specs.declared.Answered.{Answered}
-use Rattle.board.proofs.Sending.{front-back}
 
 -- the parts of an allowed board
 module _ (board : Board) (ok : boardAllowed board ≡ true) where
@@ -110,7 +109,7 @@ module _ (board : Board) (piece : List ℕ) (ok : boardAllowed board ≡ true) {
     frame-is buffer {bytes} filled =
         let written : stream.hearing (board .held) piece 35 .written ≡ stream.dataOfFirst (endedIn (board .held) piece) = rw heard-as in
         let front : take len bytes ≡ stream.dataOfFirst (endedIn (board .held) piece) =
-        rw (filled, written, sym (framed-whole .count)) (front-back (stream.dataOfFirst (endedIn (board .held) piece)) buffer) in
+        rw (filled, written, sym (framed-whole .count)) (overlaid-front (stream.dataOfFirst (endedIn (board .held) piece)) buffer) in
         sym (heard-by ∙ rw (framed-whole .decides, front))
 
     pub heard-frame : (buffer : List ℕ) {bytes : List ℕ} → bytes ≡ overlaid (stream.hearing (board .held) piece 35 .written) buffer → {out after : List ℕ} {r : Answered}

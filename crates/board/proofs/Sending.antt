@@ -4,9 +4,9 @@ use mathlib.Core.List.{List}
 use Prim.Native.Nat.{ℕ, _≤_}
 use native.Mathlib.Omega.{arith}
 use borrow.Author.Tests.{leb-true}
-use lib.ListN.{length, take}
-use lib.Seq.{take-append-seam}
-use Rattle.laws.specs.Promise.{Gives, overlaid}
+use lib.ListN.{length}
+use Rattle.laws.specs.Promise.{Gives}
+use Rattle.laws.proofs.Promise.{overlaid-front}
 use Rattle.wire.specs.Frame.{frame}
 use Rattle.wire.specs.Calls.{writing, writtenAs}
 use Rattle.wire.specs.declared.Written.{Written}
@@ -20,14 +20,10 @@ use Rattle.board.specs.Calls.{replyBytes, decidedBy}
 use Rattle.board.specs.AsHeld.{whole, sentBy}
 use Rattle.board.specs.declared.Answered.{Answered}
 
-pub front-back : (front rest : List ℕ) → take (length front) (overlaid front rest) ≡ front
-unfolding overlaid
-front-back front rest = take-append-seam front _
-
 sent-is : (s : Sent) → sentBy (sendsOf s) (messageIn s) ≡ whole (replyBytes s)
 unfolding sentBy messageOf
 sent-is silent = refl
-sent-is (sent command bytes) = ap (λ (l : List ℕ). whole (frame command l)) (front-back bytes _)
+sent-is (sent command bytes) = ap (λ (l : List ℕ). whole (frame command l)) (overlaid-front bytes _)
 sent-is error = refl
 
 -- within what the writer takes

@@ -1,6 +1,5 @@
 -- Numbers as bytes: how many there are, and that they are bytes. Assumes nothing.
 use mathlib.Core.Path.{_≡_, refl, ap}
-use mathlib.Core.Logic.{_≢_}
 use mathlib.Core.Bool.{true}
 use mathlib.Core.List.{List, [], _∷_}
 use Prim.Native.Nat.{ℕ, zero, suc, _+_, _*_, _≤_, _<_, _%_}
@@ -19,18 +18,6 @@ length-little (suc width) n = ap suc (length-little width _)
 pub bytes-little : (width n : ℕ) → every byte (little width n) ≡ true
 bytes-little zero n = refl
 bytes-little (suc width) n = let low : n % 256 < 256 = omega arith in both _ _ (lt-ltb (n % 256) 256 low) (bytes-little width _)
-
--- one byte or two as a number
-pub one-number : (l : List ℕ) → length l ≡ 1 → getD l 0 0 ≡ fromLittle l
-one-number [] e = refl
-one-number (a ∷ []) e = omega arith
-one-number (a ∷ b ∷ l) e = absurd (omega arith)
-
-pub two-number : (l : List ℕ) → 1 ≤ length l → length l ≤ 2 → length l ≢ 1 → getD l 0 0 + 256 * getD l 1 0 ≡ fromLittle l
-two-number [] least few other = absurd (omega arith)
-two-number (a ∷ []) least few other = absurd (other refl)
-two-number (a ∷ b ∷ []) least few other = omega arith
-two-number (a ∷ b ∷ c ∷ l) least few other = absurd (omega arith)
 
 -- the first bytes are all of them, where there are no more
 pub all-first : (width : ℕ) (l : List ℕ) → length l ≤ width → fromLittle (take width l) ≡ fromLittle l

@@ -6,27 +6,21 @@ use Prim.Native.Nat.{ℕ, _≤_}
 use native.Mathlib.Omega.{arith}
 use lib.ListN.{length, take}
 use Rattle.laws.specs.Promise.{Given, Gives, overlaid}
+use Rattle.laws.proofs.Promise.{overlaid-front}
 use Rattle.tables.specs.declared.Table.{Table}
 use Rattle.board.specs.declared.Board.{Board}
-use Rattle.board.proofs.Sending.{front-back}
 use Rattle.restore.specs.Order.{dueSets}
-use Rattle.restore.specs.Calls.{bothAllowed, listRoom, unlisted, listedAs, listing}
+use Rattle.restore.specs.Calls.{bothAllowed, listRoom, listing}
 use Rattle.restore.specs.declared.Listed.{Listed}
 use Rattle.restore.proofs.Theorems.{list-is-short}
+use Rattle.restore.proofs.Rows.{list-made, list-stray}
 use Rattle.follow.specs.Calls.{starting}
 use Rattle.follow.specs.declared.Followed.{Followed}
 use Rattle.rehearsal.specs.Calls.{rehearsing, started, isReady, ended, unrehearsed, listFor, rehearsed}
 use Rattle.rehearsal.specs.declared.line.Turn.{Turn}
 
--- the list of two tables, where the room is enough
-module _ (from to : Table) where
-  list-made : bothAllowed from to ≡ true → listing from to listRoom ≡ listedAs (dueSets from to)
-  unfolding listing
-  list-made e = rw e
-
-  list-refused : bothAllowed from to ≡ false → listing from to listRoom ≡ unlisted 12
-  unfolding listing
-  list-refused e = rw e
+enough : listRoom ≤ listRoom
+enough = omega arith
 
 module _ (board : Board) (to : Table) (size : ℕ) where
   pub refused-unready : isReady board size ≡ false → unrehearsed board ≡ rehearsed board to size
@@ -52,7 +46,7 @@ module _ (board : Board) (to : Table) (size : ℕ) where
       where
         by : (t : Bool) → bothAllowed (board .core .table) to ≡ t → Made len
         by true e =
-            let made = list-made (board .core .table) to e in
+            let made = list-made (board .core .table) to listRoom enough e in
             let answer : Listed.List (length (listFor board to)) (length (dueSets (board .core .table) to)) ≡ Listed.List len sets =
             ap (λ (a : Given Listed). a .answer) (sym made) ∙ sym (g .answered) ∙ is in
             let count : length (listFor board to) ≡ len = cc in
@@ -61,11 +55,11 @@ module _ (board : Board) (to : Table) (size : ℕ) where
             record {
               tables = e;
               few = omega arith;
-              front-is = ap (take len) left ∙ ap (λ (n : ℕ). take n (overlaid (listFor board to) buffer)) (sym count) ∙ front-back (listFor board to) buffer;
+              front-is = ap (take len) left ∙ ap (λ (n : ℕ). take n (overlaid (listFor board to) buffer)) (sym count) ∙ overlaid-front (listFor board to) buffer;
             }
         by false e =
             let answer : Listed.Refused 12 ≡ Listed.List len sets =
-            ap (λ (a : Given Listed). a .answer) (sym (list-refused (board .core .table) to e)) ∙ sym (g .answered) ∙ is in
+            ap (λ (a : Given Listed). a .answer) (sym (list-stray (board .core .table) to listRoom enough e)) ∙ sym (g .answered) ∙ is in
             let z : _≡_ {A = ℕ} 0 1 = cc in absurd (omega arith)
 
     pub refused-tables : (n : ℕ) → r ≡ Listed.Refused n → unrehearsed board ≡ rehearsed board to size
@@ -75,7 +69,7 @@ module _ (board : Board) (to : Table) (size : ℕ) where
         by false e = refused-stray e
         by true e =
             let answer : Listed.List (length (listFor board to)) (length (dueSets (board .core .table) to)) ≡ Listed.Refused n =
-            ap (λ (a : Given Listed). a .answer) (sym (list-made (board .core .table) to e)) ∙ sym (g .answered) ∙ is in
+            ap (λ (a : Given Listed). a .answer) (sym (list-made (board .core .table) to listRoom enough e)) ∙ sym (g .answered) ∙ is in
             let z : _≡_ {A = ℕ} 0 1 = cc in absurd (omega arith)
 
     pub ended-is : isReady board size ≡ true → (len sets : ℕ) → r ≡ Listed.List len sets → {f : Followed} → f ≡ starting (board .core .table) to → {t : Turn}

@@ -8,6 +8,7 @@ use borrow.Author.Tests.{leb-true, lt-ltb, ltb-true}
 use lib.ListN.{length, take, drop, length-take, length-drop}
 use lib.Dec.{ltb}
 use Rattle.laws.specs.Promise.{Given, Gives, overlaid}
+use Rattle.laws.proofs.Promise.{overlaid-front}
 use Rattle.laws.proofs.Bools.{and-left, and-right}
 use Rattle.laws.proofs.Lists.{take-min}
 use Rattle.wire.specs.Reading.{Ended, good, refused}
@@ -23,7 +24,6 @@ use Rattle.board.specs.Parts.{boardAllowed}
 use Rattle.board.specs.Calls.{answering}
 use Rattle.board.specs.declared.Board.{Board}
 use Rattle.board.specs.declared.Answered.{Answered}
-use Rattle.board.proofs.Sending.{front-back}
 use Rattle.board.proofs.Replying.{bounded}
 use Rattle.listen.specs.Hearing.{boxHearing}
 use Rattle.listen.proofs.Hearing.{box-is, box-heard}
@@ -107,7 +107,7 @@ module _ (f : Followed) (reply : List ℕ) (held : Held) (out : held ≡ stream.
     listen-frame buffer {bytes} filled =
         let w : List ℕ = boxHearing (stream.heldOf outside) reply 35 .written in
         let same : bytes ≡ overlaid w buffer = filled ∙ rw own in
-        let front : take len bytes ≡ w = ap (take len) same ∙ ap (λ (n : ℕ). take n (overlaid w buffer)) (sym (size-is .0)) ∙ front-back w buffer in
+        let front : take len bytes ≡ w = ap (take len) same ∙ ap (λ (n : ℕ). take n (overlaid w buffer)) (sym (size-is .0)) ∙ overlaid-front w buffer in
         rw (event-is ∙ e, front)
 
 -- one turn, by the piece that it hands over
@@ -143,7 +143,7 @@ module _ (t : Turn) (list : List ℕ) (size n : ℕ) (n-is : n ≡ min size (len
         let piece : List ℕ = take n (drop (t .at) list) in
         let w : List ℕ = answering (t .board) piece 75 .written in
         let len : r .len ≡ length w = ap (λ (x : Answered). x .len) (g .answered) ∙ bounded (t .board) piece 75 .len-is in
-        let front : take (r .len) reply ≡ w = ap (take (r .len)) (g .left) ∙ ap (λ (m : ℕ). take m (overlaid w buffer)) len ∙ front-back w buffer in
+        let front : take (r .len) reply ≡ w = ap (take (r .len)) (g .left) ∙ ap (λ (m : ℕ). take m (overlaid w buffer)) len ∙ overlaid-front w buffer in
         let same = g .answered in
         let one : _≡_ {A = Turn} (record { board = r .board; followed = f; at = t .at + r .taken }) (after t piece) =
         λ i. record { board = same i .board; followed = (e ∙ ap (listening (t .followed)) front) i; at = t .at + same i .taken } in

@@ -1,20 +1,19 @@
 -- The frames of the list, one after another. Assumes nothing.
 use mathlib.Core.Path.{_≡_, refl, sym, ap, ap₂, _∙_}
-use mathlib.Core.Logic.{_≢_}
 use mathlib.Core.Bool.{Bool, true, false, false≢true}
 use mathlib.Core.List.{List, [], _∷_, _++_, map}
-use Prim.Native.Nat.{ℕ, zero, _+_, _*_, _-_, _^_, _≤_, _<_}
-use native.Mathlib.Nat.{zero-add, add-zero}
+use Prim.Native.Nat.{ℕ, _+_, _*_, _-_, _^_, _≤_, _<_}
+use native.Mathlib.Nat.{zero-add}
 use native.Mathlib.Omega.{arith}
 use borrow.Author.Tests.{ltb-true}
-use lib.ListN.{length, getD, take, drop, set, length-set, length-append, length-take, drop-of-length-le}
-use lib.Seq.{sets, length-sets, getD-take, take-append-seam}
+use lib.ListN.{length, getD, take, drop, length-append, length-take, drop-of-length-le}
+use lib.Seq.{sets, length-sets, getD-take}
 use lib.Dec.{ltb}
 use Rattle.laws.specs.Lists.{every}
 use Rattle.laws.specs.Promise.{overlaid, Given, Gives}
 use Rattle.laws.proofs.Bools.{and-left, and-right}
-use Rattle.laws.proofs.Lists.{every-at, drop-turn, sets-append, sets-turn, sets-end}
-use Rattle.laws.proofs.Promise.{overlaid-sets}
+use Rattle.laws.proofs.Lists.{every-at, drop-turn, sets-append}
+use Rattle.laws.proofs.Promise.{overlaid-sets, overlaid-front}
 use Rattle.wire.specs.Calls.{writtenAs}
 use Rattle.wire.specs.declared.Written.{Written}
 use Rattle.wire.proofs.Frames.{length-frame}
@@ -48,26 +47,6 @@ abbrev isFrame : Written → Bool
 isFrame (Written.Frame m) = true
 isFrame (Written.Refused m) = false
 
-front : (written buffer : List ℕ) → take (length written) (overlaid written buffer) ≡ written
-unfolding overlaid
-front written buffer = take-append-seam written (drop (length written) buffer)
-
--- some bytes stored from a place on
-pub record Storing (out₀ : List ℕ) (at : ℕ) (bytes out : List ℕ) (i : ℕ) : Type 0 where
-  pub long : length out ≡ length out₀
-  pub same : sets out (at + i) (drop i bytes) ≡ sets out₀ at bytes
-
-pub storing-start : (out : List ℕ) (at : ℕ) (bytes : List ℕ) → Storing out at bytes out 0
-storing-start out at bytes = record { long = refl; same = ap (λ (k : ℕ). sets out k bytes) (add-zero at) }
-
-pub storing-turn : {out₀ bytes out : List ℕ} {at i : ℕ} → i < length bytes → Storing out₀ at bytes out i → Storing out₀ at bytes (set out (at + i) (getD bytes i 0)) (i + 1)
-storing-turn {out₀} {bytes} {out} {at} {i} h w =
-    let next : at + (i + 1) ≡ (at + i) + 1 = omega arith in
-    record { long = length-set out (at + i) (getD bytes i 0) ∙ w .long; same = rw next (sets-turn bytes i h out (at + i)) ∙ w .same }
-
-pub storing-end : {out₀ bytes out : List ℕ} {at i : ℕ} → length bytes ≤ i → Storing out₀ at bytes out i → out ≡ sets out₀ at bytes
-storing-end {out₀} {bytes} {out} {at} {i} h w = sym (sets-end bytes i out (at + i) h) ∙ w .same
-
 -- what the request writer answers and leaves in a buffer with room
 pub record Requested (k n : ℕ) (l : List ℕ) (len : ℕ) : Type 0 where
   pub size : len ≡ length (setRequest k n)
@@ -84,7 +63,7 @@ request-written k n buffer l r len h fits room g e =
     let made : Written.Frame len ≡ Written.Frame (length (setRequest k n)) = sym e ∙ g .answered ∙ ap (λ (x : Given Written). x .answer) is in
     let size : len ≡ length (setRequest k n) = ap lenOf made in
     let stands : l ≡ overlaid (setRequest k n) buffer = g .left ∙ ap (λ (x : Given Written). overlaid (x .written) buffer) is in
-    let whole : take len l ≡ setRequest k n = ap₂ (λ (m : ℕ) (b : List ℕ). take m b) size stands ∙ front (setRequest k n) buffer in
+    let whole : take len l ≡ setRequest k n = ap₂ (λ (m : ℕ) (b : List ℕ). take m b) size stands ∙ overlaid-front (setRequest k n) buffer in
     record {
       size = size;
       few = rw size (request-short k n h);

@@ -16,16 +16,12 @@ use crate::order::Row;
 use tables::Table;
 use wire::Written;
 
-// Some bytes from a place on.
+// Writes some bytes from a place on.
 fn put_bytes(out: &mut [u8], at: usize, bytes: &[u8])
     requires { ⌜ at + length (now bytes) ≤ length (now out) ⌝ }
     ensures { λ r. ⌜ now (out .exit) ≡ sets (now (out .entry)) at (now (bytes .entry)) ⌝ }
 {
-    let mut i = 0;
-    while i < bytes.len() {
-        out[at + i] = bytes[i];
-        i += 1;
-    }
+    bytes::copy(bytes, &mut out[at..]);
 }
 
 // A Set at a place of the buffer, and the place after it. The frame writer wants room for the longest frame, which is not left after the

@@ -4,7 +4,7 @@ ghost use mathlib.Core.Path.{_≡_};
 ghost use mathlib.Core.Bool.{true};
 ghost use lib.ListN.{length};
 ghost use Rattle.wire.specs.Digits.{nibble};
-ghost use Rattle.settings.specs.Columns.{count, idAt};
+ghost use Rattle.settings.specs.Columns.{count};
 ghost use Rattle.settings.specs.Rules.{inRange};
 ghost use Rattle.rows.specs.Row.{lineLength, isRow, idIn, numberIn};
 ghost use Rattle.rows.specs.Calls.{judgedAs};
@@ -13,7 +13,6 @@ use crate::Judged;
 use crate::Row;
 use crate::TAB;
 use crate::decimals;
-use settings::Found;
 
 // An id has four digits and its number comes after the tab; the shortest number has one digit.
 const ID_LEN: usize = 4;
@@ -82,18 +81,6 @@ pub(crate) fn row_in(line: &[u8]) -> Row
     }
 }
 
-// The id of the setting at a place.
-fn id_at(index: usize) -> u16
-    requires { ⌜ index < count ⌝ }
-    ensures { λ r. ⌜ r ≡ idAt index ⌝ }
-{
-    let found = settings::at(index);
-    match found {
-        Found::At(setting) => setting.id,
-        Found::Nothing => 0,
-    }
-}
-
 // A number in the own range of the setting at a place.
 fn is_fit(index: usize, number: usize) -> bool
     requires { ⌜ index < count ⌝ }
@@ -110,7 +97,7 @@ pub(crate) fn judged(index: usize, id: u16, number: usize, len: usize) -> Judged
     requires { ⌜ index < count ⌝ }
     ensures { λ r. ⌜ r ≡ judgedAs index (Row.Is id number len) ⌝ }
 {
-    if id != id_at(index) {
+    if id != settings::setting_at(index).id {
         return Judged::Refused(paper::OTHER_ID);
     }
     if !is_fit(index, number) {

@@ -3,12 +3,10 @@ use mathlib.Core.Path.{_≡_}
 use mathlib.Core.Bool.{Bool}
 use Prim.Native.Nat.{ℕ}
 use Rattle.laws.proofs.Promise.{equal-same}
-use Rattle.settings.specs.declared.Number.{Number}
 use Rattle.tables.specs.declared.Table.{Table}
 use Rattle.tables.specs.declared.Change.{Change}
 use Rattle.tables.proofs.Table.factory.Reads as factory
 use Rattle.tables.proofs.Table.is_allowed.Reads as is-allowed
-use Rattle.tables.proofs.Table.number.Reads as number
 use Rattle.tables.proofs.Table.set.Reads as set
 
 pub factory-same : (r r′ : Table) → factory.Post tt tt r tt → factory.Post tt tt r′ tt → r ≡ r′
@@ -16,9 +14,6 @@ factory-same r r′ met met′ = equal-same met met′
 
 pub is-allowed-same : (t : Table) (r r′ : Bool) → is-allowed.Post tt (t, tt) r (t, tt) → is-allowed.Post tt (t, tt) r′ (t, tt) → r ≡ r′
 is-allowed-same t r r′ met met′ = equal-same met met′
-
-pub number-same : (t : Table) (index : ℕ) (r r′ : Number) → number.Post tt (t, (index, tt)) r (t, (index, tt)) → number.Post tt (t, (index, tt)) r′ (t, (index, tt)) → r ≡ r′
-number-same t index r r′ met met′ = equal-same met met′
 
 pub set-same : (t : Table) (index n : ℕ) (r r′ : Change) → set.Post tt (t, (index, (n, tt))) r (t, (index, (n, tt)))
     → set.Post tt (t, (index, (n, tt))) r′ (t, (index, (n, tt))) → r ≡ r′

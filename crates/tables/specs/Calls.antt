@@ -5,15 +5,10 @@ use lib.Dec.{ltb}
 use Rattle.settings.specs.Columns.{count}
 use Rattle.settings.specs.Rules.{allowedFor, nearestOf}
 use Rattle.paper.specs.Numbers.{notAllowed, numberNotAllowed}
-use Rattle.settings.specs.declared.Number.{Number}
-use Rattle.tables.specs.Rules.{allowed, numberAt, partnerNumber, changed}
+use Rattle.tables.specs.Rules.{allowed, partnerNumber, changed}
 use Rattle.tables.specs.declared.Table.{Table}
 use Rattle.tables.specs.declared.Answer.{Answer}
 use Rattle.tables.specs.declared.Change.{Change}
-
--- a setting's number; 12 for a table that is not allowed or a place past it
-unfoldable pub holding : Table → ℕ → Number
-holding t k = cond (allowed t && ltb k count) (Number.Is (numberAt t k)) (Number.Refused notAllowed)
 
 -- A Set of one setting: 12 for a table that is not allowed or a place past it, 10 with the nearest allowed number for a number that is
 -- not allowed, and the table then as it was.

@@ -6,7 +6,7 @@ ghost use Rattle.settings.specs.Rules.{nearestOf};
 ghost use Rattle.settings.specs.Calls.{placing, partnerFits};
 ghost use Rattle.settings.specs.declared.Found.{Found};
 ghost use Rattle.tables.specs.Rules.{factory, allowed};
-ghost use Rattle.tables.specs.Calls.{holding, setTo};
+ghost use Rattle.tables.specs.Calls.{setTo};
 ghost use Rattle.tables.specs.declared.Answer.{Answer};
 use settings::COUNT;
 use settings::Found;
@@ -46,20 +46,6 @@ impl Table {
     {
         let numbers = self.numbers;
         settings::all_allowed(numbers)
-    }
-
-    // The number of the setting at a place; 12 for a table that is not allowed or a place past it.
-    pub fn number(self, index: usize) -> Number
-        ensures { λ r. ⌜ r ≡ holding self index ⌝ }
-    {
-        if !self.is_allowed() {
-            return Number::Refused(paper::NOT_ALLOWED);
-        }
-        if COUNT <= index {
-            return Number::Refused(paper::NOT_ALLOWED);
-        }
-        let numbers = self.numbers;
-        Number::Is(numbers[index])
     }
 
     // A Set of one setting: accepted with the new table, or refused 10 with the nearest allowed number; 12 for a table that is not

@@ -27,9 +27,9 @@ const BAR: u8 = b'|';
 const BYTES: u8 = b'b';
 
 // How many calls there are.
-const COUNT: usize = 23;
+const COUNT: usize = 22;
 
-const SIZE: usize = 236;
+const SIZE: usize = 225;
 
 const READ: usize = 0;
 
@@ -59,29 +59,27 @@ const SHOW: usize = 12;
 
 const NEAREST: usize = 13;
 
-const NUMBER: usize = 14;
+const CHANGE: usize = 14;
 
-const CHANGE: usize = 15;
+const TEXT: usize = 15;
 
-const TEXT: usize = 16;
+const PARSE: usize = 16;
 
-const PARSE: usize = 17;
+const LIST: usize = 17;
 
-const LIST: usize = 18;
+const DUE: usize = 18;
 
-const DUE: usize = 19;
+const FOLLOW: usize = 19;
 
-const FOLLOW: usize = 20;
+const COLLECT: usize = 20;
 
-const COLLECT: usize = 21;
-
-const GATHER: usize = 22;
+const GATHER: usize = 21;
 
 // The calls, numbered from 0, each ended by a bar: its name, and the kinds of its words, the name's among them.
 fn table() -> [u8; SIZE]
-    ensures { λ r. ⌜ 236 ≡ length r ⌝ }
+    ensures { λ r. ⌜ 225 ≡ length r ⌝ }
 {
-    *b"read cnb|write cnnb|get cni|set cnnn|hear cnB|hold cnbnB|listen cnnnA|board cnP|serial cnbB|start ciibS|store cS|reply cnb|show cib|nearest cinn|number cnS|change cnnS|text cnS|parse cL|list cnS|due cnS|follow cF|collect ciC|gather cnC|"
+    *b"read cnb|write cnnb|get cni|set cnnn|hear cnB|hold cnbnB|listen cnnnA|board cnP|serial cnbB|start ciibS|store cS|reply cnb|show cib|nearest cinn|change cnnS|text cnS|parse cL|list cnS|due cnS|follow cF|collect ciC|gather cnC|"
 }
 
 // Whether a call has this name.
@@ -154,7 +152,6 @@ fn asks_board(call: usize, row: &[u8], given: &[u8]) {
         REPLY => replies::reply(row, given),
         SHOW => replies::show(row, given),
         NEAREST => sets::nearest(row),
-        NUMBER => sets::number(row),
         CHANGE => sets::change(row),
         _ => asks_box(call, row),
     }

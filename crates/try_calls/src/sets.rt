@@ -1,4 +1,4 @@
-// Settings: the nearest number, a number of a table, and a Set of a table.
+// Settings: the nearest number, and a Set of a table.
 use crate::args;
 use crate::filled;
 use crate::numbers;
@@ -11,21 +11,11 @@ use tables::Answer;
 pub fn nearest(row: &[u8]) {
     let wished = numbers::as_16(args::number(row, 2));
     let partner = numbers::as_16(args::number(row, 3));
-    told(settings::nearest(args::id(row, 1), wished, partner));
-}
-
-// A number, or a refusal.
-fn told(it: Number) {
-    match it {
+    let answer = settings::nearest(args::id(row, 1), wished, partner);
+    match answer {
         Number::Is(n) => say::number(n as usize),
         Number::Refused(number) => say::refused(number),
     }
-}
-
-// `number PLACE SETTING ..`: the number at a place of a table.
-pub fn number(row: &[u8]) {
-    let table = filled::table_of(row, false);
-    told(table.number(args::number(row, 1)));
 }
 
 // `change PLACE NUMBER SETTING ..`: a Set of a table, and what is not the factory's in the table after it.

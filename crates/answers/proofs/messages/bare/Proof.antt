@@ -1,29 +1,19 @@
 -- `answers::messages::bare` meets its contract. Assumes nothing.
-use mathlib.Core.Path.{refl}
 use borrow.Author.Needs.{needs}
-use Rattle.laws.specs.Promise.{overlaid}
-use Rattle.answers.specs.AsHeld.{messageOf, noData}
+use Rattle.laws.specs.Promise.{overlaid, frontOf}
+use Rattle.answers.specs.AsHeld.{messageOf}
 use Rattle.answers.proofs.messages.bare.Statement.{statement}
 use Rattle.answers.proofs.messages.bare.Tie as tie
 
-cast-bytes : tie.Need-cast-bytes
-cast-bytes c = search needs
+number-requires : tie.Need-number-requires
+number-requires c κs = tt
 
 array-write-bytes : tie.Need-array-write-bytes
 array-write-bytes c = search needs
 
-cast-bytes-2 : tie.Need-cast-bytes-2
-cast-bytes-2 c = search needs
-
-array-write-bytes-2 : tie.Need-array-write-bytes-2
-array-write-bytes-2 c = search needs
-
-array-write-bytes-3 : tie.Need-array-write-bytes-3
-array-write-bytes-3 c = search needs
-
 returns : tie.Need-returns
-unfolding messageOf overlaid noData
-returns c = refl
+unfolding messageOf frontOf overlaid
+returns c = rw (c .before .number .ensures)
 
 pub bare-spec : {M : Type 1} → statement M
-bare-spec = tie.close (tie.spec cast-bytes array-write-bytes cast-bytes-2 array-write-bytes-2 array-write-bytes-3 returns)
+bare-spec = tie.close (tie.spec number-requires array-write-bytes returns)

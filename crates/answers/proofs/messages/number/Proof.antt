@@ -1,8 +1,8 @@
 -- `answers::messages::number` meets its contract. Assumes nothing.
 use mathlib.Core.Path.{refl}
 use borrow.Author.Needs.{needs}
-use Rattle.laws.specs.Promise.{overlaid}
-use Rattle.answers.specs.AsHeld.{messageOf, noData}
+use Rattle.laws.specs.Promise.{overlaid, frontOf}
+use Rattle.answers.specs.AsHeld.{messageOf}
 use Rattle.answers.proofs.messages.number.Statement.{statement}
 use Rattle.answers.proofs.messages.number.Tie as tie
 
@@ -19,7 +19,7 @@ array-write-bytes-2 : tie.Need-array-write-bytes-2
 array-write-bytes-2 c = search needs
 
 returns : tie.Need-returns
-unfolding messageOf overlaid noData
+unfolding messageOf frontOf overlaid
 returns c = refl
 
 pub number-spec : {M : Type 1} → statement M

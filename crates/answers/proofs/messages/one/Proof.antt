@@ -1,8 +1,8 @@
 -- `answers::messages::one` meets its contract. Assumes nothing.
 use mathlib.Core.Path.{refl}
 use borrow.Author.Needs.{needs}
-use Rattle.laws.specs.Promise.{overlaid}
-use Rattle.answers.specs.AsHeld.{messageOf, noData}
+use Rattle.laws.specs.Promise.{overlaid, frontOf}
+use Rattle.answers.specs.AsHeld.{messageOf}
 use Rattle.answers.proofs.messages.one.Statement.{statement}
 use Rattle.answers.proofs.messages.one.Tie as tie
 
@@ -10,7 +10,7 @@ array-write-bytes : tie.Need-array-write-bytes
 array-write-bytes c = search needs
 
 returns : tie.Need-returns
-unfolding messageOf overlaid noData
+unfolding messageOf frontOf overlaid
 returns c = refl
 
 pub one-spec : {M : Type 1} → statement M

@@ -1,8 +1,6 @@
 -- `answers::sets::answer` meets its contract. Assumes nothing.
 use mathlib.Core.Path.{refl, ap, sym, _∙_}
-use native.Mathlib.Omega.{arith}
 use borrow.Author.Needs.{needs}
-use lib.ListN.{length-take}
 use Rattle.laws.proofs.Lists.{part-to-end}
 use Rattle.answers.specs.AsHeld.{decidedOf}
 use Rattle.answers.proofs.Found.{found-settled}
@@ -25,11 +23,8 @@ malformed-requires-2 c κs = tt
 returns-2 : tie.Need-returns-2
 returns-2 c = c .malformed2 .ensures ∙ ap decidedOf (sets-flagged _ _ (c .before .before .before .if1 .left) (c .before .if2 .taken))
 
-slice-aggregate-number-of : tie.Need-slice-aggregate-number-of
-slice-aggregate-number-of c = rw length-take (omega (arith, c .before .before .before .if1 .left))
-
-number-of-requires : tie.Need-number-of-requires
-number-of-requires c κs = rw length-take (omega (arith, c .before .before .before .if1 .left), omega arith)
+read-16-requires : tie.Need-read-16-requires
+read-16-requires c κs = tt
 
 find-requires : tie.Need-find-requires
 find-requires c κs = tt
@@ -53,21 +48,21 @@ enum-told : tie.Need-enum-told
 enum-told c = search needs
 
 set-other-requires : tie.Need-set-other-requires
-set-other-requires c κs = c .before .before .before .before .before .before .before .before .before .pre
+set-other-requires c κs = c .before .before .before .before .before .before .before .before .pre
 
 returns-3 : tie.Need-returns-3
 returns-3 c =
     let c5 = c .before .before .before .before .before in
-    let c8 = c5 .before .before .before in
+    let c7 = c5 .before .before in
     let found = sym (c5 .find .ensures) ∙ c .before .before .before .found .given .1 in
-    c .set-setting .ensures ∙ rw (part-to-end _ _ 3 refl) (ap decidedOf (sets-is _ _ (c8 .before .before .if1 .left) (c8 .if2 .left) (c5 .before .number-of .ensures) found))
+    c .set-setting .ensures ∙ rw (part-to-end _ _ 3 refl) (ap decidedOf (sets-is _ _ (c7 .before .before .if1 .left) (c7 .if2 .left) (c5 .before .read-16 .ensures) found))
 
 returns-4 : tie.Need-returns-4
 returns-4 c =
     let c3 = c .before .before .before in
-    let c6 = c3 .before .before .before in
+    let c5 = c3 .before .before in
     let found = sym (c3 .find .ensures) ∙ c .before .enum-told .given .1 in
-    c .set-other .ensures ∙ ap decidedOf (sets-is _ _ (c6 .before .before .if1 .left) (c6 .if2 .left) (c3 .before .number-of .ensures) found)
+    c .set-other .ensures ∙ ap decidedOf (sets-is _ _ (c5 .before .before .if1 .left) (c5 .if2 .left) (c3 .before .read-16 .ensures) found)
 
 pub answer-spec : {M : Type 1} → statement M
 answer-spec =
@@ -78,8 +73,7 @@ answer-spec =
     shared-slice-read-if2
     malformed-requires-2
     returns-2
-    slice-aggregate-number-of
-    number-of-requires
+    read-16-requires
     find-requires
     enum-known-found
     sub-set-setting

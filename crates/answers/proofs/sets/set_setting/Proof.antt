@@ -1,9 +1,12 @@
 -- `answers::sets::set_setting` meets its contract. Assumes nothing.
 use mathlib.Core.Path.{ap, _∙_}
+use Prim.Native.Nat.{_≤_}
 use native.Mathlib.Omega.{arith}
+use denote.Ref.{now}
+use lib.ListN.{length}
 use Rattle.answers.specs.AsHeld.{decidedOf}
 use Rattle.answers.proofs.Deciding.{says-is, value-short, sets-wrong, sets-right}
-use Rattle.endian.proofs.Little.{length-little}
+use Rattle.endian.proofs.Little.{length-little, all-first}
 use Rattle.answers.proofs.sets.set_setting.Statement.{statement}
 use Rattle.answers.proofs.sets.set_setting.Tie as tie
 
@@ -16,10 +19,8 @@ says-requires c κs = rw (c .now-held .ensures) (value-short _ (rw (length-littl
 returns : tie.Need-returns
 returns c = c .says .ensures ∙ rw (c .before .now-held .ensures) (says-is _ _ _ _ _ _) ∙ ap decidedOf (sets-wrong _ _ _ (c .before .before .if1 .taken))
 
-number-of-requires : tie.Need-number-of-requires
-number-of-requires c κs = let start = c .before .before .before in
-    let is = c .if1 .left in
-    rw is (start .pre .wide, start .pre .narrow)
+read-16-requires : tie.Need-read-16-requires
+read-16-requires c κs = tt
 
 set-requires : tie.Need-set-requires
 set-requires c κs = tt
@@ -30,7 +31,11 @@ stored-requires c κs = c .before .before .before .before .before .before .befor
 returns-2 : tie.Need-returns-2
 returns-2 c =
     let c4 = c .before .before .before .before in
-    c .stored .ensures ∙ ap decidedOf (sets-right _ _ _ (c4 .before .if1 .left) (c4 .number-of .ensures) (c .before .before .set .ensures))
+    let s = c4 .before .before .before .before in
+    let same = c4 .before .if1 .left in
+    let few : length (now (s .args .value)) ≤ 2 = rw same (s .pre .narrow) in
+    let number = c4 .read-16 .ensures ∙ all-first 2 (now (s .args .value)) few in
+    c .stored .ensures ∙ ap decidedOf (sets-right _ _ _ same number (c .before .before .set .ensures))
 
 pub set-setting-spec : {M : Type 1} → statement M
 set-setting-spec =
@@ -39,7 +44,7 @@ set-setting-spec =
     now-held-requires
     says-requires
     returns
-    number-of-requires
+    read-16-requires
     set-requires
     stored-requires
     returns-2)

@@ -5,6 +5,7 @@ use native.Mathlib.Omega.{arith}
 use borrow.Author.Needs.{needs}
 use lib.ListN.{length}
 use denote.Ref.{now}
+use Rattle.settings.specs.declared.Setting.{Setting}
 use Rattle.rows.specs.Row.{rowOf}
 use Rattle.rows.proofs.Theorems.{row-is-short}
 use Rattle.backup.proofs.Listing.{row-answered, row-stored}
@@ -17,8 +18,8 @@ small s = search needs
 short : (s : tie.Start) → length (now (s .args .out)) < 0x8000000000000000
 short s = search needs
 
-id-at-requires : tie.Need-id-at-requires
-id-at-requires c κs = search needs
+setting-at-requires : tie.Need-setting-at-requires
+setting-at-requires c κs = tt
 
 sub-write : tie.Need-sub-write
 sub-write c = search needs
@@ -36,18 +37,18 @@ enum-known-written : tie.Need-enum-known-written
 enum-known-written c = search needs
 
 -- the length that is answered is the row's
-len-is : (c : tie.After-known-told) → c .before .written .given .0 .0 ≡ length (rowOf (c .before .before .before .before .before .before .before .id-at .result) (c .before .before .before .before .before .before .before .before .before .args .n))
+len-is : (c : tie.After-known-told) → c .before .written .given .0 .0 ≡ length (rowOf (c .before .before .before .before .before .before .before .setting-at .result .id) (c .before .before .before .before .before .before .before .before .before .args .n))
 len-is c =
     let c5 = c .before .before .before .before .before in
     let s = c5 .before .before .before .before in
-    let r = row-answered (now (s .args .out)) (s .args .at) (c5 .before .before .id-at .result) (s .args .n) (s .pre .0) (small s) (c5 .write .ensures) in
+    let r = row-answered (now (s .args .out)) (s .args .at) (c5 .before .before .setting-at .result .id) (s .args .n) (s .pre .0) (small s) (c5 .write .ensures) in
     let g = c .before .written .given .1 in
     cc
 
 add-result : tie.Need-add-result
 add-result c =
     let s = c .before .before .before .before .before .before .before .before .before in
-    record { fits = omega (arith, len-is c, row-is-short (c .before .before .before .before .before .before .before .id-at .result) (s .args .n) (omega (arith, small s)), s .pre .0, short s) }
+    record { fits = omega (arith, len-is c, row-is-short (c .before .before .before .before .before .before .before .setting-at .result .id) (s .args .n) (omega (arith, small s)), s .pre .0, short s) }
 
 enum-told : tie.Need-enum-told
 enum-told c = search needs
@@ -59,8 +60,8 @@ returns : tie.Need-returns
 returns c =
     let c5 = c .before .before .before .before .before in
     let s = c5 .before .before .before .before in
-    let id = c5 .before .before .id-at .result in
-    rw (sym (c5 .before .before .id-at .ensures)) (
+    let id = c5 .before .before .setting-at .result .id in
+    rw (sym (ap (λ (d : Setting). d .id) (c5 .before .before .setting-at .ensures))) (
       ap (λ (m : ℕ). s .args .at + m) (len-is c),
       row-stored (now (s .args .out)) (s .args .at) id (s .args .n) (s .pre .0) (small s) (c5 .write .ensures),
       omega (arith, len-is c, row-is-short id (s .args .n) (omega (arith, small s))),
@@ -73,7 +74,7 @@ returns-2 : tie.Need-returns-2
 returns-2 c =
     let c4 = c .before .before .before .before in
     let s = c4 .before .before .before .before in
-    let r = row-answered (now (s .args .out)) (s .args .at) (c4 .before .before .id-at .result) (s .args .n) (s .pre .0) (small s) (c4 .write .ensures) in
+    let r = row-answered (now (s .args .out)) (s .args .at) (c4 .before .before .setting-at .result .id) (s .args .n) (s .pre .0) (small s) (c4 .write .ensures) in
     let g = c .enum-told .given .1 in
     let z : _≡_ {A = ℕ} 0 1 = cc in absurd (omega arith)
 
@@ -81,5 +82,5 @@ pub put-line-spec : {M : Type 1} → statement M
 put-line-spec =
     tie.close
     (tie.spec
-    id-at-requires sub-write part-write-start part-write-end write-requires enum-known-written add-result enum-told same-length returns same-length-2
+    setting-at-requires sub-write part-write-start part-write-end write-requires enum-known-written add-result enum-told same-length returns same-length-2
     returns-2)

@@ -1,61 +1,29 @@
 -- `restore::writer::put_bytes` meets its contract. Assumes nothing.
-use Prim.Native.Nat.{_-_, _<_}
 use denote.Ref.{now}
-use lib.ListN.{length}
-use Rattle.restore.proofs.Writing.{Storing, storing-start, storing-turn, storing-end}
+use Rattle.laws.proofs.Promise.{copied-at}
 use borrow.Author.Needs.{needs}
-use native.Mathlib.Omega.{arith}
 use Rattle.restore.proofs.writer.put_bytes.Statement.{statement}
 use Rattle.restore.proofs.writer.put_bytes.Tie as tie
 
-abbrev Inv-loop : tie.InvT-loop
-Inv-loop out₀ at bytes i₀ out i = Storing out₀ at bytes out i
+sub-copy : tie.Need-sub-copy
+sub-copy c = search needs
 
-abbrev μ-loop : tie.MeasureT-loop
-μ-loop out₀ at bytes i₀ out i = length bytes - i
+part-copy-start : tie.Need-part-copy-start
+part-copy-start c = search needs
 
-short : (s : tie.Start Inv-loop μ-loop) → length (now (s .args .out)) < 0x8000000000000000
-short s = search needs
+part-copy-end : tie.Need-part-copy-end
+part-copy-end c = search needs
 
-loop-holds : tie.Need-loop-holds Inv-loop μ-loop
-loop-holds c = storing-start _ _ _
+copy-requires : tie.Need-copy-requires
+copy-requires c κs = search needs
 
-shared-slice-read-out : tie.Need-shared-slice-read-out Inv-loop μ-loop
-shared-slice-read-out c = search needs
+same-length : tie.Need-same-length
+same-length c = search needs
 
-add-out : tie.Need-add-out Inv-loop μ-loop
-add-out c = record { fits = omega (arith, c .before .before .before .pre, short (c .before .before .before)) }
-
-slice-write-out : tie.Need-slice-write-out Inv-loop μ-loop
-slice-write-out c = omega (arith, c .before .before .before .pre, c .before .before .loop .inv .long)
-
-add-i : tie.Need-add-i Inv-loop μ-loop
-add-i c = search needs
-
-loop-less : tie.Need-loop-less Inv-loop μ-loop
-loop-less c = omega arith
-
-loop-again : tie.Need-loop-again Inv-loop μ-loop
-loop-again c = storing-turn (c .before .loop-test .taken) (c .before .before .loop .inv)
-
-same-length : tie.Need-same-length Inv-loop μ-loop
-same-length c = c .before .loop .inv .long
-
-returns : tie.Need-returns Inv-loop μ-loop
-returns c = storing-end (c .loop-test .left) (c .before .loop .inv)
+returns : tie.Need-returns
+returns c =
+    let s = c .before .before .before .before .before .before in
+    copied-at (now (s .args .bytes)) (now (s .args .out)) (s .args .at) (s .pre) (c .before .before .copy .ensures .1)
 
 pub put-bytes-spec : {M : Type 1} → statement M
-put-bytes-spec =
-    tie.close
-    (tie.spec
-    Inv-loop
-    μ-loop
-    loop-holds
-    shared-slice-read-out
-    add-out
-    slice-write-out
-    add-i
-    loop-less
-    loop-again
-    same-length
-    returns)
+put-bytes-spec = tie.close (tie.spec sub-copy part-copy-start part-copy-end copy-requires same-length returns)

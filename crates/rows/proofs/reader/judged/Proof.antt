@@ -1,21 +1,22 @@
 -- `rows::reader::judged` meets its contract. Assumes nothing.
 use mathlib.Core.Bool.{true}
-use mathlib.Core.Path.{_≡_, sym, _∙_}
+use mathlib.Core.Path.{_≡_, sym, ap, _∙_}
 use native.Mathlib.Omega.{arith}
 use borrow.Author.Needs.{needs}
 use borrow.Author.Tests.{eq-eqb, ne-eqb, not-true, not-false}
+use Rattle.settings.specs.declared.Setting.{Setting}
 use Rattle.settings.specs.Rules.{inRange}
 use Rattle.rows.specs.Calls.{judgedAs}
 use Rattle.rows.proofs.Ranges.{range-wide}
 use Rattle.rows.proofs.reader.judged.Statement.{statement}
 use Rattle.rows.proofs.reader.judged.Tie as tie
 
-id-at-requires : tie.Need-id-at-requires
-id-at-requires c κs = search needs
+setting-at-requires : tie.Need-setting-at-requires
+setting-at-requires c κs = tt
 
 returns : tie.Need-returns
 unfolding judgedAs
-returns c = rw (ne-eqb _ _ (λ e. c .if1 .taken (e ∙ sym (c .before .id-at .ensures))))
+returns c = rw (ne-eqb _ _ (λ e. c .if1 .taken (e ∙ sym (ap (λ (d : Setting). d .id) (c .before .before .setting-at .ensures)))))
 
 is-fit-requires : tie.Need-is-fit-requires
 is-fit-requires c κs = search needs
@@ -24,20 +25,20 @@ returns-2 : tie.Need-returns-2
 unfolding judgedAs
 returns-2 c =
     let c2 = c .before .before in
-    rw (eq-eqb _ _ (c2 .if1 .left ∙ c2 .before .id-at .ensures), sym (c .before .is-fit .ensures) ∙ not-true _ (c .if2 .taken))
+    rw (eq-eqb _ _ (c2 .if1 .left ∙ ap (λ (d : Setting). d .id) (c2 .before .before .setting-at .ensures)), sym (c .before .is-fit .ensures) ∙ not-true _ (c .if2 .taken))
 
-fits : (c : tie.Else2) → inRange (c .before .before .before .before .args .index) (c .before .before .before .before .args .number) ≡ true
+fits : (c : tie.Else2) → inRange (c .before .before .before .before .before .args .index) (c .before .before .before .before .before .args .number) ≡ true
 fits c = sym (c .before .is-fit .ensures) ∙ not-false _ (c .if2 .left)
 
-cast-t5 : tie.Need-cast-t5
-cast-t5 c = record { fits = omega (arith, range-wide _ _ (c .before .before .before .before .pre) (fits c)) }
+cast-t8 : tie.Need-cast-t8
+cast-t8 c = record { fits = omega (arith, range-wide _ _ (c .before .before .before .before .before .pre) (fits c)) }
 
 returns-3 : tie.Need-returns-3
 unfolding judgedAs
 returns-3 c =
     let c2 = c .before .before in
-    rw (eq-eqb _ _ (c2 .if1 .left ∙ c2 .before .id-at .ensures), fits c)
+    rw (eq-eqb _ _ (c2 .if1 .left ∙ ap (λ (d : Setting). d .id) (c2 .before .before .setting-at .ensures)), fits c)
 
 pub judged-spec : {M : Type 1} → statement M
 judged-spec =
-    tie.close (tie.spec id-at-requires returns is-fit-requires returns-2 cast-t5 returns-3)
+    tie.close (tie.spec setting-at-requires returns is-fit-requires returns-2 cast-t8 returns-3)
