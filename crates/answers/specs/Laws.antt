@@ -51,18 +51,18 @@ MakesKeepsAllowed =
 abbrev pub GetAnswersHeld : Type 0
 GetAnswersHeld =
     (core : Core) (k : ℕ) → k < count
-    → frameAnswer core getCode (said (idAt k) paper.goodFlag []) ≡ staying core Outcome.Answered (sent getCode (said (idAt k) paper.goodFlag (little (widthAt k) (numberAt (core .table) k))))
+    → frameAnswer core getCode (said (idAt k) paper.noFlags []) ≡ staying core Outcome.Answered (sent getCode (said (idAt k) paper.goodFlag (little (widthAt k) (numberAt (core .table) k))))
 
 -- 5. A good Set answers what it stored and stores what it answered, that setting alone; one that is not allowed stores nothing, and answers
 -- flag 04 and the nearest allowed number.
 abbrev pub SetStoresIt : Type 0
 SetStoresIt =
     (core : Core) (k n : ℕ) → allowed (core .table) ≡ true → k < count → allowedFor k n (partnerNumber (core .table) k) ≡ true
-    → frameAnswer core setCode (said (idAt k) paper.goodFlag (little (widthAt k) n)) ≡ staying (withTable core (changed (core .table) k n)) Outcome.Answered (sent setCode (said (idAt k) paper.goodFlag (little (widthAt k) n)))
+    → frameAnswer core setCode (said (idAt k) paper.noFlags (little (widthAt k) n)) ≡ staying (withTable core (changed (core .table) k n)) Outcome.Answered (sent setCode (said (idAt k) paper.goodFlag (little (widthAt k) n)))
 
 abbrev pub SetRefusedNamesNearest : Type 0
 SetRefusedNamesNearest =
     (core : Core) (k n : ℕ) → allowed (core .table) ≡ true → k < count → n < 256 ^ widthAt k
     → allowedFor k n (partnerNumber (core .table) k) ≡ false
     → (m : ℕ) × Nearest k n (partnerNumber (core .table) k) m
-    × (frameAnswer core setCode (said (idAt k) paper.goodFlag (little (widthAt k) n)) ≡ staying core (Outcome.Refused paper.numberNotAllowed) (sent setCode (said (idAt k) paper.parameterFlag (little (widthAt k) m))))
+    × (frameAnswer core setCode (said (idAt k) paper.noFlags (little (widthAt k) n)) ≡ staying core (Outcome.Refused paper.numberNotAllowed) (sent setCode (said (idAt k) paper.parameterFlag (little (widthAt k) m))))

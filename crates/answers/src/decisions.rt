@@ -73,7 +73,7 @@ fn unknown_command(core: Core, command: u8) -> Decided
     sends(
         core,
         Outcome::Refused(paper::UNKNOWN_COMMAND),
-        messages::one(paper::UNKNOWN, command),
+        messages::one(paper::UNKNOWN_CODE, command),
     )
 }
 
@@ -84,7 +84,7 @@ pub(crate) fn unknown_id(core: Core, command: u8, id: u16) -> Decided
     sends(
         core,
         Outcome::Refused(paper::UNKNOWN_ID),
-        messages::bare(command, id, paper::FLAG_UNKNOWN_ID),
+        messages::bare(command, id, paper::UNKNOWN_FLAG),
     )
 }
 
@@ -117,13 +117,13 @@ pub(crate) fn frame_answer(core: Core, command: u8, bytes: &[u8]) -> Decided
     let version = core.identity.version;
     let product = core.identity.product;
     match command {
-        paper::PING => tells(core, paper::PONG, version, bytes),
-        paper::APP_VERSION => tells(core, paper::DONE, version, bytes),
-        paper::PRODUCT_ID => tells(core, paper::DONE, product, bytes),
-        paper::RESTART => restarts(core, bytes),
-        paper::GET => gets::answer(core, bytes),
-        paper::SET => sets::answer(core, bytes),
-        paper::ASYNC => silent(core, Outcome::Ignored),
+        paper::PING_CODE => tells(core, paper::PONG_CODE, version, bytes),
+        paper::VERSION_CODE => tells(core, paper::DONE_CODE, version, bytes),
+        paper::PRODUCT_CODE => tells(core, paper::DONE_CODE, product, bytes),
+        paper::RESTART_CODE => restarts(core, bytes),
+        paper::GET_CODE => gets::answer(core, bytes),
+        paper::SET_CODE => sets::answer(core, bytes),
+        paper::ASYNC_CODE => silent(core, Outcome::Ignored),
         _ => unknown_command(core, command),
     }
 }

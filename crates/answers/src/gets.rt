@@ -35,9 +35,9 @@ fn get_setting(core: Core, setting: Setting) -> Decided
     decisions::says(
         core,
         Outcome::Answered,
-        paper::GET,
+        paper::GET_CODE,
         setting.id,
-        paper::GOOD,
+        paper::GOOD_FLAG,
         now_held(core, setting),
     )
 }
@@ -54,12 +54,12 @@ fn get_other(core: Core, id: u16) -> Decided
         Verdict::Accepted => decisions::says(
             core,
             Outcome::Answered,
-            paper::GET,
+            paper::GET_CODE,
             id,
-            paper::GOOD,
+            paper::GOOD_FLAG,
             value,
         ),
-        Verdict::Refused(_) => decisions::unknown_id(core, paper::GET, id),
+        Verdict::Refused(_) => decisions::unknown_id(core, paper::GET_CODE, id),
     }
 }
 

@@ -25,9 +25,9 @@ fn stored(core: Core, setting: Setting, number: u16, answer: Answer) -> Decided
         Answer::Accepted => decisions::says(
             core,
             Outcome::Answered,
-            paper::SET,
+            paper::SET_CODE,
             setting.id,
-            paper::GOOD,
+            paper::GOOD_FLAG,
             values::wide(setting.width, number),
         ),
         Answer::Refused {
@@ -36,9 +36,9 @@ fn stored(core: Core, setting: Setting, number: u16, answer: Answer) -> Decided
         } => decisions::says(
             core,
             Outcome::Refused(refusal),
-            paper::SET,
+            paper::SET_CODE,
             setting.id,
-            paper::FLAG_PARAMETER,
+            paper::PARAMETER_FLAG,
             values::wide(setting.width, nearest),
         ),
     }
@@ -53,9 +53,9 @@ fn set_setting(mut core: Core, setting: Setting, value: &[u8]) -> Decided
         return decisions::says(
             core,
             Outcome::Refused(paper::WRONG_WIDTH),
-            paper::SET,
+            paper::SET_CODE,
             setting.id,
-            paper::FLAG_PARAMETER,
+            paper::PARAMETER_FLAG,
             gets::now_held(core, setting),
         );
     }
@@ -78,10 +78,10 @@ fn set_other(core: Core, id: u16) -> Decided
     match verdict {
         Verdict::Accepted => decisions::sends(
             core,
-            Outcome::Refused(paper::READ_ONLY),
-            messages::bare(paper::SET, id, paper::FLAG_NOT_SUPPORTED),
+            Outcome::Refused(paper::READ_ONLY_ID),
+            messages::bare(paper::SET_CODE, id, paper::SUPPORT_FLAG),
         ),
-        Verdict::Refused(_) => decisions::unknown_id(core, paper::SET, id),
+        Verdict::Refused(_) => decisions::unknown_id(core, paper::SET_CODE, id),
     }
 }
 

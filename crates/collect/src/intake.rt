@@ -38,7 +38,7 @@ pub(crate) fn of_frame(numbers: [u16; COUNT], index: usize, command: u8, bytes: 
     ensures { λ r. ⌜ r ≡ spec.intakeOf numbers index (heard command (now (bytes .entry))) ⌝ }
 {
     let setting = settings::setting_at(index);
-    let heeded = reply::heed(paper::GET, setting.id, command, bytes);
+    let heeded = reply::heed(paper::GET_CODE, setting.id, command, bytes);
     match heeded {
         Heeded::Waits => Intake::Waits,
         Heeded::Good => of_value(numbers, index, bytes),

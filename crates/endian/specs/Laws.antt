@@ -16,6 +16,6 @@ LittleIsRead = (width n : ℕ) → n < 256 ^ width → fromLittle (little width 
 abbrev pub ReadIsLittle : Type 0
 ReadIsLittle = (bytes : List ℕ) → Bytes bytes → little (length bytes) (fromLittle bytes) ≡ bytes
 
--- 2. So is a whole number in two's complement: a negative one has the magnitude that it exceeds -1 by.
+-- 2. So is a whole number in two's complement: the magnitude of a negative one is how far it is below -1.
 abbrev pub ComplementIsRead : Type 0
 ComplementIsRead = (width : ℕ) (x : ℤ) → 1 ≤ width → 2 * mag x < 256 ^ width → signed width (complement width x) ≡ x

@@ -41,7 +41,7 @@ pub(crate) fn on_reply(wanted: Wanted, command: u8, bytes: &[u8]) -> Effect
     requires { ⌜ Narrow wanted ⌝ }
     ensures { λ r. ⌜ r ≡ onReply wanted command (now (bytes .entry)) ⌝ }
 {
-    let heeded = reply::heed(paper::SET, wanted.setting.id, command, bytes);
+    let heeded = reply::heed(paper::SET_CODE, wanted.setting.id, command, bytes);
     match heeded {
         Heeded::Waits => Effect::Waits,
         Heeded::Good => on_value(wanted, &bytes[paper::FRONT..]),

@@ -47,5 +47,5 @@ pub(crate) fn told_to(viewed: Viewed, told: Told, data: &[u8]) -> Viewed {
 pub(crate) fn show(report: i32, before: Viewed, data: [u8; paper::MOST_DATA], len: usize) {
     let viewer = before.viewer;
     let n = words::front(len, &data);
-    words::tell(report, sentences::seen(viewer, paper::GET, &data[..n]));
+    words::tell(report, sentences::seen(viewer, paper::GET_CODE, &data[..n]));
 }

@@ -1,4 +1,4 @@
--- The numbers that document 01 fixes, each beside its words and defined here alone. Assumes nothing.
+-- The numbers that document 01 fixes for more than one crate, each beside its words. Assumes nothing.
 use Prim.Native.Nat.{ℕ}
 
 -- "Numbers of refusal". "The order is 11, 12, then 1 to 10 as listed."
@@ -135,6 +135,10 @@ errorCode = 4
 abbrev pub pongCode : ℕ
 pongCode = 5
 
+-- "request flags not 0" are refused
+abbrev pub noFlags : ℕ
+noFlags = 0
+
 -- "flag 00", "flag 01", "flag 02", "flag 04"
 abbrev pub goodFlag : ℕ
 goodFlag = 0
@@ -147,6 +151,10 @@ supportFlag = 2
 
 abbrev pub parameterFlag : ℕ
 parameterFlag = 4
+
+-- "Get with other than 3 data bytes; Set with under 3": an id and the flags come before a value
+abbrev pub front : ℕ
+front = 3
 
 -- "Read-only values", by their ids
 abbrev pub productId : ℕ

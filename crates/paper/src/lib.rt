@@ -1,5 +1,5 @@
-// The numbers that document 01 fixes, each written here and nowhere else in the sources. specs/Numbers.antt has the same names with the
-// paper's words beside them, and every call that gives or compares one promises it by that name.
+// The numbers that document 01 fixes for more than one crate: refusals, frames, codes, flags and read-only ids. specs/Numbers.antt has the
+// same names with the paper's words beside them, and every call that gives or compares one promises it by that name.
 
 // The numbers of refusal.
 pub const TOO_LONG: u8 = 1;
@@ -16,7 +16,7 @@ pub const MALFORMED: u8 = 6;
 
 pub const UNKNOWN_ID: u8 = 7;
 
-pub const READ_ONLY: u8 = 8;
+pub const READ_ONLY_ID: u8 = 8;
 
 pub const WRONG_WIDTH: u8 = 9;
 
@@ -54,59 +54,59 @@ pub const MOST_CHARS: usize = 73;
 pub const FRAME_ROOM: usize = 75;
 
 // The commands that a board knows.
-pub const PING: u8 = 1;
+pub const PING_CODE: u8 = 1;
 
-pub const APP_VERSION: u8 = 3;
+pub const VERSION_CODE: u8 = 3;
 
-pub const PRODUCT_ID: u8 = 4;
+pub const PRODUCT_CODE: u8 = 4;
 
-pub const RESTART: u8 = 6;
+pub const RESTART_CODE: u8 = 6;
 
-pub const GET: u8 = 7;
+pub const GET_CODE: u8 = 7;
 
-pub const SET: u8 = 8;
+pub const SET_CODE: u8 = 8;
 
-pub const ASYNC: u8 = 0xA;
+pub const ASYNC_CODE: u8 = 0xA;
 
 // Its responses; Get and Set answer with their own codes.
-pub const DONE: u8 = 1;
+pub const DONE_CODE: u8 = 1;
 
-pub const UNKNOWN: u8 = 3;
+pub const UNKNOWN_CODE: u8 = 3;
 
-pub const ERROR: u8 = 4;
+pub const ERROR_CODE: u8 = 4;
 
-pub const PONG: u8 = 5;
+pub const PONG_CODE: u8 = 5;
 
-// Flags: a request has none; a reply has one of four.
+// Flags: a request has none, a reply one of four.
 pub const NO_FLAGS: u8 = 0;
 
-pub const GOOD: u8 = 0;
+pub const GOOD_FLAG: u8 = 0;
 
-pub const FLAG_UNKNOWN_ID: u8 = 1;
+pub const UNKNOWN_FLAG: u8 = 1;
 
-pub const FLAG_NOT_SUPPORTED: u8 = 2;
+pub const SUPPORT_FLAG: u8 = 2;
 
-pub const FLAG_PARAMETER: u8 = 4;
+pub const PARAMETER_FLAG: u8 = 4;
 
 // An id and the flags come before a value.
 pub const FRONT: usize = 3;
 
 // The ids of the read-only values.
-pub const PRODUCT: u16 = 0x0100;
+pub const PRODUCT_ID: u16 = 0x0100;
 
-pub const SERIAL: u16 = 0x010A;
+pub const SERIAL_ID: u16 = 0x010A;
 
-pub const VERSION: u16 = 0xEEF9;
+pub const VERSION_ID: u16 = 0xEEF9;
 
-pub const VOLTAGE: u16 = 0xED8D;
+pub const VOLTAGE_ID: u16 = 0xED8D;
 
-pub const CURRENT: u16 = 0xED8F;
+pub const CURRENT_ID: u16 = 0xED8F;
 
-pub const FINE: u16 = 0xED8C;
+pub const FINE_ID: u16 = 0xED8C;
 
-pub const CONSUMED: u16 = 0xEEFF;
+pub const CONSUMED_ID: u16 = 0xEEFF;
 
-pub const CHARGE: u16 = 0x0FFF;
+pub const CHARGE_ID: u16 = 0x0FFF;
 
 // The most bytes of a serial.
 pub const MOST_SERIAL: usize = 32;

@@ -16,19 +16,19 @@ fn with_flags(id: u16, flags: u8) -> Front
     ensures { λ r. ⌜ r ≡ fronted id flags ⌝ }
 {
     match flags {
-        paper::GOOD => Front::Says {
+        paper::GOOD_FLAG => Front::Says {
             status: Status::Good,
             id,
         },
-        paper::FLAG_UNKNOWN_ID => Front::Says {
+        paper::UNKNOWN_FLAG => Front::Says {
             status: Status::UnknownId,
             id,
         },
-        paper::FLAG_NOT_SUPPORTED => Front::Says {
+        paper::SUPPORT_FLAG => Front::Says {
             status: Status::NotSupported,
             id,
         },
-        paper::FLAG_PARAMETER => Front::Says {
+        paper::PARAMETER_FLAG => Front::Says {
             status: Status::ParameterError,
             id,
         },

@@ -51,13 +51,13 @@ pub fn read(command: u8, bytes: &[u8]) -> Reply
     ensures { λ r. ⌜ r ≡ reading command (now (bytes .entry)) ⌝ }
 {
     match command {
-        paper::DONE => Reply::Done,
-        paper::UNKNOWN => kinds::unknown(bytes),
-        paper::ERROR => kinds::error(bytes),
-        paper::PONG => kinds::ping(bytes),
-        paper::GET => kinds::get(bytes),
-        paper::SET => kinds::set(bytes),
-        paper::ASYNC => kinds::told(bytes),
+        paper::DONE_CODE => Reply::Done,
+        paper::UNKNOWN_CODE => kinds::unknown(bytes),
+        paper::ERROR_CODE => kinds::error(bytes),
+        paper::PONG_CODE => kinds::ping(bytes),
+        paper::GET_CODE => kinds::get(bytes),
+        paper::SET_CODE => kinds::set(bytes),
+        paper::ASYNC_CODE => kinds::told(bytes),
         _ => Reply::Refused(paper::UNKNOWN_COMMAND),
     }
 }
@@ -78,11 +78,11 @@ pub fn show(id: u16, value: &[u8]) -> Shown
     ensures { λ r. ⌜ r ≡ showing id (now (value .entry)) ⌝ }
 {
     match id {
-        paper::VOLTAGE => units::volts(value),
-        paper::CURRENT => units::amperes(value),
-        paper::FINE => units::fine_amperes(value),
-        paper::CONSUMED => units::amp_hours(value),
-        paper::CHARGE => units::percent(value),
+        paper::VOLTAGE_ID => units::volts(value),
+        paper::CURRENT_ID => units::amperes(value),
+        paper::FINE_ID => units::fine_amperes(value),
+        paper::CONSUMED_ID => units::amp_hours(value),
+        paper::CHARGE_ID => units::percent(value),
         _ => Shown::Refused(paper::UNKNOWN_ID),
     }
 }

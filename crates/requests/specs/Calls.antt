@@ -1,7 +1,7 @@
 -- What each public call answers, for every input. Assumes nothing.
 use Prim.Native.Nat.{ℕ, _^_}
 use mathlib.Core.Bool.{cond}
-use lib.Dec.{ltb}
+use lib.Dec.{ltb, eqb}
 use Rattle.laws.specs.Promise.{Given}
 use Rattle.paper.specs.Numbers.{frameRoom, shortBuffer, notAllowed, setCode}
 use Rattle.wire.specs.Frame.{frame}
@@ -9,6 +9,7 @@ use Rattle.endian.specs.Numbers.{little}
 use Rattle.wire.specs.Calls.{unwritten, writtenAs}
 use Rattle.wire.specs.declared.Written.{Written}
 use Rattle.settings.specs.Columns.{count, idAt, widthAt}
+use Rattle.settings.specs.declared.Setting.{Setting}
 use Rattle.answers.specs.Answers.{said}
 use Rattle.answers.specs.Requests.{getRequest}
 use Rattle.requests.specs.declared.Request.{Request}
@@ -28,7 +29,11 @@ setWritten k n room =
     cond (ltb room frameRoom) (unwritten shortBuffer)
     (cond (ltb k count) (setOf (idAt k) (widthAt k) n) (unwritten notAllowed))
 
--- either of them
+-- the place of a setting that is handed in, and one past the table where its place and its id do not belong together
+unfoldable pub placeIn : Setting → ℕ
+placeIn s = cond (eqb (idAt (s .index)) (s .id)) (s .index) count
+
+-- either of them: what is asked of a board is of the id that the request names
 unfoldable pub writing : Request → ℕ → Given Written
 writing (Request.Get id) room = getWritten id room
-writing (Request.Set due) room = setWritten (due .setting .index) (due .number) room
+writing (Request.Set due) room = setWritten (placeIn (due .setting)) (due .number) room

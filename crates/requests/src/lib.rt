@@ -7,7 +7,7 @@ ghost use lib.ListN.{length};
 ghost use Rattle.paper.specs.Numbers.{frameRoom};
 ghost use Rattle.laws.specs.Promise.{Gives};
 ghost use Rattle.wire.specs.declared.Written.{Written};
-ghost use Rattle.requests.specs.Calls.{getWritten, setOf, setWritten, writing};
+ghost use Rattle.requests.specs.Calls.{getWritten, setOf, setWritten, placeIn, writing};
 use settings::Found;
 use settings::Setting;
 use wire::Written;
@@ -24,15 +24,26 @@ pub enum Request {
     Set(Wanted),
 }
 
-// Writes a request to the front of `out`. Refuses 11 under 75 bytes of room, then 12 for a Set of no setting or of a number that its width
-// does not hold.
+// Writes a request to the front of `out`. Refuses 11 under 75 bytes of room, then 12 for a Set of no setting, of one whose place and id do
+// not belong together, or of a number that its width does not hold.
 pub fn write(request: Request, out: &mut [u8]) -> Written
     ensures { λ r. ⌜ Gives Written (writing request (length (now (out .entry)))) (now (out .entry)) r (now (out .exit)) ⌝ }
 {
     match request {
         Request::Get(id) => get(id, out),
-        Request::Set(wanted) => set(wanted.setting.index, wanted.number, out),
+        Request::Set(wanted) => set(place_of(wanted.setting), wanted.number, out),
     }
+}
+
+// Returns the place of a setting, and one past the table where its place and its id do not belong together.
+fn place_of(setting: Setting) -> usize
+    ensures { λ r. ⌜ r ≡ placeIn setting ⌝ }
+{
+    let index = setting.index;
+    if settings::setting_at(index).id == setting.id {
+        return index;
+    }
+    settings::COUNT
 }
 
 // Writes a Get of an id to the front of `out`. Refuses 11 under 75 bytes of room.
@@ -41,7 +52,7 @@ pub fn get(id: u16, out: &mut [u8]) -> Written
 {
     let which = endian::bytes_16(id);
     let bytes = [which[0], which[1], paper::NO_FLAGS];
-    wire::write_frame(paper::GET, &bytes, out)
+    wire::write_frame(paper::GET_CODE, &bytes, out)
 }
 
 // Writes a Set of the setting at a place to the front of `out`. Refuses 11 under 75 bytes of room, then 12 for a place past the table or
@@ -77,5 +88,5 @@ fn set_of(id: u16, width: usize, number: u16, out: &mut [u8]) -> Written
     let which = endian::bytes_16(id);
     let value = endian::bytes_16(number);
     let bytes = [which[0], which[1], paper::NO_FLAGS, value[0], value[1]];
-    wire::write_frame(paper::SET, &bytes[..paper::FRONT + width], out)
+    wire::write_frame(paper::SET_CODE, &bytes[..paper::FRONT + width], out)
 }

@@ -1,4 +1,4 @@
-// The numbers that document 01 fixes for the list, and the numbers of refusal that it gives.
+// The room that document 01 fixes for the list.
 use settings::COUNT;
 
 // The longest Set: a colon, the command, two digits for each byte of id, flags, value and check, and a newline.

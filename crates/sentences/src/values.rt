@@ -67,16 +67,16 @@ fn put_reading(line: Line, id: u16, value: &[u8]) -> Line
     requires { ⌜ length (now value) ≡ widthOf id ⌝ }
     ensures { λ r. ⌜ r ≡ adding line (readingText id (now (value .entry))) ⌝ }
 {
-    if id == paper::VOLTAGE {
+    if id == paper::VOLTAGE_ID {
         return put_amount(line, b"voltage ", ALL_16, number::two(value), 2, b" V");
     }
-    if id == paper::CURRENT {
+    if id == paper::CURRENT_ID {
         return put_amount(line, b"current ", ALL_16, number::two(value), 1, b" A");
     }
-    if id == paper::FINE {
+    if id == paper::FINE_ID {
         return put_amount(line, b"current ", ALL_32, number::four(value), 3, b" A");
     }
-    if id == paper::CONSUMED {
+    if id == paper::CONSUMED_ID {
         return put_amount(line, b"consumed ", ALL_32, number::four(value), 1, b" Ah");
     }
     put_amount(line, b"charge ", UNSIGNED_16, number::two(value), 2, b" %")
@@ -87,13 +87,13 @@ pub(crate) fn put_words(line: Line, id: u16, value: &[u8]) -> Line
     requires { ⌜ isUnderstood id (now value) ≡ true ⌝ }
     ensures { λ r. ⌜ r ≡ adding line (wordsText id (now (value .entry))) ⌝ }
 {
-    if id == paper::PRODUCT {
+    if id == paper::PRODUCT_ID {
         return put_word(line, b"product ", value[2], value[1], b"");
     }
-    if id == paper::SERIAL {
+    if id == paper::SERIAL_ID {
         return put_serial(line, value);
     }
-    if id == paper::VERSION {
+    if id == paper::VERSION_ID {
         return put_word(line, b"version ", value[1], value[0], b"");
     }
     put_reading(line, id, value)

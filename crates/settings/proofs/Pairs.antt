@@ -104,6 +104,12 @@ module _ (k : ℕ) (h : k < count) where
       same-role (roleAt k) Role.Alone
       (rw (eq-eqb (partnerAt k) k e) at (upTo-at count (λ i. cond (eqb (partnerAt i) i) (eqb (roleNumber (roleAt i)) 0) true) refl k h))
 
+  pub none-alone : roleAt k ≡ Role.Alone → partnerAt k ≡ k
+  unfolding partnerAt placeOf
+  none-alone e =
+      eqb-true _ _
+      (rw (eq-eqb (roleNumber (roleAt k)) 0 (ap roleNumber e)) at (upTo-at count (λ i. cond (eqb (roleNumber (roleAt i)) 0) (eqb (partnerAt i) i) true) refl k h))
+
   pub same-range : (n : ℕ) → inRange (partnerAt k) n ≡ inRange k n
   unfolding inRange partnerAt placeOf
   same-range n =

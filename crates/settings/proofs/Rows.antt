@@ -15,7 +15,7 @@ use Rattle.settings.specs.Calls.{settingAt, placing, finding}
 use Rattle.settings.specs.Laws.{Row, PlaceIsFound, FindIsFound, FoundHasId}
 use Rattle.settings.specs.declared.Setting.{Setting}
 use Rattle.settings.specs.declared.Found.{Found}
-use Rattle.settings.proofs.Pairs.{parts-opposite, alone-none}
+use Rattle.settings.proofs.Pairs.{parts-opposite, alone-none, none-alone}
 
 module _ (k : ℕ) (h : k < count) where
   pub partner-below : partnerAt k < count
@@ -42,7 +42,7 @@ module _ (k : ℕ) (h : k < count) where
         partner-back = partner-back;
         partner-near = (leb-true _ _ (upTo-at count (λ i. leb (partnerAt i) (suc i)) refl k h), leb-true _ _ (upTo-at count (λ i. leb i (suc (partnerAt i))) refl k h));
         parts-opposite = parts-opposite k h;
-        alone-none = alone-none k h;
+        alone-none = (alone-none k h, none-alone k h);
         range-some = low-high;
         width-some = leb-true _ _ (upTo-at count (λ i. leb 1 (widthAt i)) refl k h);
         width-most = leb-true _ _ (upTo-at count (λ i. leb (widthAt i) 2) refl k h);

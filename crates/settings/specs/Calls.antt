@@ -19,7 +19,7 @@ placing k = cond (ltb k count) (Found.At (settingAt k)) Found.Nothing
 unfoldable pub finding : ℕ → Found
 finding id = placing (placeOf id)
 
--- "outside own range", for any place
+-- whether a number is in the own range of the setting at any place; past the table none is
 unfoldable pub ranging : ℕ → ℕ → Bool
 ranging k n = ltb k count && inRange k n
 

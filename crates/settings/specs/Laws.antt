@@ -2,6 +2,7 @@
 -- Assumes nothing.
 use Prim.Native.Nat.{ℕ, suc, _^_, _≤_, _<_}
 use mathlib.Core.Path.{_≡_}
+use mathlib.Core.Logic.{_↔_}
 use mathlib.Core.Bool.{true}
 use lib.ListN.{length}
 use Rattle.settings.specs.Columns.{count, ids, idAt, widthAt, lowAt, highAt, factoryAt, partnerAt, roleAt}
@@ -41,7 +42,7 @@ pub record Row (k : ℕ) : Type 0 where
   pub partner-back : partnerAt (partnerAt k) ≡ k
   pub partner-near : (partnerAt k ≤ suc k) × (k ≤ suc (partnerAt k))
   pub parts-opposite : roleAt (partnerAt k) ≡ opposite (roleAt k)
-  pub alone-none : partnerAt k ≡ k → roleAt k ≡ Role.Alone
+  pub alone-none : (partnerAt k ≡ k) ↔ (roleAt k ≡ Role.Alone)
   pub range-some : lowAt k ≤ highAt k
   pub width-some : 1 ≤ widthAt k
   pub width-most : widthAt k ≤ 2

@@ -22,10 +22,10 @@ fn is_product(value: &[u8]) -> bool
 fn width_of(id: u16) -> usize
     ensures { λ r. ⌜ r ≡ widthOf id ⌝ }
 {
-    if id == paper::FINE {
+    if id == paper::FINE_ID {
         return 4;
     }
-    if id == paper::CONSUMED {
+    if id == paper::CONSUMED_ID {
         return 4;
     }
     2
@@ -35,10 +35,10 @@ fn width_of(id: u16) -> usize
 pub(crate) fn is_understood(id: u16, value: &[u8]) -> bool
     ensures { λ r. ⌜ r ≡ isUnderstood id (now (value .entry)) ⌝ }
 {
-    if id == paper::PRODUCT {
+    if id == paper::PRODUCT_ID {
         return is_product(value);
     }
-    if id == paper::SERIAL {
+    if id == paper::SERIAL_ID {
         return serial::is_serial(value);
     }
     value.len() == width_of(id)

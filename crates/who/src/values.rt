@@ -97,14 +97,14 @@ pub(crate) fn looked(identity: Identity, readings: Readings, id: u16) -> Looked
     ensures { λ r. ⌜ r ≡ lookedOf (readOnly identity readings id) ⌝ }
 {
     match id {
-        paper::PRODUCT => found(product_value(identity)),
-        paper::SERIAL => found(serial_value(identity)),
-        paper::VERSION => found(two(identity.version)),
-        paper::VOLTAGE => found(two(endian::complement_16(readings.voltage))),
-        paper::CURRENT => found(two(endian::complement_16(readings.current))),
-        paper::FINE => found(four(endian::complement_32(readings.fine))),
-        paper::CONSUMED => found(four(endian::complement_32(readings.consumed))),
-        paper::CHARGE => found(two(readings.charge)),
+        paper::PRODUCT_ID => found(product_value(identity)),
+        paper::SERIAL_ID => found(serial_value(identity)),
+        paper::VERSION_ID => found(two(identity.version)),
+        paper::VOLTAGE_ID => found(two(endian::complement_16(readings.voltage))),
+        paper::CURRENT_ID => found(two(endian::complement_16(readings.current))),
+        paper::FINE_ID => found(four(endian::complement_32(readings.fine))),
+        paper::CONSUMED_ID => found(four(endian::complement_32(readings.consumed))),
+        paper::CHARGE_ID => found(two(readings.charge)),
         _ => refused(paper::UNKNOWN_ID),
     }
 }

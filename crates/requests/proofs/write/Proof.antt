@@ -1,4 +1,5 @@
 -- `requests::write` meets its contract. Assumes nothing.
+use mathlib.Core.Path.{_≡_}
 use Rattle.requests.specs.Calls.{writing}
 use borrow.Author.Needs.{needs}
 use Rattle.requests.proofs.write.Statement.{statement}
@@ -12,6 +13,9 @@ get-requires c κs = search needs
 
 enum-known-request-2 : tie.Need-enum-known-request-2
 enum-known-request-2 c = search needs
+
+place-of-requires : tie.Need-place-of-requires
+place-of-requires c κs = search needs
 
 set-requires : tie.Need-set-requires
 set-requires c κs = search needs
@@ -28,7 +32,7 @@ same-length-2 c = search needs
 
 returns-2 : tie.Need-returns-2
 unfolding writing
-returns-2 c = rw (c .before .before .before .before .before .request2 .given .1) (c .before .before .set .ensures)
+returns-2 c = rw (c .before .before .before .before .before .before .request2 .given .1, ← c .before .before .before .before .place-of .ensures) (c .before .before .set .ensures)
 
 pub write-spec : {M : Type 1} → statement M
 write-spec =
@@ -37,6 +41,7 @@ write-spec =
     enum-known-request
     get-requires
     enum-known-request-2
+    place-of-requires
     set-requires
     same-length
     returns
