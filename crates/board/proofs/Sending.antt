@@ -6,7 +6,8 @@ use native.Mathlib.Omega.{arith}
 use borrow.Author.Tests.{leb-true}
 use lib.ListN.{length}
 use Rattle.laws.specs.Promise.{Gives}
-use Rattle.laws.proofs.Promise.{overlaid-front}
+use Rattle.laws.proofs.Fronts.{front-taken}
+use Rattle.paper.specs.Numbers as paper
 use Rattle.wire.specs.Frame.{frame}
 use Rattle.wire.specs.Calls.{writing, writtenAs}
 use Rattle.wire.specs.declared.Written.{Written}
@@ -23,7 +24,7 @@ use Rattle.board.specs.declared.Answered.{Answered}
 sent-is : (s : Sent) → sentBy (sendsOf s) (messageIn s) ≡ whole (replyBytes s)
 unfolding sentBy messageOf
 sent-is silent = refl
-sent-is (sent command bytes) = ap (λ (l : List ℕ). whole (frame command l)) (overlaid-front bytes _)
+sent-is (sent command bytes) = ap (λ (l : List ℕ). whole (frame command l)) (front-taken paper.mostData bytes)
 sent-is error = refl
 
 -- within what the writer takes
