@@ -3,23 +3,21 @@ use mathlib.Core.Path.{_≡_, refl, sym, ap, ap₂, subst, _∙_}
 use mathlib.Core.Logic.{_≢_, _⊎_, ⊎-elim}
 use mathlib.Core.Bool.{Bool, true, false, cond}
 use mathlib.Core.List.{List}
-use Prim.Native.Nat.{ℕ, _^_, _≤_, _<_}
+use Prim.Native.Nat.{ℕ, _^_, _<_}
 use native.Mathlib.Omega.{arith}
 use borrow.Author.Tests.{eq-eqb, eqb-true}
-use lib.ListN.{length}
 use lib.Dec.{eqb}
 use Rattle.laws.specs.Lists.{Bytes}
 use Rattle.answers.specs.Answers.{said}
 use Rattle.reply.specs.Replies.{flagOf, rest, flagged, about}
 use Rattle.reply.specs.Calls.{reading, heeding}
-use Rattle.reply.specs.Laws.{From, a-get, a-set, an-async, Says, says-good, says-bad, says-nothing, HeedIsSaid, HeededIsLong, isTold}
+use Rattle.reply.specs.Laws.{From, a-get, a-set, an-async, Says, says-good, says-bad, says-nothing, HeedIsSaid}
 use Rattle.reply.specs.declared.Status.{Status}
 use Rattle.reply.specs.declared.Reply.{Reply}
 use Rattle.reply.specs.declared.Heeded.{Heeded}
 use Rattle.reply.proofs.Choices.{choose}
 use Rattle.reply.proofs.Hearing.{said-read}
 use Rattle.reply.proofs.Origins.{read-from}
-use Rattle.reply.proofs.Lengths.{told-long}
 
 no-wait : (status : Status) → flagged status ≢ Heeded.Waits
 no-wait Status.Good e = let z : _≡_ {A = ℕ} 0 1 = cc in omega arith
@@ -76,22 +74,3 @@ module _ (code id : ℕ) (asked : (code ≡ 7) ⊎ (code ≡ 8)) (room : id < 25
 pub heed-said : HeedIsSaid
 unfolding heeding
 heed-said code id command bytes asked room small = code-said code id asked room command bytes small (eqb command code) refl (unfold heeding in refl)
-
--- what does not wait is told
-about-told : (id : ℕ) (r : Reply) → about id r ≢ Heeded.Waits → isTold r ≡ true
-about-told id Reply.Done h = absurd (h refl)
-about-told id (Reply.Unknown command) h = absurd (h refl)
-about-told id (Reply.Error code) h = absurd (h refl)
-about-told id (Reply.Ping version) h = absurd (h refl)
-about-told id (Reply.Get status it) h = refl
-about-told id (Reply.Set status it) h = refl
-about-told id (Reply.Async status it) h = refl
-about-told id (Reply.Refused number) h = absurd (h refl)
-
-pub heeded-long : HeededIsLong
-unfolding heeding
-heeded-long code id command bytes = by (eqb command code)
-  where
-    by : (b : Bool) → cond b (about id (reading command bytes)) Heeded.Waits ≢ Heeded.Waits → 3 ≤ length bytes
-    by true h = told-long command bytes (about-told id (reading command bytes) h)
-    by false h = absurd (h refl)

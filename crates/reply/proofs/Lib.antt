@@ -1,5 +1,4 @@
 -- Laws of the definitions of specs/, and what the proofs of the functions cite.
-pub mod Little
 pub mod Choices
 pub mod Hearing
 pub mod Origins

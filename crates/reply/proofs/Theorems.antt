@@ -1,10 +1,10 @@
 -- The statements of specs/Laws.antt, proved. Assumes nothing.
-use Rattle.reply.specs.Laws.{SaidIsRead, DoneIsRead, UnknownIsRead, ErrorIsRead, PingIsRead, ReadIsFrom, ReadIsSaid, ToldIsLong, HeedIsSaid, HeededIsLong, NarrowIsShown, WideIsShown, PlainIsShown, BoardIsShown}
+use Rattle.reply.specs.Laws.{SaidIsRead, DoneIsRead, UnknownIsRead, ErrorIsRead, PingIsRead, ReadIsFrom, ReadIsSaid, HeedIsSaid, HeededIsLong, NarrowIsShown, WideIsShown, PlainIsShown, BoardIsShown}
 use Rattle.reply.proofs.Hearing.{said-read, done-read, unknown-read, error-read, ping-read}
 use Rattle.reply.proofs.Origins.{read-from, read-said}
-use Rattle.reply.proofs.Heeding.{heed-said, heeded-long}
+use Rattle.reply.proofs.Heeding.{heed-said}
 use Rattle.reply.proofs.Measures.{narrow-shown, wide-shown, plain-shown, board-shown}
-use Rattle.reply.proofs.Lengths.{told-long}
+use Rattle.reply.proofs.Lengths.{heeded-long}
 
 pub said-is-read : SaidIsRead
 said-is-read = said-read
@@ -38,9 +38,6 @@ plain-is-shown = plain-shown
 
 pub board-is-shown : BoardIsShown
 board-is-shown = board-shown
-
-pub told-is-long : ToldIsLong
-told-is-long = told-long
 
 pub heed-is-said : HeedIsSaid
 heed-is-said = heed-said

@@ -76,20 +76,6 @@ pub record Told (status : Status) (id : ℕ) (bytes : List ℕ) : Type 0 where
 abbrev pub ReadIsSaid : Type 0
 ReadIsSaid = (status : Status) (id : ℕ) (bytes : List ℕ) → Bytes bytes → Told status id bytes
 
--- and it has the first three bytes, whatever the data are
-abbrev pub isTold : Reply → Bool
-isTold Reply.Done = false
-isTold (Reply.Unknown command) = false
-isTold (Reply.Error code) = false
-isTold (Reply.Ping version) = false
-isTold (Reply.Get status id) = true
-isTold (Reply.Set status id) = true
-isTold (Reply.Async status id) = true
-isTold (Reply.Refused number) = false
-
-abbrev pub ToldIsLong : Type 0
-ToldIsLong = (command : ℕ) (bytes : List ℕ) → isTold (reading command bytes) ≡ true → 3 ≤ length bytes
-
 -- 3. What a frame says to the Get or Set of an id that is due, in bytes: good exactly where the command is the code asked and the data are
 -- the id, flag 00 and a value; bad where the flag is that of another status; and else it waits.
 pub data Says (code id command : ℕ) (bytes : List ℕ) : Heeded → Type 0 where

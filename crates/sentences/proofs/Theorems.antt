@@ -276,14 +276,12 @@ first-kept : (l : List ℕ) → getD (take 10 l) 0 0 ≡ getD l 0 0
 first-kept [] = refl
 first-kept (x ∷ l) = refl
 
+no-letter : {c : ℕ} → c ≡ 0x72 → c ≤ 57 → ⊥
+no-letter e h = omega arith
+
 of-known : (m n : ℕ) (after : List ℕ) → take 10 (ofText [] m n after) ≡ chars "refused 12" → ⊥
 unfolding ofText
-of-known m n after e =
-    let in-row : decimal m ++ chars " of " ++ decimal n ++ after ≡ decimal m ++ (chars " of " ++ (decimal n ++ after)) = simp append-assoc in
-    let digit : getD (decimal m ++ (chars " of " ++ (decimal n ++ after))) 0 0 ≤ 57 = first-digit 19 m (chars " of " ++ (decimal n ++ after)) in
-    let letter : getD (decimal m ++ (chars " of " ++ (decimal n ++ after))) 0 0 ≡ 0x72 =
-    ap (λ (l : List ℕ). getD l 0 0) (sym in-row) ∙ sym (first-kept (decimal m ++ chars " of " ++ decimal n ++ after)) ∙ first e in
-    absurd (omega arith)
+of-known m n after e = no-letter (simp append-assoc at (sym (first-kept (ofText [] m n after)) ∙ first e)) (first-digit 19 _ _)
 
 pub stray-follower : StrayFollower
 unfolding refusedText betweenText decimalFrom

@@ -25,12 +25,11 @@ use Rattle.sentences.specs.declared.Kept.{Kept}
 
 between-long : (before after : List ℕ) (n k : ℕ) → length (decimal n) ≤ k → length (betweenText before n after) ≤ length before + k + length after
 unfolding betweenText
-between-long before after n k h = rw (length-append (before ++ decimal n) after, length-append before (decimal n)) (omega arith)
+between-long before after n k h = simp length-append (omega arith)
 
 of-long : (before after : List ℕ) (m n k : ℕ) → length (decimal m) ≤ k → length (decimal n) ≤ k → length (ofText before m n after) ≤ length before + k + k + 4 + length after
 unfolding ofText
-of-long before after m n k h i =
-    rw (length-append (before ++ decimal m ++ chars " of " ++ decimal n) after, length-append (before ++ decimal m ++ chars " of ") (decimal n), length-append (before ++ decimal m) (chars " of "), length-append before (decimal m)) (omega arith)
+of-long before after m n k h i = simp length-append (omega arith)
 
 -- with any counts
 fits-between : (before after : List ℕ) (n : ℕ) → length before + length after ≤ 140 → Fits (betweenText before n after)

@@ -5,13 +5,13 @@ use mathlib.Core.Bool.{true}
 use mathlib.Core.List.{List, [], _∷_}
 use Rattle.settings.specs.Columns.{count}
 use Rattle.settings.specs.Calls.{settingAt}
-use Rattle.reply.specs.declared.Status.{Status}
+use Rattle.reply.specs.declared.Heeded.{Heeded}
 use Rattle.requests.specs.declared.Request.{Request}
 use Rattle.follow.specs.declared.Standing as follows
 use Rattle.collect.specs.declared.Stage as collects
 use Rattle.backup.specs.declared.Checked.{Checked}
 use Rattle.tally.specs.Results.{tallyOf, withSets}
-use Rattle.view.specs.Calls.{onStatus}
+use Rattle.view.specs.Calls.{onHeeded}
 use Rattle.lines.specs.Lines.{chars}
 use Rattle.lines.specs.Worked.{Sample, sample, sampleOf, allRead}
 use Rattle.sentences.specs.Texts.{ofText, endText, readText, fileText, checkedText, summedText}
@@ -20,7 +20,7 @@ use Rattle.sentences.specs.declared.Kept.{Kept}
 
 -- a good reply of an id with this value
 abbrev pub told : ℕ → List ℕ → List ℕ
-told id value = sightText value (onStatus id value Status.Good)
+told id value = sightText value (onHeeded id value Heeded.Good)
 
 abbrev pub lines : List Sample
 lines =

@@ -15,7 +15,6 @@ use view::Viewer;
 
 mod checks;
 mod ends;
-mod number;
 mod parts;
 mod reads;
 mod sums;

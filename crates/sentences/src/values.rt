@@ -5,10 +5,10 @@ ghost use mathlib.Core.Bool.{true, cond};
 ghost use lib.ListN.{length};
 ghost use lib.Dec.{ltb};
 ghost use lib.IntN.{pos, negsuc};
+ghost use Rattle.endian.specs.Numbers.{fromLittle, signed};
 ghost use Rattle.view.specs.Values.{widthOf, isUnderstood};
 ghost use Rattle.lines.specs.Lines.{adding};
 ghost use Rattle.sentences.specs.Values.{wordText, strangeText, serialText, amountText, readingText, wordsText};
-use crate::number;
 use lines::Line;
 
 // How many numbers there are in two bytes and in four, for two's complement; and twice as many, of which no number of two bytes is negative.
@@ -62,24 +62,55 @@ fn put_amount(line: Line, before: &[u8], all: usize, n: usize, decimals: u8, aft
     begun.put(b"-").put_pointed(all - n, decimals).put(after)
 }
 
+// Puts two bytes as a number with a sign, between words.
+fn put_narrow(line: Line, before: &[u8], value: &[u8], decimals: u8, after: &[u8]) -> Line
+    requires { ⌜ length (now value) ≡ 2 ⌝ }
+    ensures { λ r. ⌜ r ≡ adding line (amountText (now (before .entry)) (signed 2 (fromLittle (now (value .entry)))) decimals (now (after .entry))) ⌝ }
+{
+    put_amount(
+        line,
+        before,
+        ALL_16,
+        endian::read_16(value) as usize,
+        decimals,
+        after,
+    )
+}
+
+// The same of four bytes.
+fn put_wide(line: Line, before: &[u8], value: &[u8], decimals: u8, after: &[u8]) -> Line
+    requires { ⌜ length (now value) ≡ 4 ⌝ }
+    ensures { λ r. ⌜ r ≡ adding line (amountText (now (before .entry)) (signed 4 (fromLittle (now (value .entry)))) decimals (now (after .entry))) ⌝ }
+{
+    put_amount(
+        line,
+        before,
+        ALL_32,
+        endian::read_32(value) as usize,
+        decimals,
+        after,
+    )
+}
+
 // Puts a reading in its unit.
 fn put_reading(line: Line, id: u16, value: &[u8]) -> Line
     requires { ⌜ length (now value) ≡ widthOf id ⌝ }
     ensures { λ r. ⌜ r ≡ adding line (readingText id (now (value .entry))) ⌝ }
 {
     if id == paper::VOLTAGE_ID {
-        return put_amount(line, b"voltage ", ALL_16, number::two(value), 2, b" V");
+        return put_narrow(line, b"voltage ", value, 2, b" V");
     }
     if id == paper::CURRENT_ID {
-        return put_amount(line, b"current ", ALL_16, number::two(value), 1, b" A");
+        return put_narrow(line, b"current ", value, 1, b" A");
     }
     if id == paper::FINE_ID {
-        return put_amount(line, b"current ", ALL_32, number::four(value), 3, b" A");
+        return put_wide(line, b"current ", value, 3, b" A");
     }
     if id == paper::CONSUMED_ID {
-        return put_amount(line, b"consumed ", ALL_32, number::four(value), 1, b" Ah");
+        return put_wide(line, b"consumed ", value, 1, b" Ah");
     }
-    put_amount(line, b"charge ", UNSIGNED_16, number::two(value), 2, b" %")
+    let steps = endian::read_16(value) as usize;
+    put_amount(line, b"charge ", UNSIGNED_16, steps, 2, b" %")
 }
 
 // Puts a value that is understood, by its id. A product and a version have their low bytes first.

@@ -1,26 +1,28 @@
 -- Every allowed viewer is reached: the ids answered well first, then the others not. Assumes nothing.
 use mathlib.Core.Path.{_≡_, refl, sym, ap, ap₂, _∙_}
-use mathlib.Core.Bool.{Bool, true, false, cond}
+use mathlib.Core.Logic.{inl}
+use mathlib.Core.Bool.{Bool, true, false}
 use mathlib.Core.List.{List, [], _∷_, _++_}
 use Prim.Native.Nat.{ℕ, zero, suc, _+_, _^_, _≤_, _<_}
 use native.Mathlib.Omega.{arith}
-use borrow.Author.Tests.{eq-eqb, leb-true, leb-false, lt-ltb, ltb-true}
+use borrow.Author.Tests.{leb-true, leb-false, lt-ltb, ltb-true}
 use lib.ListN.{getD}
 use lib.Dec.{ltb, leb}
 use Rattle.paper.specs.Numbers.{getCode}
 use Rattle.laws.proofs.Lists.{upTo-at}
 use Rattle.who.specs.Parts.{serialFits}
-use Rattle.endian.specs.Numbers.{little}
-use Rattle.reply.specs.Replies.{flagOf}
+use Rattle.answers.specs.Answers.{said}
+use Rattle.reply.specs.Replies.{flagOf, flagged}
 use Rattle.reply.specs.declared.Status.{Status}
-use Rattle.reply.proofs.Theorems.{said-is-read}
+use Rattle.reply.specs.declared.Heeded.{Heeded}
+use Rattle.reply.proofs.Heeding.{said-heeded}
 use Rattle.view.specs.Values.{count, idAt, productFits, serialReads, isUnderstood}
-use Rattle.view.specs.Calls.{onStatus, sightOf, moved, allowed, starting, viewing}
+use Rattle.view.specs.Calls.{onHeeded, sightOf, moved, allowed, starting, viewing}
 use Rattle.view.specs.Laws.{Frame, calls, AllowedIsReached}
 use Rattle.view.specs.declared.Viewer.{Viewer}
 use Rattle.view.specs.declared.Sight.{Sight}
 use Rattle.view.specs.declared.Viewed.{Viewed}
-use Rattle.view.proofs.Hearing.{on-read}
+use Rattle.view.proofs.Hearing.{heeded-is}
 use Rattle.view.proofs.Counting.{few-asked, few-understood, is-allowed, viewed, calls-allowed}
 
 -- a value that is understood, for each id
@@ -41,16 +43,15 @@ state a u = record { asked = a; understood = u }
 
 -- a reply to the Get of the id at a place, and what it comes to
 abbrev replyAt : ℕ → Status → Frame
-replyAt k status = record { command = getCode; bytes = little 2 (idAt k) ++ flagOf status ∷ valueAt k }
+replyAt k status = record { command = getCode; bytes = said (idAt k) (flagOf status) (valueAt k) }
 
 replied : (k u : ℕ) (status : Status) → k < count
-    → sightOf (state k u) getCode (replyAt k status .bytes) ≡ onStatus (idAt k) (valueAt k) status
+    → sightOf (state k u) getCode (replyAt k status .bytes) ≡ onHeeded (idAt k) (valueAt k) (flagged status)
 unfolding sightOf
 replied k u status h =
     let small : idAt k < 256 ^ 2 = ltb-true (idAt k) (256 ^ 2) (upTo-at count (λ i. ltb (idAt i) (256 ^ 2)) refl k h) in
     rw (lt-ltb k count h)
-    (sym (on-read (idAt k) (valueAt k) getCode (replyAt k status .bytes) _ (said-is-read status (idAt k) (valueAt k) small .get-heard) refl)
-    ∙ ap (λ (b : Bool). cond b (onStatus (idAt k) (valueAt k) status) Sight.Nothing) (eq-eqb (idAt k) (idAt k) refl))
+    (sym (heeded-is (idAt k) (valueAt k) getCode (replyAt k status .bytes) _ (said-heeded getCode (idAt k) (inl refl) small status (valueAt k)) refl))
 
 calls-append : (frames : List Frame) (last : Viewed) (f : Frame) → calls last (frames ++ f ∷ []) ≡ viewing (calls last frames .viewer) (f .command) (f .bytes)
 calls-append [] last f = refl
@@ -61,7 +62,7 @@ pub record Reached (v : Viewer) : Type 0 where
   pub arrives : calls starting frames .viewer ≡ v
 
 -- one more answered
-reach-next : (a u : ℕ) (status : Status) (v : Viewer) → u ≤ a → a < count → moved (state a u) (onStatus (idAt a) (valueAt a) status) ≡ v → Reached (state a u) → Reached v
+reach-next : (a u : ℕ) (status : Status) (v : Viewer) → u ≤ a → a < count → moved (state a u) (onHeeded (idAt a) (valueAt a) (flagged status)) ≡ v → Reached (state a u) → Reached v
 reach-next a u status v h k e r =
     record {
       frames = r .frames ++ replyAt a status ∷ [];
@@ -83,7 +84,7 @@ reach (suc a) u h k = by (leb u a) refl (λ less. reach a u less (omega arith)) 
         reach-next a u Status.UnknownId (state (suc a) u) less (omega arith) same (before less)
     by false e before all =
         let over : a < u = leb-false u a e in
-        let same : moved (state a a) (onStatus (idAt a) (valueAt a) Status.Good) ≡ state (suc a) u = rw (understands a (omega arith)) (ap₂ state (omega arith) (omega arith)) in
+        let same : moved (state a a) (onHeeded (idAt a) (valueAt a) Heeded.Good) ≡ state (suc a) u = rw (understands a (omega arith)) (ap₂ state (omega arith) (omega arith)) in
         reach-next a a Status.Good (state (suc a) u) (omega arith) (omega arith) same all
 
 pub allowed-is-reached : AllowedIsReached

@@ -2,38 +2,25 @@
 use Prim.Native.Nat.{ℕ, _+_}
 use mathlib.Core.Bool.{Bool, cond, _&&_}
 use mathlib.Core.List.{List}
-use lib.Dec.{ltb, leb, eqb}
-use Rattle.paper.specs.Numbers.{notAllowed}
+use lib.Dec.{ltb, leb}
+use Rattle.paper.specs.Numbers.{getCode, notAllowed}
 use Rattle.reply.specs.Replies.{rest}
-use Rattle.reply.specs.Calls.{reading}
-use Rattle.reply.specs.declared.Status.{Status}
-use Rattle.reply.specs.declared.Reply.{Reply}
+use Rattle.reply.specs.Calls.{heeding}
+use Rattle.reply.specs.declared.Heeded.{Heeded}
 use Rattle.view.specs.Values.{count, idAt, isUnderstood}
 use Rattle.view.specs.declared.Viewer.{Viewer}
 use Rattle.view.specs.declared.Next.{Next}
 use Rattle.view.specs.declared.Sight.{Sight}
 use Rattle.view.specs.declared.Viewed.{Viewed}
 
--- What a frame comes to while an id is due: only with flag 00 there is a value to understand;
-abbrev pub onStatus : ℕ → List ℕ → Status → Sight
-onStatus id value Status.Good = cond (isUnderstood id value) (Sight.Understood id) (Sight.Strange id)
-onStatus id value Status.UnknownId = Sight.Strange id
-onStatus id value Status.NotSupported = Sight.Strange id
-onStatus id value Status.ParameterError = Sight.Strange id
-
--- every reply but a Get reply of that id, and every frame that is none, says nothing of it.
-abbrev pub onReply : ℕ → List ℕ → Reply → Sight
-onReply id value (Reply.Get status got) = cond (eqb got id) (onStatus id value status) Sight.Nothing
-onReply id value Reply.Done = Sight.Nothing
-onReply id value (Reply.Unknown command) = Sight.Nothing
-onReply id value (Reply.Error code) = Sight.Nothing
-onReply id value (Reply.Ping version) = Sight.Nothing
-onReply id value (Reply.Set status got) = Sight.Nothing
-onReply id value (Reply.Async status got) = Sight.Nothing
-onReply id value (Reply.Refused number) = Sight.Nothing
+-- What a frame comes to while an id is due: only a good reply to its Get has a value to understand; what keeps waiting says nothing of it.
+abbrev pub onHeeded : ℕ → List ℕ → Heeded → Sight
+onHeeded id value Heeded.Waits = Sight.Nothing
+onHeeded id value Heeded.Good = cond (isUnderstood id value) (Sight.Understood id) (Sight.Strange id)
+onHeeded id value (Heeded.Bad status) = Sight.Strange id
 
 unfoldable pub sightAt : ℕ → ℕ → List ℕ → Sight
-sightAt id command bytes = onReply id (rest bytes) (reading command bytes)
+sightAt id command bytes = onHeeded id (rest bytes) (heeding getCode id command bytes)
 
 -- after the last id nothing is due
 unfoldable pub sightOf : Viewer → ℕ → List ℕ → Sight

@@ -1,5 +1,5 @@
 -- What is proved of the definitions. Each is proved under its name in proofs/Theorems.antt. Assumes nothing.
-use Prim.Native.Nat.{ℕ, zero, _+_}
+use Prim.Native.Nat.{ℕ, zero, _+_, _^_, _<_}
 use mathlib.Core.Path.{_≡_}
 use mathlib.Core.Logic.{_≢_, _↔_}
 use mathlib.Core.Bool.{true, cond}
@@ -8,10 +8,10 @@ use lib.ListN.{length, drop}
 use lib.Dec.{ltb}
 use Rattle.paper.specs.Numbers as paper
 use Rattle.who.specs.Parts.{serialFits}
-use Rattle.reply.specs.Replies.{rest}
-use Rattle.reply.specs.Calls.{reading}
+use Rattle.laws.specs.Lists.{Bytes}
+use Rattle.answers.specs.Answers.{said}
+use Rattle.reply.specs.Replies.{flagOf, rest}
 use Rattle.reply.specs.declared.Status.{Status}
-use Rattle.reply.specs.declared.Reply.{Reply}
 use Rattle.view.specs.Values.{ids, count, isUnderstood}
 use Rattle.view.specs.Calls.{sightAt, answers, shows, allowed, starting, viewing}
 use Rattle.view.specs.declared.Viewer.{Viewer}
@@ -28,14 +28,19 @@ pub record IsSerial (value serial : List ℕ) : Type 0 where
 abbrev pub SerialIsRead : Type 0
 SerialIsRead = (value : List ℕ) → (isUnderstood paper.serialId value ≡ true) ↔ ((serial : List ℕ) × IsSerial value serial)
 
--- 2. While an id is due, a frame says nothing of it exactly where it is read as no Get reply of it; and its value is understood exactly where
--- it is read as a good one, with a value of that id that is understood.
+-- 2. While an id is due, a frame says nothing of it exactly where it is no Get reply whose data are that id, the flag of a status and a value;
+-- and its value is understood exactly where the flag is 00 and it is a value of that id.
+pub record Understands (id command : ℕ) (bytes : List ℕ) : Type 0 where
+  pub is-get : command ≡ paper.getCode
+  pub is-good : bytes ≡ said id 0 (rest bytes)
+  pub has-value : isUnderstood id (rest bytes) ≡ true
+
 pub record Seen (id command : ℕ) (bytes : List ℕ) : Type 0 where
-  pub nothing-when : (sightAt id command bytes ≡ Sight.Nothing) ↔ ((status : Status) → reading command bytes ≢ Reply.Get status id)
-  pub understood-when : (sightAt id command bytes ≡ Sight.Understood id) ↔ ((reading command bytes ≡ Reply.Get Status.Good id) × (isUnderstood id (rest bytes) ≡ true))
+  pub nothing-when : (sightAt id command bytes ≡ Sight.Nothing) ↔ ((status : Status) → command ≡ paper.getCode → bytes ≢ said id (flagOf status) (rest bytes))
+  pub understood-when : (sightAt id command bytes ≡ Sight.Understood id) ↔ Understands id command bytes
 
 abbrev pub SightIsSeen : Type 0
-SightIsSeen = (id command : ℕ) (bytes : List ℕ) → Seen id command bytes
+SightIsSeen = (id command : ℕ) (bytes : List ℕ) → id < 256 ^ 2 → Bytes bytes → Seen id command bytes
 
 -- 3. A row of calls, each on the viewer that the last one handed back. A viewer is allowed exactly when a start and replies give it.
 pub record Frame : Type 0 where
