@@ -1,10 +1,11 @@
 -- A conversation with a board: readings are stored, and calls are made on the bytes of its line, what one call did not take being handed on
 -- before anything else. Assumes nothing.
 use Prim.Native.Nat.{ℕ, zero, _+_}
-use mathlib.Core.Bool.{cond}
+use mathlib.Core.Bool.{cond, _||_}
 use mathlib.Core.List.{List, [], _∷_, _++_}
 use lib.ListN.{take, drop}
-use lib.Dec.{ltb}
+use lib.Dec.{eqb}
+use Rattle.paper.specs.Numbers.{shortBuffer, notAllowed}
 use Rattle.laws.specs.Promise.{Given}
 use Rattle.answers.specs.declared.Core.{Core}
 use Rattle.answers.specs.declared.Outcome.{Outcome}
@@ -33,7 +34,7 @@ ofFrame s Outcome.Nothing = []
 ofFrame s Outcome.Answered = s ∷ []
 ofFrame s Outcome.Restarted = s ∷ []
 ofFrame s Outcome.Ignored = s ∷ []
-ofFrame s (Outcome.Refused number) = cond (ltb 10 number) [] (s ∷ [])
+ofFrame s (Outcome.Refused number) = cond (eqb number shortBuffer || eqb number notAllowed) [] (s ∷ [])
 
 unfoldable pub saidIn : Given Answered → List Said
 saidIn given = ofFrame (record { outcome = given .answer .outcome; reply = given .written }) (given .answer .outcome)

@@ -87,7 +87,8 @@ wordsText id value =
     (cond (eqb id paper.versionId) (wordText (chars "version ") (getD value 1 0) (getD value 0 0) [])
     (readingText id value)))
 
--- What a frame said of the id that was due, and nothing where it said nothing of it.
+-- What a frame said of the id that was due, and nothing where it said nothing of it; nothing too where no start and replies give the viewer,
+-- as `view` then refuses it and looks at no frame.
 abbrev pub sightText : List ℕ → Sight → List ℕ
 sightText value Sight.Nothing = []
 sightText value (Sight.Understood id) = wordsText id value

@@ -1,6 +1,6 @@
 // The sentences that claim something: how a restore and a yard's night ended, how far a board was read, what became of a file, and what a
-// board's values are. Each is said from the states of the machines that followed it and from nothing else; a state that no calls of its machine give is told as
-// refused 12. Every call takes anything, and its promise fixes its answer (specs/Texts.antt, specs/Values.antt).
+// board's values are. Each takes the machine that followed it whole; one that no calls give is told as refused 12, but for `seen`, which
+// then says nothing. Every call takes anything, and its promise fixes its answer (specs/Texts.antt, specs/Values.antt).
 ghost use mathlib.Core.Path.{_≡_};
 ghost use Rattle.lines.specs.Lines.{lineOf};
 ghost use Rattle.sentences.specs.Texts.{followedText, progressText, collectedText, savedText, checkedText, summedText};

@@ -1,4 +1,4 @@
--- What is proved of the definitions. Each is proved under its name in proofs/Theorems.antt. Assumes nothing.
+-- What is proved of the definitions. Each is proved under its name in proofs/, in Serials, Reaching, Counting and Hearing. Assumes nothing.
 use Prim.Native.Nat.{ℕ, zero, _+_, _^_, _<_}
 use mathlib.Core.Path.{_≡_}
 use mathlib.Core.Logic.{_≢_, _↔_}
