@@ -2,7 +2,7 @@
 use mathlib.Core.Path.{_≡_, refl, sym, ap, ap₂, subst, _∙_}
 use mathlib.Core.Logic.{_↔_}
 use mathlib.Core.Bool.{Bool, true, false, cond, false≢true}
-use mathlib.Core.List.{List, [], _∷_, _++_, append-assoc}
+use mathlib.Core.List.{List, [], _∷_, append-assoc}
 use Prim.Native.Nat.{ℕ, _≤_}
 use native.Mathlib.Omega.{arith}
 use lib.ListN.{length, getD, take}
@@ -44,7 +44,7 @@ use Rattle.endian.specs.Numbers.{signed}
 use Rattle.view.specs.Values.{serialReads, isUnderstood}
 use Rattle.view.specs.Calls.{allowed as allowed-viewer}
 use Rattle.lines.specs.Lines.{chars, lineOf, Says}
-use Rattle.lines.specs.Numbers.{decimalFrom, decimal, pointed}
+use Rattle.lines.specs.Numbers.{decimalFrom, pointed}
 use Rattle.lines.proofs.Adding.{says-text, text-says}
 use Rattle.sentences.specs.Texts.{betweenText, ofText, refusedText, stoppedText, endText, followedText, progressText, readText, collectedText, keptText, fileText, savedText, goodText, refusalText, checkedText, countsText, summedText}
 use Rattle.sentences.specs.Laws.{AllDone, DoneIsDone, NothingDue, EqualIsEqual, followedBy, LineIsMatched, ReadIsRead, collectedBy, LineIsCarried, SavedIsSaved, NotSavedIsNot, GoodIsGood, IsBackup, GoodIsBackup, WellIsWell, NoneIsNone, StrayFollower, StrayCollector, StrayTally, CollectorsCount, FilesCount, FollowersFit, FilesFit, YardsFit}
