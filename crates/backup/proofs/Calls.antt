@@ -14,7 +14,7 @@ use Rattle.tables.specs.Rules.{allowed, factory}
 use Rattle.tables.specs.declared.Table.{Table}
 use Rattle.backup.specs.Text.{header, places, textOf, refused, linesSay, saysFor, textSays}
 use Rattle.backup.proofs.Places.{header-long}
-use Rattle.backup.specs.Calls.{unwritten, writtenAs, writing, readAs, reading}
+use Rattle.backup.specs.Calls.{unwritten, writtenAs, writing, readAs, parsing}
 
 -- a text that begins with the header is as long at least
 pub header-inside : (text : List ℕ) → same (take (length header) text) header ≡ true → 12 ≤ length text
@@ -39,11 +39,11 @@ module _ (header places text : List ℕ) where
   unfolding saysFor
   says-rest e = rw e
 
-pub read-says : (text : List ℕ) → reading text ≡ readAs (saysFor header places text)
-unfolding reading textSays
+pub read-says : (text : List ℕ) → parsing text ≡ readAs (saysFor header places text)
+unfolding parsing textSays
 read-says text = refl
 
-pub read-rest : (text : List ℕ) → same (take (length header) text) header ≡ true → readAs (linesSay places 2 factory (drop 12 text)) ≡ reading text
+pub read-rest : (text : List ℕ) → same (take (length header) text) header ≡ true → readAs (linesSay places 2 factory (drop 12 text)) ≡ parsing text
 read-rest text e =
     ap (λ (n : ℕ). readAs (linesSay places 2 factory (drop n text))) (sym header-long) ∙ sym (read-says text ∙ ap readAs (says-rest header places text e))
 

@@ -14,7 +14,7 @@ use Rattle.tables.specs.Rules.{numberAt}
 use Rattle.tables.specs.declared.Table.{Table}
 use Rattle.rows.specs.Row.{rowOf, rowRoom}
 use Rattle.rows.specs.Calls.{writing, writtenAs}
-use Rattle.rows.specs.declared.Written.{Written}
+use Rattle.wire.specs.declared.Written.{Written}
 use Rattle.rows.proofs.Rows.{write-made}
 use Rattle.rows.proofs.Theorems.{row-is-short}
 use Rattle.backup.specs.Text.{header, places, linesFor, textFor, textOf}
@@ -38,7 +38,7 @@ module _ (out : List ℕ) (at id n : ℕ) (h : at + rowRoom ≤ length out) (sma
   made : writing id n (length (take (length out - at) (drop at out))) ≡ writtenAs (rowOf id n)
   made = write-made id n _ (rw (part, length-drop at out) (omega arith))
 
-  pub row-answered : r ≡ Written.Row (length (rowOf id n))
+  pub row-answered : r ≡ Written.Len (length (rowOf id n))
   row-answered = g .answered ∙ ap (λ (x : Given Written). x .answer) made
 
   pub row-stored : take at out ++ (last ++ drop (length out - at) (drop at out)) ≡ sets out at (rowOf id n)

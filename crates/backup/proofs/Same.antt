@@ -7,7 +7,7 @@ use denote.Ref.{RefT, now}
 use contract.Lifetimes.{Lfts}
 use Rattle.laws.proofs.Promise.{gives-same, equal-same}
 use Rattle.tables.specs.declared.Table.{Table}
-use Rattle.backup.specs.declared.Written.{Written}
+use Rattle.wire.specs.declared.Written.{Written}
 use Rattle.backup.specs.declared.Backup.{Backup}
 use Rattle.backup.proofs.write.Reads as write
 use Rattle.backup.proofs.read.Reads as read

@@ -10,7 +10,7 @@ use Rattle.laws.specs.Promise.{Given}
 use Rattle.tables.specs.Rules.{factory, allowed}
 use Rattle.tables.specs.declared.Table.{Table}
 use Rattle.backup.specs.Text.{textOf, Says, good, refused, textSays}
-use Rattle.backup.specs.declared.Written.{Written}
+use Rattle.wire.specs.declared.Written.{Written}
 use Rattle.backup.specs.declared.Checked.{Checked}
 use Rattle.backup.specs.declared.Backup.{Backup}
 
@@ -18,7 +18,7 @@ abbrev pub unwritten : ℕ → Given Written
 unwritten number = record { answer = Written.Refused number; written = [] }
 
 abbrev pub writtenAs : List ℕ → Given Written
-writtenAs bytes = record { answer = Written.Text (length bytes); written = bytes }
+writtenAs bytes = record { answer = Written.Len (length bytes); written = bytes }
 
 unfoldable pub writing : Table → ℕ → Given Written
 writing table room = cond (ltb room textRoom) (unwritten paper.shortBuffer) (cond (not (allowed table)) (unwritten paper.notAllowed) (writtenAs (textOf table)))
@@ -28,5 +28,5 @@ abbrev pub readAs : Says → Backup
 readAs (good table) = record { table = table; verdict = Checked.Accepted }
 readAs (refused number line) = record { table = factory; verdict = Checked.Refused number line }
 
-unfoldable pub reading : List ℕ → Backup
-reading text = readAs (textSays text)
+unfoldable pub parsing : List ℕ → Backup
+parsing text = readAs (textSays text)

@@ -18,7 +18,7 @@ use Rattle.rows.specs.declared.Judged.{Judged}
 use Rattle.paper.specs.Numbers as paper
 use Rattle.paper.specs.Numbers.{textRoom}
 use Rattle.backup.specs.Text.{textFor, textOf, good, refused, saysFor}
-use Rattle.backup.specs.Calls.{writing, writtenAs, reading, readAs}
+use Rattle.backup.specs.Calls.{writing, writtenAs, parsing, readAs}
 
 -- 1. A text with any first line and lines for any places of the table that ascend: it is read as a table exactly when that table is allowed,
 -- has factory numbers at every other place, and the text is byte for byte the one that is made for it.
@@ -55,7 +55,7 @@ RefusedInOrder = (header done : List ℕ) (table : Table) (rest : List ℕ) → 
 
 -- 2. Reading a written backup gives the table back. (A table has its numbers in every value of the type, which `length` says.)
 abbrev pub WrittenIsRead : Type 0
-WrittenIsRead = (table : Table) → length (table .numbers) ≡ count → allowed table ≡ true → reading (textOf table) ≡ readAs (good table)
+WrittenIsRead = (table : Table) → length (table .numbers) ≡ count → allowed table ≡ true → parsing (textOf table) ≡ readAs (good table)
 
 -- 3. A text that is read without refusal is byte for byte the one that the writer makes for the table read, and that table is allowed.
 pub record Text (table : Table) (text : List ℕ) : Type 0 where
@@ -64,7 +64,7 @@ pub record Text (table : Table) (text : List ℕ) : Type 0 where
   pub is-written : (room : ℕ) → textRoom ≤ room → writing table room ≡ writtenAs text
 
 abbrev pub ReadIsWritten : Type 0
-ReadIsWritten = (text : List ℕ) (table : Table) → reading text ≡ readAs (good table) → Text table text
+ReadIsWritten = (text : List ℕ) (table : Table) → parsing text ≡ readAs (good table) → Text table text
 
 -- 4. Every text fits the room that writing needs.
 abbrev pub TextIsShort : Type 0

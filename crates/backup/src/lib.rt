@@ -4,18 +4,13 @@ ghost use mathlib.Core.Path.{_≡_};
 ghost use lib.ListN.{length};
 ghost use Rattle.laws.specs.Promise.{Gives};
 ghost use Rattle.backup.specs.Text as text;
-ghost use Rattle.backup.specs.Calls.{writing, reading};
-ghost use Rattle.backup.specs.declared.Written.{Written};
+ghost use Rattle.backup.specs.Calls.{writing, parsing};
+ghost use Rattle.wire.specs.declared.Written.{Written};
 use tables::Table;
+use wire::Written;
 
 mod reader;
 mod writer;
-
-// What the writer answers: the text's length, or document 01's number of the refusal.
-pub enum Written {
-    Text(usize),
-    Refused(u8),
-}
 
 // What the reader answers: accepted, or the number of the refusal and the line, the header being 1 (0 for 17 and 18).
 pub enum Checked {
@@ -52,12 +47,12 @@ pub fn write(table: Table, out: &mut [u8]) -> Written
     let held = table.numbers;
     let header = header();
     let at = bytes::copy(&header, out);
-    Written::Text(writer::put_lines(held, out, at))
+    Written::Len(writer::put_lines(held, out, at))
 }
 
 // Reads a text: 13 for another first line, then line by line 14, 15, 16, then 18, then 17.
 pub fn read(text: &[u8]) -> Backup
-    ensures { λ r. ⌜ r ≡ reading (now (text .entry)) ⌝ }
+    ensures { λ r. ⌜ r ≡ parsing (now (text .entry)) ⌝ }
 {
     if !reader::begins(text) {
         return reader::refused(paper::OTHER_HEADER, 1);

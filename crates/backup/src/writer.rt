@@ -6,8 +6,8 @@ ghost use lib.Seq.{sets};
 ghost use Rattle.settings.specs.Columns.{count, idAt};
 ghost use Rattle.rows.specs.Row.{rowOf, rowRoom};
 ghost use Rattle.backup.specs.Text.{places, linesFor};
-use rows::Written;
 use settings::COUNT;
+use wire::Written;
 
 // A setting's line at a place, and the place after it.
 fn put_line(out: &mut [u8], at: usize, index: usize, n: u16) -> usize
@@ -17,7 +17,7 @@ fn put_line(out: &mut [u8], at: usize, index: usize, n: u16) -> usize
     let id = settings::setting_at(index).id;
     let written = rows::write(id, n, &mut out[at..]);
     match written {
-        Written::Row(len) => at + len,
+        Written::Len(len) => at + len,
         Written::Refused(_) => at,
     }
 }

@@ -18,17 +18,17 @@ use Rattle.board.specs.Calls.{starting, storing, answering}
 use Rattle.board.specs.AsHeld.{whole}
 use Rattle.board.specs.declared.Board.{Board}
 use Rattle.board.specs.declared.Sample.{Sample}
-use Rattle.board.specs.declared.Judged.{Judged}
+use Rattle.board.specs.declared.Handed.{Handed}
 use Rattle.board.specs.declared.Answered.{Answered}
 use Rattle.board.proofs.Replying.{bounded}
 use Rattle.bench.specs.Calls.{begunBoard, running}
 use Rattle.bench.proofs.Streaming.{piece-is}
 
 -- a start and a store
-pub begun-is : (product version : ℕ) (serial : List ℕ) (given : Sample) {started stored : Judged}
+pub begun-is : (product version : ℕ) (serial : List ℕ) (given : Sample) {started stored : Handed}
     → started ≡ starting product version serial factory → stored ≡ storing (started .board) given → stored .board ≡ begunBoard product version serial given
 unfolding begunBoard
-begun-is product version serial given s t = ap (λ (j : Judged). j .board) (t ∙ ap (λ (j : Judged). storing (j .board) given) s)
+begun-is product version serial given s t = ap (λ (j : Handed). j .board) (t ∙ ap (λ (j : Handed). storing (j .board) given) s)
 
 -- readings as a call is handed them
 pub given-kept : (voltage current fine consumed charge : ℤ) → SFits w64 voltage → SFits w64 current → SFits w64 fine → SFits w64 consumed → SFits w64 charge

@@ -11,7 +11,7 @@ use lib.Seq.{drop-drop}
 use lib.Dec.{ltb}
 use Rattle.laws.specs.Promise.{Given, Gives, overlaid}
 use Rattle.laws.proofs.Lists.{take-min, drop-turn}
-use Rattle.wire.specs.Reading.{Ended, good, refused}
+use Rattle.wire.specs.Parsing.{Ended, good, refused}
 use Rattle.stream.specs.Stream.{Unfinished, outside, taken, framesFrom}
 use Rattle.stream.specs.Calls.{allowed, heldOf, unfinished, heardOf, unheard, hearing, eventOf, dataOfFirst}
 use Rattle.stream.specs.Laws.{frameIn, hears}

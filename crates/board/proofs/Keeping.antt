@@ -8,7 +8,7 @@ use lib.ListN.{length, take}
 use lib.Dec.{ltb}
 use Rattle.laws.specs.Promise.{Given}
 use Rattle.laws.proofs.Bools.{both}
-use Rattle.wire.specs.Reading.{Ended, good, refused}
+use Rattle.wire.specs.Parsing.{Ended, good, refused}
 use Rattle.stream.specs.Stream.{taken}
 use Rattle.stream.specs.Calls as stream
 use Rattle.stream.proofs.Reached.{heard-allowed}

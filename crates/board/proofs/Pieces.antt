@@ -10,7 +10,7 @@ use lib.Dec.{eqb}
 use Rattle.laws.specs.Promise.{Given, Gives, overlaid}
 use Rattle.laws.proofs.Promise.{gives-none, overlaid-front}
 use Rattle.laws.proofs.Bools.{and-left, and-right, both}
-use Rattle.wire.specs.Reading.{Ended, good, refused}
+use Rattle.wire.specs.Parsing.{Ended, good, refused}
 use Rattle.stream.specs.Stream.{taken}
 use Rattle.stream.specs.Calls as stream
 use Rattle.stream.specs.Laws.{Writables, whole}

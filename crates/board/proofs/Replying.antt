@@ -10,7 +10,7 @@ use lib.Seq.{take-length}
 use Rattle.laws.specs.Promise.{Given}
 use Rattle.wire.specs.Digits.{digit}
 use Rattle.wire.specs.Frame.{check, body, frame}
-use Rattle.wire.specs.Reading.{Ended, good, refused}
+use Rattle.wire.specs.Parsing.{Ended, good, refused}
 use Rattle.stream.specs.Stream.{outside, framesOf, leftBy, taken}
 use Rattle.stream.specs.Calls as stream
 use Rattle.wire.specs.Laws.{Writable}

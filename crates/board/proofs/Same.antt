@@ -9,7 +9,7 @@ use Rattle.laws.proofs.Promise.{equal-same, gives-same}
 use Rattle.tables.specs.declared.Table.{Table}
 use Rattle.board.specs.declared.Board.{Board}
 use Rattle.board.specs.declared.Sample.{Sample}
-use Rattle.board.specs.declared.Judged.{Judged}
+use Rattle.board.specs.declared.Handed.{Handed}
 use Rattle.board.specs.declared.Answered.{Answered}
 use Rattle.board.proofs.Board.start.Reads as start
 use Rattle.board.proofs.Board.start_factory.Reads as start-factory
@@ -17,7 +17,7 @@ use Rattle.board.proofs.Board.store.Reads as store
 use Rattle.board.proofs.Board.answer.Reads as answer
 use Rattle.board.proofs.Board.is_allowed.Reads as is-allowed
 
-module _ (κs : Lfts 1) (product version : ℕ) (serial : RefT (List ℕ)) (r r′ : Judged) where
+module _ (κs : Lfts 1) (product version : ℕ) (serial : RefT (List ℕ)) (r r′ : Handed) where
   pub start-same : (table : Table) → start.Post κs (product, (version, (serial, (table, tt)))) r (product, (version, (serial, (table, tt))))
       → start.Post κs (product, (version, (serial, (table, tt)))) r′ (product, (version, (serial, (table, tt)))) → r ≡ r′
   start-same table met met′ = equal-same met met′
@@ -26,7 +26,7 @@ module _ (κs : Lfts 1) (product version : ℕ) (serial : RefT (List ℕ)) (r r�
       → start-factory.Post κs (product, (version, (serial, tt))) r′ (product, (version, (serial, tt))) → r ≡ r′
   start-factory-same met met′ = equal-same met met′
 
-pub store-same : (board : Board) (given : Sample) (r r′ : Judged) → store.Post tt (board, (given, tt)) r (board, (given, tt))
+pub store-same : (board : Board) (given : Sample) (r r′ : Handed) → store.Post tt (board, (given, tt)) r (board, (given, tt))
     → store.Post tt (board, (given, tt)) r′ (board, (given, tt)) → r ≡ r′
 store-same board given r r′ met met′ = equal-same met met′
 

@@ -60,12 +60,12 @@ module _ (command : ℕ) (bytes : List ℕ) {out after : List ℕ} {r : Written}
   made : Gives Written (writtenAs (frame command bytes)) out r after
   made = rw (writing-made command bytes (length out) room nibble few) at g
 
-  pub put-made : (n : ℕ) → r ≡ Written.Frame n → Gives ℕ (whole (frame command bytes)) out n after
+  pub put-made : (n : ℕ) → r ≡ Written.Len n → Gives ℕ (whole (frame command bytes)) out n after
   put-made n e =
-      let is : Written.Frame n ≡ Written.Frame (length (frame command bytes)) = sym e ∙ made .answered in
+      let is : Written.Len n ≡ Written.Len (length (frame command bytes)) = sym e ∙ made .answered in
       record { answered = cc; left = made .left }
 
   pub put-unmade : {A : Type 0} (n : ℕ) → r ≡ Written.Refused n → A
   put-unmade n e =
-      let is : Written.Refused n ≡ Written.Frame (length (frame command bytes)) = sym e ∙ made .answered in
+      let is : Written.Refused n ≡ Written.Len (length (frame command bytes)) = sym e ∙ made .answered in
       let z : _≡_ {A = ℕ} 0 1 = cc in absurd (omega arith)

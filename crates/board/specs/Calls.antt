@@ -7,7 +7,7 @@ use lib.Dec.{ltb}
 use Rattle.laws.specs.Promise.{Given}
 use Rattle.paper.specs.Numbers.{frameRoom, shortBuffer, notAllowed}
 use Rattle.wire.specs.Frame.{frame}
-use Rattle.wire.specs.Reading.{Ended, good, refused}
+use Rattle.wire.specs.Parsing.{Ended, good, refused}
 use Rattle.stream.specs.Stream.{framesFrom, leftFrom, taken}
 use Rattle.stream.specs.Calls.{heldOf, unfinished}
 use Rattle.stream.specs.declared.Held.{Held}
@@ -21,21 +21,21 @@ use Rattle.who.specs.declared.Verdict.{Verdict}
 use Rattle.board.specs.Parts.{freshBoard, sampleFits, readingsOf, boardAllowed}
 use Rattle.board.specs.declared.Board.{Board}
 use Rattle.board.specs.declared.Sample.{Sample}
-use Rattle.board.specs.declared.Judged.{Judged}
+use Rattle.board.specs.declared.Handed.{Handed}
 use Rattle.board.specs.declared.Answered.{Answered}
 
 -- "A refused start (12) returns product and version 0, an empty serial and the factory table."
-unfoldable pub refusedStart : Judged
+unfoldable pub refusedStart : Handed
 refusedStart = record { board = freshBoard noIdentity factory; verdict = Verdict.Refused notAllowed }
 
-unfoldable pub starting : ℕ → ℕ → List ℕ → Table → Judged
+unfoldable pub starting : ℕ → ℕ → List ℕ → Table → Handed
 starting product version serial table =
     cond (serialFits serial && allowed table)
     (record { board = freshBoard (identityOf product version serial) table; verdict = Verdict.Accepted })
     refusedStart
 
 -- "The board program stores readings as whole numbers; one that does not fit its width is refused (12) and none of the five changes."
-unfoldable pub storing : Board → Sample → Judged
+unfoldable pub storing : Board → Sample → Handed
 storing board given =
     cond (boardAllowed board && sampleFits given)
     (record { board = record { core = withReadings (board .core) (readingsOf given); held = board .held }; verdict = Verdict.Accepted })

@@ -11,7 +11,7 @@ use Rattle.paper.specs.Numbers as paper
 use Rattle.laws.specs.Promise.{Given}
 use Rattle.paper.specs.Numbers.{frameRoom, mostSerial, getCode, setCode}
 use Rattle.wire.specs.Frame.{frame}
-use Rattle.wire.specs.Reading.{Ended, good}
+use Rattle.wire.specs.Parsing.{Ended, good}
 use Rattle.stream.specs.Stream.{outside, framesOf, leftBy}
 use Rattle.stream.specs.Calls.{mostHeld, heldOf}
 use Rattle.wire.specs.Laws.{Writable}
@@ -30,14 +30,14 @@ use Rattle.board.specs.Parts.{within, sampleFits, readingsOf, boardAllow
 use Rattle.board.specs.Calls.{starting, storing, endedIn, deciding, decidedBy, answering}
 use Rattle.board.specs.declared.Board.{Board}
 use Rattle.board.specs.declared.Sample.{Sample}
-use Rattle.board.specs.declared.Judged.{Judged}
+use Rattle.board.specs.declared.Handed.{Handed}
 use Rattle.board.specs.declared.Answered.{Answered}
 
 -- 1. Every start gives an allowed board, an accepted and a refused one; an accepted one holds what was asked for.
 abbrev pub StartIsAllowed : Type 0
 StartIsAllowed = (product version : ℕ) (serial : List ℕ) (table : Table) → boardAllowed (starting product version serial table .board) ≡ true
 
-pub record Started (product version : ℕ) (serial : List ℕ) (table : Table) (j : Judged) : Type 0 where
+pub record Started (product version : ℕ) (serial : List ℕ) (table : Table) (j : Handed) : Type 0 where
   pub accepted : j .verdict ≡ Verdict.Accepted
   pub product-is : j .board .core .identity .product ≡ product
   pub version-is : j .board .core .identity .version ≡ version

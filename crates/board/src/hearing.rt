@@ -47,7 +47,7 @@ fn put_reply(reply: Message, out: &mut [u8]) -> usize
     let len = reply.len;
     let written = wire::write_frame(reply.command, &bytes[..len], out);
     match written {
-        Written::Frame(n) => n,
+        Written::Len(n) => n,
         Written::Refused(_) => 0,
     }
 }

@@ -35,7 +35,7 @@ pub struct Board {
 }
 
 // A board, and what became of the request that gave it.
-pub struct Judged {
+pub struct Handed {
     pub board: Board,
     pub verdict: Verdict,
 }
@@ -51,7 +51,7 @@ pub struct Answered {
 impl Board {
     // Starts a board with an identity and a table: readings 0 and no frame. 12 for a serial that is too long or has a byte outside
     // 0x20..0x7E, or a table that is not allowed; then product and version 0, an empty serial and the factory table.
-    pub fn start(product: u16, version: u16, serial: &[u8], table: Table) -> Judged
+    pub fn start(product: u16, version: u16, serial: &[u8], table: Table) -> Handed
         ensures { λ r. ⌜ r ≡ starting product version (now (serial .entry)) table ⌝ }
     {
         if !table.is_allowed() {
@@ -61,7 +61,7 @@ impl Board {
         let identity = named.identity;
         let verdict = named.verdict;
         match verdict {
-            Verdict::Accepted => Judged {
+            Verdict::Accepted => Handed {
                 board: fresh(identity, table),
                 verdict: Verdict::Accepted,
             },
@@ -70,18 +70,18 @@ impl Board {
     }
 
     // Starts a board with the factory table.
-    pub fn start_factory(product: u16, version: u16, serial: &[u8]) -> Judged
+    pub fn start_factory(product: u16, version: u16, serial: &[u8]) -> Handed
         ensures { λ r. ⌜ r ≡ starting product version (now (serial .entry)) factory ⌝ }
     {
         Board::start(product, version, serial, Table::factory())
     }
 
     // Stores five readings, or none: 12 for a board that is not allowed, or a number that does not fit its width.
-    pub fn store(self, given: Sample) -> Judged
+    pub fn store(self, given: Sample) -> Handed
         ensures { λ r. ⌜ r ≡ storing self given ⌝ }
     {
         if !(self.is_allowed() & measured::fit(given)) {
-            return Judged {
+            return Handed {
                 board: self,
                 verdict: Verdict::Refused(paper::NOT_ALLOWED),
             };
@@ -89,7 +89,7 @@ impl Board {
         let mut core = self.core;
         let held = self.held;
         core.readings = measured::readings_of(given);
-        Judged {
+        Handed {
             board: Board { core, held },
             verdict: Verdict::Accepted,
         }
@@ -135,12 +135,12 @@ fn fresh(identity: Identity, table: Table) -> Board
 }
 
 // Refuses a start: product and version 0, an empty serial and the factory table.
-fn refused_start() -> Judged
+fn refused_start() -> Handed
     ensures { λ r. ⌜ r ≡ refusedStart ⌝ }
 {
     let named = Identity::named(0, 0, &[]);
     let identity = named.identity;
-    Judged {
+    Handed {
         board: fresh(identity, Table::factory()),
         verdict: Verdict::Refused(paper::NOT_ALLOWED),
     }

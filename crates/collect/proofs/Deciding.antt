@@ -11,7 +11,7 @@ use lib.ListN.{length, getD, drop, length-drop}
 use lib.Dec.{ltb}
 use Rattle.paper.specs.Numbers.{getCode}
 use Rattle.endian.specs.Numbers.{fromLittle}
-use Rattle.settings.specs.Columns.{count, ids, idAt, widths, widthAt, partners, partnerAt}
+use Rattle.settings.specs.Columns.{count, ids, idAt, widths, widthAt, partnerIds, partnerAt}
 use Rattle.settings.specs.Calls.{settingAt, placing, allowing}
 use Rattle.settings.specs.declared.Setting.{Setting}
 use Rattle.settings.specs.declared.Found.{Found}

@@ -7,7 +7,7 @@ use native.Mathlib.Omega.{arith}
 use lib.ListN.{length, take, drop, length-take, length-drop}
 use lib.Seq.{take-take, take-add}
 use Rattle.laws.proofs.Bools.{pick}
-use Rattle.wire.specs.Reading.{Ended, good, refused}
+use Rattle.wire.specs.Parsing.{Ended, good, refused}
 use Rattle.stream.specs.Stream.{Unfinished, outside, framesFrom, leftFrom, framesOf}
 use Rattle.stream.specs.Calls.{heldOf}
 use Rattle.stream.specs.declared.Held.{Held}
@@ -22,7 +22,7 @@ use Rattle.board.specs.Parts.{sampleFits, boardAllowed}
 use Rattle.board.specs.Calls.{starting, storing, answering}
 use Rattle.board.specs.declared.Board.{Board}
 use Rattle.board.specs.declared.Sample.{Sample}
-use Rattle.board.specs.declared.Judged.{Judged}
+use Rattle.board.specs.declared.Handed.{Handed}
 use Rattle.board.proofs.Theorems.{start-holds-it}
 use Rattle.demands.specs.Sets.{anySetting, makes, made}
 use Rattle.demands.specs.Talk.{Deed, stores, calls, Talk, talk, afterOne, afterAll, boardAt}
@@ -65,7 +65,7 @@ record Keeps (board after : Board) : Type 0 where
 stores-keeps : (board : Board) (given : Sample) → Keeps board (storing board given .board)
 unfolding storing
 stores-keeps board given =
-    pick (λ (j : Judged). Keeps board (j .board)) (boardAllowed board && sampleFits given)
+    pick (λ (j : Handed). Keeps board (j .board)) (boardAllowed board && sampleFits given)
     (record { table-same = refl; held-same = refl }) (record { table-same = refl; held-same = refl })
 
 -- a board whose line is where it is said to be

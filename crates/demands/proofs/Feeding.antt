@@ -12,7 +12,7 @@ use Rattle.laws.specs.Cutting as Cutting
 use Rattle.laws.specs.Cutting.{Step, Offer, ready}
 use Rattle.laws.proofs.Bools.{and-left, and-right}
 use Rattle.paper.specs.Numbers.{frameRoom, mostData}
-use Rattle.wire.specs.Reading.{Ended}
+use Rattle.wire.specs.Parsing.{Ended}
 use Rattle.stream.specs.Stream.{Unfinished, outside, framesOf, taken}
 use Rattle.stream.specs.Calls.{heldOf, unfinished}
 use Rattle.settings.specs.Columns.{count}

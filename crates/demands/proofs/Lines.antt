@@ -3,7 +3,7 @@ use mathlib.Core.Path.{refl}
 use Rattle.laws.specs.Promise.{overlaid, frontOf}
 use Rattle.wire.specs.Digits.{digit, nibble}
 use Rattle.wire.specs.Frame.{check, body, frame}
-use Rattle.wire.specs.Reading.{bodySays}
+use Rattle.wire.specs.Parsing.{bodySays}
 use Rattle.stream.specs.Stream.{taken}
 use Rattle.stream.specs.Calls.{noChars, heldOf, unfinished}
 use Rattle.stream.specs.Calls as stream

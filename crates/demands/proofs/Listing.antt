@@ -9,7 +9,7 @@ use lib.Dec.{ltb}
 use Rattle.laws.specs.Lists.{every}
 use Rattle.laws.proofs.Bools.{and-left, and-right}
 use Rattle.endian.specs.Numbers.{little}
-use Rattle.wire.specs.Reading.{Ended, good}
+use Rattle.wire.specs.Parsing.{Ended, good}
 use Rattle.stream.specs.Stream.{outside, framesOf, leftBy}
 use Rattle.wire.specs.Laws.{Writable}
 use Rattle.stream.proofs.Theorems.{written-is-heard}

@@ -9,7 +9,7 @@ use lib.ListN.{length, take, getD}
 use lib.Seq.{take-all}
 use lib.Dec.{eqb, leb, ltb}
 use Rattle.endian.specs.Numbers.{fromLittle}
-use Rattle.wire.specs.Reading.{Ended, good, refused}
+use Rattle.wire.specs.Parsing.{Ended, good, refused}
 use Rattle.stream.specs.Stream.{Unfinished, framesFrom, firstEnd, taken}
 use Rattle.stream.proofs.Theorems.{first-end-is-first}
 use Rattle.settings.specs.Columns.{count, widthAt}

@@ -11,7 +11,7 @@ use Rattle.laws.specs.Promise.{overlaid, frontOf, Given}
 use Rattle.wire.specs.Digits.{digit, nibble}
 use Rattle.wire.specs.Frame.{check, body, frame}
 use Rattle.endian.specs.Numbers.{little}
-use Rattle.wire.specs.Reading.{bodySays}
+use Rattle.wire.specs.Parsing.{bodySays}
 use Rattle.stream.specs.Stream.{outside, taken}
 use Rattle.stream.specs.Calls.{noChars, heldOf, unfinished}
 use Rattle.stream.specs.declared.Heard.{Heard}

@@ -10,7 +10,7 @@ use lib.Dec.{ltb}
 use Rattle.laws.specs.Promise.{Given}
 use Rattle.laws.specs.Cutting.{Step, Offer, calls}
 use Rattle.laws.proofs.Cutting as cutting
-use Rattle.wire.specs.Reading.{Ended}
+use Rattle.wire.specs.Parsing.{Ended}
 use Rattle.stream.specs.Stream.{Unfinished, framesFrom, leftFrom, taken}
 use Rattle.stream.specs.Calls.{heldOf}
 use Rattle.stream.specs.declared.Held.{Held}

@@ -13,7 +13,7 @@ use Rattle.laws.proofs.Bools.{pick, and-left, and-right, both}
 use Rattle.laws.proofs.Lists.{upTo-at}
 use Rattle.wire.specs.Frame.{frame}
 use Rattle.endian.specs.Numbers.{little, fromLittle}
-use Rattle.wire.specs.Reading.{Ended, good, refused}
+use Rattle.wire.specs.Parsing.{Ended, good, refused}
 use Rattle.stream.specs.Stream.{taken}
 use Rattle.stream.specs.Calls.{unfinished}
 use Rattle.stream.specs.Laws.{Writables, whole}

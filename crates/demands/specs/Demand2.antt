@@ -13,7 +13,7 @@ use Rattle.laws.specs.Cutting.{Offer, ready}
 use Rattle.paper.specs.Numbers.{mostNibble, mostData, getCode, setCode}
 use Rattle.wire.specs.Frame.{frame}
 use Rattle.endian.specs.Numbers.{little, fromLittle}
-use Rattle.wire.specs.Reading.{good}
+use Rattle.wire.specs.Parsing.{good}
 use Rattle.stream.specs.Stream.{outside, framesOf}
 use Rattle.stream.specs.Calls.{heldOf}
 use Rattle.stream.specs.declared.Held.{Held}
@@ -26,7 +26,7 @@ use Rattle.answers.specs.declared.Core.{Core}
 use Rattle.board.specs.Calls.{endedIn, deciding}
 use Rattle.listen.specs.Hearing.{boxHears}
 use Rattle.reply.specs.Replies.{flagOf, rest}
-use Rattle.reply.specs.Calls.{reading}
+use Rattle.reply.specs.Calls.{parsing}
 use Rattle.reply.specs.declared.Status.{Status}
 use Rattle.reply.specs.declared.Reply.{Reply}
 use Rattle.follow.specs.Laws as follow
@@ -53,13 +53,13 @@ ReadIsWritten = wire.ReadIsWritten
 -- two bytes in every value of the type.)
 pub data Understood : Sent → Type 0 where
   no-reply : Understood silent
-  as-error : reading paper.errorCode (0xAA ∷ 0xAA ∷ []) ≡ Reply.Error 0xAAAA → Understood error
-  as-done : (bytes : List ℕ) → reading paper.doneCode bytes ≡ Reply.Done → Understood (sent paper.doneCode bytes)
-  as-unknown : (command : ℕ) → reading paper.unknownCode (command ∷ []) ≡ Reply.Unknown command → Understood (sent paper.unknownCode (command ∷ []))
-  as-ping : (version : ℕ) → reading paper.pongCode (little 2 version) ≡ Reply.Ping version → Understood (sent paper.pongCode (little 2 version))
-  as-get : (status : Status) (id : ℕ) (value : List ℕ) → reading paper.getCode (said id (flagOf status) value) ≡ Reply.Get status id
+  as-error : parsing paper.errorCode (0xAA ∷ 0xAA ∷ []) ≡ Reply.Error 0xAAAA → Understood error
+  as-done : (bytes : List ℕ) → parsing paper.doneCode bytes ≡ Reply.Done → Understood (sent paper.doneCode bytes)
+  as-unknown : (command : ℕ) → parsing paper.unknownCode (command ∷ []) ≡ Reply.Unknown command → Understood (sent paper.unknownCode (command ∷ []))
+  as-ping : (version : ℕ) → parsing paper.pongCode (little 2 version) ≡ Reply.Ping version → Understood (sent paper.pongCode (little 2 version))
+  as-get : (status : Status) (id : ℕ) (value : List ℕ) → parsing paper.getCode (said id (flagOf status) value) ≡ Reply.Get status id
       → rest (said id (flagOf status) value) ≡ value → Understood (sent paper.getCode (said id (flagOf status) value))
-  as-set : (status : Status) (id : ℕ) (value : List ℕ) → reading paper.setCode (said id (flagOf status) value) ≡ Reply.Set status id
+  as-set : (status : Status) (id : ℕ) (value : List ℕ) → parsing paper.setCode (said id (flagOf status) value) ≡ Reply.Set status id
       → rest (said id (flagOf status) value) ≡ value → Understood (sent paper.setCode (said id (flagOf status) value))
 
 abbrev pub RepliesAreUnderstood : Type 0

@@ -11,7 +11,7 @@ use Rattle.laws.specs.Promise.{Given}
 use Rattle.laws.specs.Cutting as Cutting
 use Rattle.laws.specs.Cutting.{Offer, ready}
 use Rattle.paper.specs.Numbers.{mostData, frameRoom}
-use Rattle.wire.specs.Reading.{Ended, good, refused}
+use Rattle.wire.specs.Parsing.{Ended, good, refused}
 use Rattle.stream.specs.Stream.{Unfinished, outside, framesFrom, leftFrom, framesOf}
 use Rattle.stream.specs.Calls.{heldOf}
 use Rattle.settings.specs.Columns.{count, roleAt}

@@ -7,7 +7,7 @@ use lib.ListN.{length, take, drop, getD}
 use lib.Dec.{eqb, leb, ltb}
 use Rattle.paper.specs.Numbers as paper
 use Rattle.endian.specs.Numbers.{fromLittle}
-use Rattle.wire.specs.Reading.{Ended, good, refused}
+use Rattle.wire.specs.Parsing.{Ended, good, refused}
 use Rattle.settings.specs.Columns.{count, widthAt, roleAt, placeOf}
 use Rattle.settings.specs.Rules.{inRange, agrees}
 use Rattle.tables.specs.Rules.{partnerNumber, changed}

@@ -9,7 +9,7 @@ use Rattle.paper.specs.Numbers.{shortBuffer, notAllowed}
 use Rattle.laws.specs.Promise.{Given}
 use Rattle.answers.specs.declared.Core.{Core}
 use Rattle.answers.specs.declared.Outcome.{Outcome}
-use Rattle.wire.specs.Reading.{Ended}
+use Rattle.wire.specs.Parsing.{Ended}
 use Rattle.stream.specs.Stream.{Unfinished}
 use Rattle.stream.specs.Calls.{heldOf}
 use Rattle.board.specs.Calls.{replyBytes, deciding, storing, answering}

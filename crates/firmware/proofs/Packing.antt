@@ -12,8 +12,8 @@ use Rattle.laws.specs.Lists.{every}
 use Rattle.wire.specs.Digits.{isDigit}
 use Rattle.paper.specs.Numbers.{mostChars, shortBuffer, notAllowed}
 use Rattle.wire.specs.Frame.{frame}
-use Rattle.wire.specs.Reading.{Ended, good, refused, bodySays, badCount, sumsUp, commandOf, dataOf}
-use Rattle.wire.specs.Calls.{writing, writtenAs, unwritten, reading, readAs, wholeSays, wellEnclosed, between}
+use Rattle.wire.specs.Parsing.{Ended, good, refused, bodySays, badCount, sumsUp, commandOf, dataOf}
+use Rattle.wire.specs.Calls.{writing, writtenAs, unwritten, parsing, readAs, wholeSays, wellEnclosed, between}
 use Rattle.wire.specs.declared.Written.{Written}
 use Rattle.wire.specs.declared.Read.{Read}
 use Rattle.wire.proofs.Frames.{length-frame}
@@ -33,7 +33,7 @@ packs f r n l is met = record { answered = is ∙ ap f (met .answered); left = m
 
 -- what the writer answers fits in its half: a frame has 75 bytes at most, and a refusal has a number
 abbrev pub WrittenFits : Written → Type 0
-WrittenFits (Written.Frame len) = len ≤ 75
+WrittenFits (Written.Len len) = len ≤ 75
 WrittenFits (Written.Refused number) = 1 ≤ number
 
 pub written-fits : (command : ℕ) (bytes : List ℕ) (room : ℕ) → WrittenFits (writing command bytes room .answer)
@@ -47,7 +47,7 @@ written-fits command bytes room = by (ltb room 75) (ltb 15 command) (ltb 35 (len
     by false false true h = omega arith
     by false false false h = rw (length-frame command bytes) (omega (arith, ltb-false 35 (length bytes) h))
 
-pub frame-short : (command : ℕ) (bytes : List ℕ) (room : ℕ) {len : ℕ} {buffer l : List ℕ} {r : Written} → Gives Written (writing command bytes room) buffer r l → r ≡ Written.Frame len → len ≤ 75
+pub frame-short : (command : ℕ) (bytes : List ℕ) (room : ℕ) {len : ℕ} {buffer l : List ℕ} {r : Written} → Gives Written (writing command bytes room) buffer r l → r ≡ Written.Len len → len ≤ 75
 frame-short command bytes room met e = subst WrittenFits (sym (met .answered) ∙ e) (written-fits command bytes room)
 
 -- and so does what the reader answers
@@ -75,7 +75,7 @@ body-numbered chars = by (ltb mostChars (length chars)) (not (every isDigit char
 -- what is refused is not written; and a frame that is written has its command and data within what the writer takes
 never : {A : Type 0} {number : ℕ} {slice : List ℕ} → unwritten number ≡ writtenAs slice → A
 never {number = number} {slice = slice} e =
-    let is : Written.Refused number ≡ Written.Frame (length slice) = ap (λ (g : Given Written). g .answer) e in
+    let is : Written.Refused number ≡ Written.Len (length slice) = ap (λ (g : Given Written). g .answer) e in
     let z : _≡_ {A = ℕ} 0 1 = cc in absurd (omega arith)
 
 takes : (command : ℕ) (bytes slice : List ℕ) → writing command bytes 75 ≡ writtenAs slice → (command ≤ 15) × (length bytes ≤ 35)
@@ -88,12 +88,12 @@ takes command bytes slice = by (ltb 15 command) (ltb 35 (length bytes)) refl ref
     by true long p q e = never e
     by false true p q e = never e
 
-ended-fits : (slice : List ℕ) (room : ℕ) (e : Ended) → reading slice room ≡ readAs e → Numbered e → ReadFits (readAs e .answer)
+ended-fits : (slice : List ℕ) (room : ℕ) (e : Ended) → parsing slice room ≡ readAs e → Numbered e → ReadFits (readAs e .answer)
 ended-fits slice room (good command bytes) is some = takes command bytes slice (read-is-written slice room command bytes is 75 (leb-true 75 75 refl))
 ended-fits slice room (refused number) is some = some
 
-pub read-fits : (slice : List ℕ) (room : ℕ) → ReadFits (reading slice room .answer)
-unfolding reading wholeSays
+pub read-fits : (slice : List ℕ) (room : ℕ) → ReadFits (parsing slice room .answer)
+unfolding parsing wholeSays
 read-fits slice room = by (ltb room 35) (wellEnclosed slice) refl refl
   where
     by : (short enclosed : Bool) → ltb room 35 ≡ short → wellEnclosed slice ≡ enclosed
@@ -102,7 +102,7 @@ read-fits slice room = by (ltb room 35) (wellEnclosed slice) refl refl
     by false false p q = omega arith
     by false true p q = ended-fits slice room (bodySays (between slice)) (rw (p, q)) (body-numbered (between slice))
 
-pub frame-small : (slice : List ℕ) (room : ℕ) {command len : ℕ} {buffer l : List ℕ} {r : Read} → Gives Read (reading slice room) buffer r l → r ≡ Read.Frame command len → (command ≤ 15) × (len ≤ 35)
+pub frame-small : (slice : List ℕ) (room : ℕ) {command len : ℕ} {buffer l : List ℕ} {r : Read} → Gives Read (parsing slice room) buffer r l → r ≡ Read.Frame command len → (command ≤ 15) × (len ≤ 35)
 frame-small slice room met e = subst ReadFits (sym (met .answered) ∙ e) (read-fits slice room)
 
 -- the nearest number is one of 16 bits
@@ -152,7 +152,7 @@ some number h = ne-eqb number 0 (λ e. let z : number ≡ 0 = e in absurd (omega
 -- taken apart, each answer is the one that was packed
 written-from : (w : Written) → WrittenFits w → writtenFrom (writtenPacked w) ≡ w
 unfolding writtenPacked
-written-from (Written.Frame len) fits = rw (low len (omega arith), rest len (omega arith))
+written-from (Written.Len len) fits = rw (low len (omega arith), rest len (omega arith))
 written-from (Written.Refused number) fits = rw (high number, some number fits)
 
 pub written-back : WrittenComesBack
@@ -165,7 +165,7 @@ read-from (Read.Frame command len) fits =
 read-from (Read.Refused number) fits = rw (high number, some number fits)
 
 pub read-back : ReadComesBack
-read-back slice room = read-from (reading slice room .answer) (read-fits slice room)
+read-back slice room = read-from (parsing slice room .answer) (read-fits slice room)
 
 number-from : (n : Number) → NumberFits n → numberFrom (numberPacked n) ≡ n
 unfolding numberPacked

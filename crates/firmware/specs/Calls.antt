@@ -14,7 +14,7 @@ refusalPacked number = half * number
 
 -- a frame written: its length
 unfoldable pub writtenPacked : Written → ℕ
-writtenPacked (Written.Frame len) = len
+writtenPacked (Written.Len len) = len
 writtenPacked (Written.Refused number) = refusalPacked number
 
 -- a frame read: its command above the count of its data bytes

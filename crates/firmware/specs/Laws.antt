@@ -4,7 +4,7 @@ use mathlib.Core.Path.{_≡_}
 use mathlib.Core.Bool.{cond}
 use mathlib.Core.List.{List}
 use lib.Dec.{eqb}
-use Rattle.wire.specs.Calls.{writing, reading}
+use Rattle.wire.specs.Calls.{writing, parsing}
 use Rattle.wire.specs.declared.Written.{Written}
 use Rattle.wire.specs.declared.Read.{Read}
 use Rattle.settings.specs.Calls.{nearing}
@@ -13,7 +13,7 @@ use Rattle.firmware.specs.Calls.{half, writtenPacked, readPacked, number
 
 -- An integer taken apart, as the C header does it: no refusal where the high half is 0.
 abbrev pub writtenFrom : ℕ → Written
-writtenFrom n = cond (eqb (n / half) 0) (Written.Frame (n % half)) (Written.Refused (n / half))
+writtenFrom n = cond (eqb (n / half) 0) (Written.Len (n % half)) (Written.Refused (n / half))
 
 abbrev pub readFrom : ℕ → Read
 readFrom n = cond (eqb (n / half) 0) (Read.Frame (n % half / 256) (n % 256)) (Read.Refused (n / half))
@@ -26,7 +26,7 @@ abbrev pub WrittenComesBack : Type 0
 WrittenComesBack = (command : ℕ) (bytes : List ℕ) (room : ℕ) → writtenFrom (writtenPacked (writing command bytes room .answer)) ≡ writing command bytes room .answer
 
 abbrev pub ReadComesBack : Type 0
-ReadComesBack = (slice : List ℕ) (room : ℕ) → readFrom (readPacked (reading slice room .answer)) ≡ reading slice room .answer
+ReadComesBack = (slice : List ℕ) (room : ℕ) → readFrom (readPacked (parsing slice room .answer)) ≡ parsing slice room .answer
 
 abbrev pub NumberComesBack : Type 0
 NumberComesBack = (id wished partner : ℕ) → wished < 2 ^ 16 → numberFrom (numberPacked (nearing id wished partner)) ≡ nearing id wished partner

@@ -4,7 +4,7 @@ ghost use mathlib.Core.Path.{_≡_};
 ghost use Prim.Native.Nat.{ℕ};
 ghost use lib.ListN.{length};
 ghost use Rattle.laws.specs.Promise.{Gives};
-ghost use Rattle.wire.specs.Calls.{writing, reading};
+ghost use Rattle.wire.specs.Calls.{writing, parsing};
 ghost use Rattle.settings.specs.Calls.{nearing};
 ghost use Rattle.firmware.specs.Calls.{refusalPacked, writtenPacked, readPacked, numberPacked, packed};
 use settings::Number;
@@ -25,7 +25,7 @@ pub extern "C" fn reedsatchel_write_frame(command: u8, bytes: &[u8], out: &mut [
 {
     let written = wire::write_frame(command, bytes, out);
     match written {
-        Written::Frame(len) => len as u32,
+        Written::Len(len) => len as u32,
         Written::Refused(number) => refused(number),
     }
 }
@@ -34,7 +34,7 @@ pub extern "C" fn reedsatchel_write_frame(command: u8, bytes: &[u8], out: &mut [
 // the count of data bytes. Refuses 11 under 35 bytes of room, then 2 for a slice not so enclosed, then 1 to 4 on the characters between.
 #[no_mangle]
 pub extern "C" fn reedsatchel_read_frame(frame: &[u8], into: &mut [u8]) -> u32
-    ensures { λ r. ⌜ Gives ℕ (packed readPacked (reading (now (frame .entry)) (length (now (into .entry))))) (now (into .entry)) r (now (into .exit)) ⌝ }
+    ensures { λ r. ⌜ Gives ℕ (packed readPacked (parsing (now (frame .entry)) (length (now (into .entry))))) (now (into .entry)) r (now (into .exit)) ⌝ }
 {
     let read = wire::read_frame(frame, into);
     match read {

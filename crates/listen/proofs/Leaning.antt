@@ -9,7 +9,7 @@ use lib.ListN.{length, take}
 use lib.Seq.{take-all}
 use lib.Dec.{ltb, leb, eqb}
 use Rattle.laws.specs.Promise.{Given}
-use Rattle.wire.specs.Reading.{Ended, good, refused}
+use Rattle.wire.specs.Parsing.{Ended, good, refused}
 use Rattle.stream.specs.Stream.{framesFrom, taken}
 use Rattle.stream.specs.Calls.{allowed, unfinished, eventOf, dataOfFirst}
 use Rattle.wire.specs.Laws.{Writable}

@@ -11,7 +11,7 @@ use lib.Dec.{ltb, leb}
 use Rattle.laws.specs.Promise.{Given}
 use Rattle.laws.specs.Cutting.{Step, Offer, calls, ready}
 use Rattle.laws.proofs.Bools.{both}
-use Rattle.wire.specs.Reading.{Ended}
+use Rattle.wire.specs.Parsing.{Ended}
 use Rattle.stream.specs.Stream.{leftBy}
 use Rattle.stream.specs.Calls.{allowed, heldOf}
 use Rattle.stream.specs.Laws.{frameIn}

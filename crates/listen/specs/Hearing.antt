@@ -4,7 +4,7 @@ use Prim.Native.Nat.{ℕ}
 use mathlib.Core.List.{List}
 use Rattle.laws.specs.Promise.{Given}
 use Rattle.laws.specs.Cutting.{Step}
-use Rattle.wire.specs.Reading.{Ended}
+use Rattle.wire.specs.Parsing.{Ended}
 use Rattle.stream.specs.Calls.{hearing}
 use Rattle.stream.specs.Laws.{stepOf}
 use Rattle.stream.specs.declared.Held.{Held}

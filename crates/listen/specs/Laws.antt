@@ -8,7 +8,7 @@ use lib.ListN.{length, take}
 use lib.Dec.{leb, eqb}
 use Rattle.laws.specs.Cutting.{Step, Offer, calls, ready}
 use Rattle.paper.specs.Numbers.{mostData}
-use Rattle.wire.specs.Reading.{Ended, good, refused}
+use Rattle.wire.specs.Parsing.{Ended, good, refused}
 use Rattle.stream.specs.Stream.{framesFrom, leftBy}
 use Rattle.stream.specs.Calls.{allowed, heldOf, unfinished}
 use Rattle.wire.specs.Laws.{Writable}

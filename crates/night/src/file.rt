@@ -3,9 +3,9 @@ ghost use Rattle.io.specs.Counts.{Counts};
 use crate::words;
 use backup::Backup;
 use backup::Checked;
-use backup::Written;
 use sentences::Kept;
 use tables::Table;
+use wire::Written;
 
 // What a temporary file's name has after the file's own.
 const MARK: usize = 7;
@@ -159,7 +159,7 @@ pub(crate) fn keep(path: &[u8], table: Table) -> Kept {
     let mut text = [0u8; paper::TEXT_ROOM];
     let written = backup::write(table, &mut text);
     match written {
-        Written::Text(len) => replace_front(path, &text, len),
+        Written::Len(len) => replace_front(path, &text, len),
         Written::Refused(_) => Kept::Not,
     }
 }

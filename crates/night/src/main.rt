@@ -12,16 +12,16 @@
 //
 // LINE is a device, or - for standard input and output; the report then goes to standard error.
 mod checks;
+mod collecting;
 mod ear;
 mod file;
-mod line;
 mod names;
 mod putback;
-mod reading;
 mod restoring;
 mod rows;
 mod said;
 mod save;
+mod serial;
 mod show;
 mod talk;
 mod viewing;

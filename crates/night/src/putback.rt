@@ -1,22 +1,22 @@
 // `night restore LINE FILE`.
 use crate::checks;
+use crate::collecting;
 use crate::file;
-use crate::line;
-use crate::line::Ends;
-use crate::reading;
 use crate::restoring;
+use crate::serial;
+use crate::serial::Ends;
 use crate::words;
 use collect::Stage;
 use tables::Table;
 
 // Opens the line first: where the two words are swapped, the device is not read as a file.
 pub(crate) fn run() {
-    let ends = line::first();
+    let ends = serial::first();
     if !ends.open {
         return;
     }
     put_back(ends);
-    line::close(ends);
+    serial::close(ends);
 }
 
 // Reads the file, reads the board, shows the list, sends it and follows it.
@@ -41,13 +41,13 @@ fn put_back(ends: Ends) {
 // Reads the board, and goes on if all its settings were answered.
 fn restore(ends: Ends, to: Table) {
     words::say(ends.report, b"reading the board");
-    let collected = reading::settings_of(ends, false);
+    let collected = collecting::settings_of(ends, false);
     let stage = collected.stage;
     match stage {
         Stage::Done => send(ends, collected.table, to),
-        Stage::Waiting(_) => reading::tell_end(ends.report, collected),
-        Stage::Stopped(_) => reading::tell_end(ends.report, collected),
-        Stage::Refused(_) => reading::tell_end(ends.report, collected),
+        Stage::Waiting(_) => collecting::tell_end(ends.report, collected),
+        Stage::Stopped(_) => collecting::tell_end(ends.report, collected),
+        Stage::Refused(_) => collecting::tell_end(ends.report, collected),
     }
 }
 

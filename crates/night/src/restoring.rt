@@ -1,8 +1,8 @@
 // The follower in a talk: a restore, one Set at a time, each shown when the board has confirmed it.
 use crate::ear;
-use crate::line::Ends;
 use crate::names;
 use crate::said;
+use crate::serial::Ends;
 use crate::talk;
 use crate::talk::Talk;
 use crate::talk::Turn;

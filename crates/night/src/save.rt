@@ -1,7 +1,7 @@
 // `night save LINE FILE`.
+use crate::collecting;
 use crate::file;
-use crate::line;
-use crate::reading;
+use crate::serial;
 use crate::words;
 use collect::Collected;
 use collect::Collector;
@@ -10,14 +10,14 @@ use sentences::Kept;
 
 // Reads all settings, and writes the file once all were answered.
 pub(crate) fn run() {
-    let ends = line::first();
+    let ends = serial::first();
     if !ends.open {
         unsaved(ends.report);
         return;
     }
-    let collected = reading::settings_of(ends, true);
-    line::close(ends);
-    reading::tell_end(ends.report, collected);
+    let collected = collecting::settings_of(ends, true);
+    serial::close(ends);
+    collecting::tell_end(ends.report, collected);
     kept(ends.report, collected);
 }
 

@@ -1,16 +1,16 @@
 // `night show LINE`.
-use crate::line;
+use crate::serial;
 use crate::talk;
 use crate::words;
 
 // Who the board is, and its readings. By the last line a show that broke off can be told from one that ended.
 pub(crate) fn run() {
-    let ends = line::first();
+    let ends = serial::first();
     if !ends.open {
         return;
     }
     let talk = talk::whole(ends, talk::viewing(), true);
-    line::close(ends);
+    serial::close(ends);
     if talk.silent {
         words::say(ends.report, b"no answer: look at the line and its plug");
     }

@@ -1,10 +1,10 @@
 // A talk with a board over a line: requests go out one at a time, and what comes back is told to the machine that asks. Three machines ask:
 // the collector reads the settings, the follower follows a restore, the viewer looks at the read-only values. One talk serves all three.
+use crate::collecting;
 use crate::ear;
 use crate::ear::News;
-use crate::line::Ends;
-use crate::reading;
 use crate::restoring;
+use crate::serial::Ends;
 use crate::viewing;
 use crate::words;
 use collect::Collected;
@@ -67,7 +67,7 @@ fn at_rest() -> Followed {
 }
 
 // Reads all settings.
-pub(crate) fn reading() -> Talk {
+pub(crate) fn collecting() -> Talk {
     begun(Asker::Collector, at_rest())
 }
 
@@ -85,7 +85,7 @@ pub(crate) fn viewing() -> Talk {
 fn due(talk: Talk) -> Turn {
     let asker = talk.asker;
     match asker {
-        Asker::Collector => reading::due(talk.collected),
+        Asker::Collector => collecting::due(talk.collected),
         Asker::Follower => restoring::due(talk.followed),
         Asker::Viewer => viewing::due(talk.viewed, talk.silent),
     }
@@ -95,7 +95,7 @@ fn due(talk: Talk) -> Turn {
 fn answered(talk: Talk) -> usize {
     let asker = talk.asker;
     match asker {
-        Asker::Collector => reading::answered(talk.collected),
+        Asker::Collector => collecting::answered(talk.collected),
         Asker::Follower => restoring::answered(talk.followed),
         Asker::Viewer => viewing::answered(talk.viewed),
     }
@@ -117,7 +117,7 @@ fn waits(talk: Talk, before: usize) -> bool {
 // The frame that was written goes out.
 fn put(output: i32, frame: &[u8], written: Written) {
     match written {
-        Written::Frame(len) => {
+        Written::Len(len) => {
             words::put(output, frame, len);
         }
         Written::Refused(_) => {}
@@ -181,7 +181,7 @@ fn heard(talk: Talk, news: News) -> Talk {
     let viewed = talk.viewed;
     match asker {
         Asker::Collector => {
-            let next = reading::told_to(collected, told, &data);
+            let next = collecting::told_to(collected, told, &data);
             moved(talk, news, next, followed, viewed)
         }
         Asker::Follower => {
@@ -257,7 +257,7 @@ fn show(report: i32, before: Talk, after: Talk) {
     let asker = after.asker;
     let said = after.said;
     match asker {
-        Asker::Collector => reading::show(report, before.collected, after.collected),
+        Asker::Collector => collecting::show(report, before.collected, after.collected),
         Asker::Follower => restoring::show(report, before.followed, after.followed),
         Asker::Viewer => viewing::show(report, before.viewed, said, after.len),
     }

@@ -22,7 +22,7 @@ pub(crate) fn due(viewed: Viewed, silent: bool) -> Turn {
 
 pub(crate) fn answered(viewed: Viewed) -> usize {
     let viewer = viewed.viewer;
-    viewer.asked
+    viewer.answered
 }
 
 // A frame, of which the data are the front of a buffer.

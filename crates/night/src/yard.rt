@@ -1,12 +1,12 @@
 // `night yard LIST`: each trailer in turn, a line each, and the sums at the end.
 use crate::checks;
+use crate::collecting;
 use crate::file;
-use crate::line;
-use crate::line::Ends;
-use crate::reading;
 use crate::restoring;
 use crate::rows;
 use crate::rows::State;
+use crate::serial;
+use crate::serial::Ends;
 use crate::words;
 use collect::Collected;
 use collect::Stage;
@@ -110,7 +110,7 @@ fn trailer(tally: Tally, name: &[u8], path: &[u8], kept: &[u8]) -> Tally {
     if check::same(path, b"-") {
         return not_begun(tally, name, b"not begun: in a yard a line is a device");
     }
-    let ends = line::open(path);
+    let ends = serial::open(path);
     if ends.file {
         return not_begun(tally, name, b"not begun: its line is a file and no line");
     }
@@ -118,7 +118,7 @@ fn trailer(tally: Tally, name: &[u8], path: &[u8], kept: &[u8]) -> Tally {
         return not_begun(tally, name, b"not begun: its line cannot be opened");
     }
     let after = begun(tally, name, ends, kept);
-    line::close(ends);
+    serial::close(ends);
     after
 }
 
@@ -141,7 +141,7 @@ fn begun(tally: Tally, name: &[u8], ends: Ends, kept: &[u8]) -> Tally {
 
 // Reads the board, and restores it if all its settings were answered.
 fn restore(tally: Tally, name: &[u8], ends: Ends, to: Table) -> Tally {
-    let collected = reading::settings_of(ends, false);
+    let collected = collecting::settings_of(ends, false);
     let stage = collected.stage;
     match stage {
         Stage::Done => follow(tally, name, ends, collected.table, to),
@@ -154,7 +154,7 @@ fn restore(tally: Tally, name: &[u8], ends: Ends, to: Table) -> Tally {
 // A board that did not give all its settings.
 fn silent(tally: Tally, name: &[u8], collected: Collected) -> Tally {
     words::name(OUT, name);
-    reading::tell_end(OUT, collected);
+    collecting::tell_end(OUT, collected);
     sums_with(name, tally.silent())
 }
 

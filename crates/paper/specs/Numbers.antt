@@ -86,8 +86,8 @@ abbrev pub mostNibble : ℕ
 mostNibble = 15
 
 -- "Command, data bytes and check sum to 0x55 modulo 256."
-abbrev pub total : ℕ
-total = 0x55
+abbrev pub frameTotal : ℕ
+frameTotal = 0x55
 
 -- "Data are 0 to 35 bytes, so at most 73 characters stand between colon and newline (*ours*)."
 abbrev pub mostData : ℕ

@@ -11,7 +11,7 @@ use lib.Dec.{ltb}
 use Rattle.laws.specs.Promise.{Given}
 use Rattle.laws.proofs.Bools.{and-left, and-right}
 use Rattle.wire.specs.Frame.{frame}
-use Rattle.wire.specs.Reading.{Ended, good}
+use Rattle.wire.specs.Parsing.{Ended, good}
 use Rattle.stream.specs.Stream.{Unfinished, outside, framesFrom, leftFrom, framesOf, taken}
 use Rattle.stream.specs.Calls as stream
 use Rattle.stream.specs.Calls.{heldOf}

@@ -11,7 +11,7 @@ use Rattle.laws.specs.Promise.{Given, Gives, overlaid}
 use Rattle.laws.proofs.Promise.{overlaid-front}
 use Rattle.laws.proofs.Bools.{and-left, and-right}
 use Rattle.laws.proofs.Lists.{take-min}
-use Rattle.wire.specs.Reading.{Ended, good, refused}
+use Rattle.wire.specs.Parsing.{Ended, good, refused}
 use Rattle.stream.specs.Stream.{outside, taken}
 use Rattle.stream.specs.Calls as stream
 use Rattle.stream.specs.Laws.{Writables, whole}

@@ -9,7 +9,7 @@ use Rattle.endian.specs.Numbers.{little, fromLittle}
 use Rattle.endian.proofs.Theorems.{little-is-read}
 use Rattle.answers.specs.Answers.{said}
 use Rattle.reply.specs.Replies.{flagOf, fronted, front, telling, naming, numbering}
-use Rattle.reply.specs.Calls.{reading}
+use Rattle.reply.specs.Calls.{parsing}
 use Rattle.reply.specs.Laws.{SaidIsRead, DoneIsRead, UnknownIsRead, ErrorIsRead, PingIsRead}
 use Rattle.reply.specs.declared.Status.{Status}
 use Rattle.reply.specs.declared.Reply.{Reply}
@@ -32,7 +32,7 @@ told-back kind status id value h =
     rw (le-ltb _ 3 long, number, flag-back status id)
 
 pub said-read : SaidIsRead
-unfolding reading
+unfolding parsing
 said-read status id value h =
     record {
       get-heard = told-back Reply.Get status id value h;
@@ -42,17 +42,17 @@ said-read status id value h =
     }
 
 pub done-read : DoneIsRead
-unfolding reading
+unfolding parsing
 done-read bytes = refl
 
 pub unknown-read : UnknownIsRead
-unfolding reading naming
+unfolding parsing naming
 unknown-read command = refl
 
 pub error-read : ErrorIsRead
-unfolding reading numbering
+unfolding parsing numbering
 error-read code h = ap Reply.Error (little-is-read 2 code h)
 
 pub ping-read : PingIsRead
-unfolding reading numbering
+unfolding parsing numbering
 ping-read version h = ap Reply.Ping (little-is-read 2 version h)

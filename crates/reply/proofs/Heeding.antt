@@ -10,7 +10,7 @@ use lib.Dec.{eqb}
 use Rattle.laws.specs.Lists.{Bytes}
 use Rattle.answers.specs.Answers.{said}
 use Rattle.reply.specs.Replies.{flagOf, rest, flagged, about}
-use Rattle.reply.specs.Calls.{reading, heeding}
+use Rattle.reply.specs.Calls.{parsing, heeding}
 use Rattle.reply.specs.Laws.{From, a-get, a-set, an-async, Says, says-good, says-bad, says-nothing, HeedIsSaid}
 use Rattle.reply.specs.declared.Status.{Status}
 use Rattle.reply.specs.declared.Reply.{Reply}
@@ -66,9 +66,9 @@ module _ (code id : ℕ) (asked : (code ≡ 7) ⊎ (code ≡ 8)) (room : id < 25
     kind-said (Reply.Async status it) (an-async c are) is h = id-said status it is are h
     kind-said (Reply.Refused number) from is h = nothing-said h
 
-    code-said : (b : Bool) → eqb command code ≡ b → heeding code id command bytes ≡ cond b (about id (reading command bytes)) Heeded.Waits
-        → Say (cond b (about id (reading command bytes)) Heeded.Waits)
-    code-said true e h = kind-said (reading command bytes) (read-from command bytes small) (eqb-true command code e) h
+    code-said : (b : Bool) → eqb command code ≡ b → heeding code id command bytes ≡ cond b (about id (parsing command bytes)) Heeded.Waits
+        → Say (cond b (about id (parsing command bytes)) Heeded.Waits)
+    code-said true e h = kind-said (parsing command bytes) (read-from command bytes small) (eqb-true command code e) h
     code-said false e h = nothing-said h
 
 pub heed-said : HeedIsSaid

@@ -8,7 +8,7 @@ use lib.ListN.{length}
 use lib.Dec.{eqb, ltb}
 use Rattle.laws.proofs.Bools.{pick}
 use Rattle.reply.specs.Replies.{front, telling, naming, numbering, about}
-use Rattle.reply.specs.Calls.{reading, heeding}
+use Rattle.reply.specs.Calls.{parsing, heeding}
 use Rattle.reply.specs.Laws.{HeededIsLong}
 use Rattle.reply.specs.declared.Status.{Status}
 use Rattle.reply.specs.declared.Reply.{Reply}
@@ -23,7 +23,7 @@ module _ (code id command : ℕ) (bytes : List ℕ) (short : ltb (length bytes) 
   none-told kind = rw short
 
   short-waits : heeding code id command bytes ≡ Heeded.Waits
-  unfolding heeding reading naming numbering
+  unfolding heeding parsing naming numbering
   short-waits =
       pick (λ h. h ≡ Heeded.Waits) (eqb command code)
       (pick Waits (eqb command 1) refl

@@ -13,7 +13,7 @@ use Rattle.reply.proofs.Choices.{choose}
 use Rattle.endian.specs.Numbers.{little, fromLittle}
 use Rattle.answers.specs.Answers.{said}
 use Rattle.reply.specs.Replies.{flagOf, malformed, fronted, front, kinded, telling, naming, numbering}
-use Rattle.reply.specs.Calls.{reading}
+use Rattle.reply.specs.Calls.{parsing}
 use Rattle.reply.specs.Laws.{isCode, From, a-done, an-unknown, an-error, a-ping, a-get, a-set, an-async, no-code, no-data, ReadIsFrom, ReadIsSaid}
 use Rattle.reply.specs.declared.Status.{Status}
 use Rattle.reply.specs.declared.Reply.{Reply}
@@ -68,7 +68,7 @@ one-back (a ∷ []) e = refl
 one-back (a ∷ b ∷ l) e = absurd (omega arith)
 
 pub read-from : ReadIsFrom
-unfolding reading naming
+unfolding parsing naming
 read-from command bytes given =
     let small = given .below in
     let p : Reply → Type 0 = From command bytes in

@@ -12,8 +12,8 @@ use Rattle.reply.specs.declared.Shown.{Shown}
 
 -- "from command and data, codes 1, 3, 4, 5, 7, 8, A are read as kinds of their own [..]; other codes give 5. Payload: 1 any; 3 one byte; 4 and
 -- 5 two bytes; 7, 8, A at least three"
-unfoldable pub reading : ℕ → List ℕ → Reply
-reading command bytes =
+unfoldable pub parsing : ℕ → List ℕ → Reply
+parsing command bytes =
     cond (eqb command paper.doneCode) Reply.Done
     (cond (eqb command paper.unknownCode) (naming bytes)
     (cond (eqb command paper.errorCode) (numbering Reply.Error bytes)
@@ -25,7 +25,7 @@ reading command bytes =
 
 -- what a frame says to the request of a code and an id that is due: a reply of that code about that id has a status, all else waits
 unfoldable pub heeding : ℕ → ℕ → ℕ → List ℕ → Heeded
-heeding code id command bytes = cond (eqb command code) (about id (reading command bytes)) Heeded.Waits
+heeding code id command bytes = cond (eqb command code) (about id (parsing command bytes)) Heeded.Waits
 
 -- "The box shows a reading as volts, amperes, amp hours or percent [..]. Another id is refused 7, then a wrong width 9."
 unfoldable pub showing : ℕ → List ℕ → Shown

@@ -19,7 +19,7 @@ use Rattle.who.specs.declared.Identity.{Identity}
 use Rattle.who.specs.declared.Readings.{Readings}
 use Rattle.reply.specs.Replies.{flagOf, rest}
 use Rattle.reply.specs.Units.{over}
-use Rattle.reply.specs.Calls.{reading, heeding, showing}
+use Rattle.reply.specs.Calls.{parsing, heeding, showing}
 use Rattle.reply.specs.declared.Status.{Status}
 use Rattle.reply.specs.declared.Reply.{Reply}
 use Rattle.reply.specs.declared.Heeded.{Heeded}
@@ -28,25 +28,25 @@ use Rattle.reply.specs.declared.Shown.{Shown}
 -- 1. What a board says is read back. `said` is the board's own: an id, a flag and a value; the kind, the status, the id and the
 -- value are those that were said.
 pub record Heard (status : Status) (id : ℕ) (value : List ℕ) : Type 0 where
-  pub get-heard : reading paper.getCode (said id (flagOf status) value) ≡ Reply.Get status id
-  pub set-heard : reading paper.setCode (said id (flagOf status) value) ≡ Reply.Set status id
-  pub async-heard : reading paper.asyncCode (said id (flagOf status) value) ≡ Reply.Async status id
+  pub get-heard : parsing paper.getCode (said id (flagOf status) value) ≡ Reply.Get status id
+  pub set-heard : parsing paper.setCode (said id (flagOf status) value) ≡ Reply.Set status id
+  pub async-heard : parsing paper.asyncCode (said id (flagOf status) value) ≡ Reply.Async status id
   pub value-heard : rest (said id (flagOf status) value) ≡ value
 
 abbrev pub SaidIsRead : Type 0
 SaidIsRead = (status : Status) (id : ℕ) (value : List ℕ) → id < 256 ^ 2 → Heard status id value
 
 abbrev pub DoneIsRead : Type 0
-DoneIsRead = (bytes : List ℕ) → reading paper.doneCode bytes ≡ Reply.Done
+DoneIsRead = (bytes : List ℕ) → parsing paper.doneCode bytes ≡ Reply.Done
 
 abbrev pub UnknownIsRead : Type 0
-UnknownIsRead = (command : ℕ) → reading paper.unknownCode (command ∷ []) ≡ Reply.Unknown command
+UnknownIsRead = (command : ℕ) → parsing paper.unknownCode (command ∷ []) ≡ Reply.Unknown command
 
 abbrev pub ErrorIsRead : Type 0
-ErrorIsRead = (code : ℕ) → code < 256 ^ 2 → reading paper.errorCode (little 2 code) ≡ Reply.Error code
+ErrorIsRead = (code : ℕ) → code < 256 ^ 2 → parsing paper.errorCode (little 2 code) ≡ Reply.Error code
 
 abbrev pub PingIsRead : Type 0
-PingIsRead = (version : ℕ) → version < 256 ^ 2 → reading paper.pongCode (little 2 version) ≡ Reply.Ping version
+PingIsRead = (version : ℕ) → version < 256 ^ 2 → parsing paper.pongCode (little 2 version) ≡ Reply.Ping version
 
 -- 2. Conversely, a reply fixes the frame that it was read from: its code, and its data, which for a Get, Set or Async reply are an id, a
 -- flag and then the value, so the value is the rest of the data. Refusal 5 is of the code alone, and 6 of the data.
@@ -65,13 +65,13 @@ pub data From (command : ℕ) (bytes : List ℕ) : Reply → Type 0 where
   no-data : isCode command ≡ true → From command bytes (Reply.Refused paper.malformed)
 
 abbrev pub ReadIsFrom : Type 0
-ReadIsFrom = (command : ℕ) (bytes : List ℕ) → Bytes bytes → From command bytes (reading command bytes)
+ReadIsFrom = (command : ℕ) (bytes : List ℕ) → Bytes bytes → From command bytes (parsing command bytes)
 
 -- the same of one kind at a time
 pub record Told (status : Status) (id : ℕ) (bytes : List ℕ) : Type 0 where
-  pub get-told : reading paper.getCode bytes ≡ Reply.Get status id → bytes ≡ said id (flagOf status) (rest bytes)
-  pub set-told : reading paper.setCode bytes ≡ Reply.Set status id → bytes ≡ said id (flagOf status) (rest bytes)
-  pub async-told : reading paper.asyncCode bytes ≡ Reply.Async status id → bytes ≡ said id (flagOf status) (rest bytes)
+  pub get-told : parsing paper.getCode bytes ≡ Reply.Get status id → bytes ≡ said id (flagOf status) (rest bytes)
+  pub set-told : parsing paper.setCode bytes ≡ Reply.Set status id → bytes ≡ said id (flagOf status) (rest bytes)
+  pub async-told : parsing paper.asyncCode bytes ≡ Reply.Async status id → bytes ≡ said id (flagOf status) (rest bytes)
 
 abbrev pub ReadIsSaid : Type 0
 ReadIsSaid = (status : Status) (id : ℕ) (bytes : List ℕ) → Bytes bytes → Told status id bytes

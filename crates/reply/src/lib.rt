@@ -1,7 +1,7 @@
 // What the box makes of a frame that it has read: the kind of reply, what it says to the request that is due, and a reading in its unit.
 // Every call takes anything, and its promise fixes its answer (specs/Calls.antt).
 ghost use mathlib.Core.Path.{_≡_};
-ghost use Rattle.reply.specs.Calls.{reading, heeding, showing};
+ghost use Rattle.reply.specs.Calls.{parsing, heeding, showing};
 
 mod due;
 mod kinds;
@@ -48,7 +48,7 @@ pub enum Shown {
 
 // The reply that a frame of this command and these data is: 5 for a code that no reply has, then 6 for data that do not fit it.
 pub fn read(command: u8, bytes: &[u8]) -> Reply
-    ensures { λ r. ⌜ r ≡ reading command (now (bytes .entry)) ⌝ }
+    ensures { λ r. ⌜ r ≡ parsing command (now (bytes .entry)) ⌝ }
 {
     match command {
         paper::DONE_CODE => Reply::Done,

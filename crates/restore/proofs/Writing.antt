@@ -40,11 +40,11 @@ request-short k n h =
     rw (length-frame setCode (setData k n)) (omega (arith, value))
 
 abbrev lenOf : Written → ℕ
-lenOf (Written.Frame m) = m
+lenOf (Written.Len m) = m
 lenOf (Written.Refused m) = 0
 
 abbrev isFrame : Written → Bool
-isFrame (Written.Frame m) = true
+isFrame (Written.Len m) = true
 isFrame (Written.Refused m) = false
 
 -- what the request writer answers and leaves in a buffer with room
@@ -55,12 +55,12 @@ pub record Requested (k n : ℕ) (l : List ℕ) (len : ℕ) : Type 0 where
   pub front-is : take len l ≡ setRequest k n
 
 pub request-written : (k n : ℕ) (buffer l : List ℕ) (r : Written) (len : ℕ) → k < count → n < 256 ^ widthAt k → length buffer ≡ 75
-    → Gives Written (setWritten k n (length buffer)) buffer r l → r ≡ Written.Frame len
+    → Gives Written (setWritten k n (length buffer)) buffer r l → r ≡ Written.Len len
     → Requested k n l len
 request-written k n buffer l r len h fits room g e =
     let enough : 75 ≤ length buffer = omega (arith, room) in
     let is : setWritten k n (length buffer) ≡ writtenAs (setRequest k n) = set-is-request k n (length buffer) h fits enough in
-    let made : Written.Frame len ≡ Written.Frame (length (setRequest k n)) = sym e ∙ g .answered ∙ ap (λ (x : Given Written). x .answer) is in
+    let made : Written.Len len ≡ Written.Len (length (setRequest k n)) = sym e ∙ g .answered ∙ ap (λ (x : Given Written). x .answer) is in
     let size : len ≡ length (setRequest k n) = ap lenOf made in
     let stands : l ≡ overlaid (setRequest k n) buffer = g .left ∙ ap (λ (x : Given Written). overlaid (x .written) buffer) is in
     let whole : take len l ≡ setRequest k n = ap₂ (λ (m : ℕ) (b : List ℕ). take m b) size stands ∙ overlaid-front (setRequest k n) buffer in
@@ -76,7 +76,7 @@ pub request-made : {A : Type 0} (k n : ℕ) (buffer l : List ℕ) (r : Written) 
 request-made k n buffer l r number h fits room g e =
     let enough : 75 ≤ length buffer = omega (arith, room) in
     let is : setWritten k n (length buffer) ≡ writtenAs (setRequest k n) = set-is-request k n (length buffer) h fits enough in
-    let made : Written.Refused number ≡ Written.Frame (length (setRequest k n)) = sym e ∙ g .answered ∙ ap (λ (x : Given Written). x .answer) is in
+    let made : Written.Refused number ≡ Written.Len (length (setRequest k n)) = sym e ∙ g .answered ∙ ap (λ (x : Given Written). x .answer) is in
     absurd (false≢true (ap isFrame made))
 
 -- A row of settings, of which some are written and the others left.

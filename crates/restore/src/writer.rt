@@ -33,7 +33,7 @@ fn put_set(out: &mut [u8], at: usize, index: usize, number: u16) -> usize
     let mut frame = [0u8; paper::FRAME_ROOM];
     let written = requests::set(index, number, &mut frame);
     match written {
-        Written::Frame(len) => {
+        Written::Len(len) => {
             put_bytes(out, at, &frame[..len]);
             at + len
         }

@@ -131,30 +131,30 @@ number-small digits ok =
     under-power (valueOf digits) (0 + length digits) 5 (omega arith) (read-below digits 0 0 (number-digits digits ok) (leb-true 1 1 refl))
 
 -- The number read so far.
-pub record Reading (digits : List ℕ) (n i : ℕ) : Type 0 where
+pub record Parsing (digits : List ℕ) (n i : ℕ) : Type 0 where
   pub within : i ≤ length digits
   pub low : n < 10 ^ i
   pub same : readOn n (drop i digits) ≡ valueOf digits
 
-pub reading-start : (digits : List ℕ) → Reading digits 0 0
-reading-start digits = record { within = omega arith; low = leb-true 1 1 refl; same = refl }
+pub parsing-start : (digits : List ℕ) → Parsing digits 0 0
+parsing-start digits = record { within = omega arith; low = leb-true 1 1 refl; same = refl }
 
-module _ {digits : List ℕ} (ok : isNumber digits ≡ true) {n i : ℕ} (h : i < length digits) (r : Reading digits n i) where
+module _ {digits : List ℕ} (ok : isNumber digits ≡ true) {n i : ℕ} (h : i < length digits) (r : Parsing digits n i) where
   pub here : (48 ≤ getD digits i 0) × (getD digits i 0 - 48 < 10)
   here = digit-low (getD digits i 0) (every-at isDigit digits (number-digits digits ok) i h)
 
-  pub reading-turn : Reading digits (n * 10 + (getD digits i 0 - 48)) (i + 1)
-  reading-turn =
+  pub parsing-turn : Parsing digits (n * 10 + (getD digits i 0 - 48)) (i + 1)
+  parsing-turn =
       record {
         within = omega arith;
         low = power-step n (getD digits i 0 - 48) i (r .low) (here .1);
         same = sym (ap (readOn n) (drop-turn digits i h)) ∙ r .same;
       }
 
-  pub reading-low : n < 10000
-  reading-low =
+  pub parsing-low : n < 10000
+  parsing-low =
       let few : length digits ≤ 5 = number-few digits ok in
       under-power n i 4 (omega arith) (r .low)
 
-pub reading-end : {digits : List ℕ} {n i : ℕ} → length digits ≤ i → Reading digits n i → n ≡ valueOf digits
-reading-end {digits} {n} {i} h r = sym (ap (readOn n) (drop-of-length-le digits h)) ∙ r .same
+pub parsing-end : {digits : List ℕ} {n i : ℕ} → length digits ≤ i → Parsing digits n i → n ≡ valueOf digits
+parsing-end {digits} {n} {i} h r = sym (ap (readOn n) (drop-of-length-le digits h)) ∙ r .same

@@ -12,14 +12,14 @@ use Rattle.paper.specs.Numbers as paper
 use Rattle.settings.specs.Columns.{count, idAt}
 use Rattle.settings.specs.Rules.{inRange}
 use Rattle.rows.specs.Row.{rowOf}
-use Rattle.rows.specs.Calls.{reading, judgedAs, judging}
+use Rattle.rows.specs.Calls.{parsing, judgedAs, judging}
 use Rattle.rows.specs.Laws as laws
 use Rattle.rows.specs.Laws.{Begins, Reads, Judges, number, other, outside, JudgedExactly}
 use Rattle.rows.specs.declared.Row.{Row}
 use Rattle.rows.specs.declared.Judged.{Judged}
 use Rattle.rows.proofs.Rows.{begun, reads, read-exactly}
 
-pub judged-here : (k : ℕ) (text : List ℕ) → k < count → judgedAs k (reading text) ≡ judging k text
+pub judged-here : (k : ℕ) (text : List ℕ) → k < count → judgedAs k (parsing text) ≡ judging k text
 unfolding judging
 judged-here k text h = rw (lt-ltb k count h)
 
@@ -40,7 +40,7 @@ module _ (k : ℕ) (text : List ℕ) where
   judges (Row.Is id n len) (laws.row b) = judges-row id n b
   judges (Row.Refused m) (laws.none f) = laws.none f
 
-  given : (x : Judged) → Judges k text x → judgedAs k (reading text) ≡ x
+  given : (x : Judged) → Judges k text x → judgedAs k (parsing text) ≡ x
   unfolding judgedAs
   given (Judged.Number n len) (number b f) = ap (judgedAs k) (begun text b) ∙ rw (eq-eqb (idAt k) (idAt k) refl, f)
   given (Judged.Refused m) (laws.none f) = ap (judgedAs k) (read-exactly text (Row.Refused paper.badLine) .1 (laws.none f))
@@ -49,7 +49,7 @@ module _ (k : ℕ) (text : List ℕ) where
 
 pub judged-exactly : JudgedExactly
 judged-exactly k text answer h =
-    (λ e. subst (Judges k text) (judged-here k text h ∙ e) (judges k text (reading text) (reads text)), λ j. sym (judged-here k text h) ∙ given k text answer j)
+    (λ e. subst (Judges k text) (judged-here k text h ∙ e) (judges k text (parsing text) (reads text)), λ j. sym (judged-here k text h) ∙ given k text answer j)
 
 -- a row that has a number for its place is at the front, and the rest follows it
 pub numbered : (k : ℕ) (text : List ℕ) (n len : ℕ) → k < count → judging k text ≡ Judged.Number n len

@@ -15,7 +15,7 @@ use Rattle.laws.proofs.Bools.{and-left, and-right, nor-left, both}
 use Rattle.laws.proofs.Lists.{every-at, every-append, before-first}
 use Rattle.wire.specs.Digits.{digit, nibble, isDigit}
 use Rattle.wire.specs.Frame.{digitsOf}
-use Rattle.wire.specs.Reading.{bytesOf}
+use Rattle.wire.specs.Parsing.{bytesOf}
 use Rattle.wire.proofs.Nibbles.{digit-isDigit, digit-stays, nibble-at}
 use Rattle.wire.proofs.RoundTrip.{digits-all, bytes-digits, digits-bytes, bytes-small}
 use Rattle.lines.specs.Lines.{lineOf, textOf}
@@ -26,7 +26,7 @@ use Rattle.lines.proofs.Digits.{digits-under}
 use Rattle.lines.proofs.Theorems.{line-is-text}
 use Rattle.rows.specs.Decimals.{isNumber}
 use Rattle.rows.specs.Row.{tab, idDigits, rowOf, rowRoom, lineLength, firstLine, isRow, idIn, numberIn}
-use Rattle.rows.specs.Calls.{unwritten, writtenAs, writing, reading}
+use Rattle.rows.specs.Calls.{unwritten, writtenAs, writing, parsing}
 use Rattle.rows.specs.Laws.{RowIsShort, Begins, Reads, row, none, ReadExactly}
 use Rattle.rows.specs.declared.Row.{Row}
 use Rattle.rows.proofs.Decimal.{number-digits, number-small, decimal-read, read-decimal}
@@ -82,15 +82,15 @@ module _ (text : List ℕ) {len : ℕ} (is : len ≡ lineLength text) where
     test : (ltb len (length text) && ok) ≡ (ltb (lineLength text) (length text) && isRow (firstLine text))
     test = ap (λ (b : Bool). ltb len (length text) && b) told ∙ ap (λ (n : ℕ). ltb n (length text) && isRow (take n text)) is
 
-    pub read-other : (ltb len (length text) && ok) ≡ false → Row.Refused paper.badLine ≡ reading text
-    unfolding reading
+    pub read-other : (ltb len (length text) && ok) ≡ false → Row.Refused paper.badLine ≡ parsing text
+    unfolding parsing
     read-other e = rw (sym test ∙ e)
 
     pub read-built : (ltb len (length text) && ok) ≡ true → isRow (take len text) ≡ true
     read-built e = sym told ∙ and-right (ltb len (length text)) ok e
 
-    pub read-row : (ltb len (length text) && ok) ≡ true → Row.Is (idIn (take len text)) (numberIn (take len text)) (suc (length (take len text))) ≡ reading text
-    unfolding reading
+    pub read-row : (ltb len (length text) && ok) ≡ true → Row.Is (idIn (take len text)) (numberIn (take len text)) (suc (length (take len text))) ≡ parsing text
+    unfolding parsing
     read-row e = rw (sym line-inside, sym test ∙ e, is)
 
 -- the row of an id and a number without its newline
@@ -196,8 +196,8 @@ module _ (id n : ℕ) (rest : List ℕ) (holds : id < 65536) (small : n < 100000
   ended : ltb (length (front id n)) (length (front id n ++ newline ∷ rest)) ≡ true
   ended = lt-ltb (length (front id n)) _ (rw (length-append (front id n) (newline ∷ rest)) (omega arith))
 
-  pub row-read : reading (rowOf id n ++ rest) ≡ Row.Is id n (length (rowOf id n))
-  unfolding reading
+  pub row-read : parsing (rowOf id n ++ rest) ≡ Row.Is id n (length (rowOf id n))
+  unfolding parsing
   row-read = rw (row-front id n rest, long, ended, take-append-seam (front id n) (newline ∷ rest), front-row, length-row id n)
       (ap₂ (λ (i m : ℕ). Row.Is i m (suc (length (front id n)))) (id-read id n holds) (decimal-read n small .1))
 
@@ -224,14 +224,14 @@ module _ (text : List ℕ) where
       length-row (idIn line) (numberIn line) ∙ ap (λ (l : List ℕ). suc (length l)) (sym is) ∙ ap suc (length-take-le (lineLength text) text (omega arith)) in
       subst (λ (m : ℕ). Reads text (Row.Is (idIn line) (numberIn line) m)) size (row begins)
 
-  pub begun : {id n : ℕ} {rest : List ℕ} → Begins text id n rest → reading text ≡ Row.Is id n (length (rowOf id n))
-  begun {id} {n} {rest} b = ap reading (b .text-is) ∙ row-read id n rest (b .id-holds) (b .number-holds)
+  pub begun : {id n : ℕ} {rest : List ℕ} → Begins text id n rest → parsing text ≡ Row.Is id n (length (rowOf id n))
+  begun {id} {n} {rest} b = ap parsing (b .text-is) ∙ row-read id n rest (b .id-holds) (b .number-holds)
 
-  reads-none : reading text ≡ Row.Refused paper.badLine → Reads text (Row.Refused paper.badLine)
-  reads-none e = none (λ id n rest b. let f : reading text ≡ Row.Is id n (length (rowOf id n)) = begun b in let z : _≡_ {A = ℕ} 0 1 = cc in omega arith)
+  reads-none : parsing text ≡ Row.Refused paper.badLine → Reads text (Row.Refused paper.badLine)
+  reads-none e = none (λ id n rest b. let f : parsing text ≡ Row.Is id n (length (rowOf id n)) = begun b in let z : _≡_ {A = ℕ} 0 1 = cc in omega arith)
 
-  pub reads : Reads text (reading text)
-  unfolding reading
+  pub reads : Reads text (parsing text)
+  unfolding parsing
   reads = by (ltb (lineLength text) (length text)) (isRow line) refl refl
     where
       by : (a b : Bool) → ltb (lineLength text) (length text) ≡ a → isRow line ≡ b
@@ -243,10 +243,10 @@ module _ (text : List ℕ) where
 pub read-exactly : ReadExactly
 read-exactly text answer = (λ e. subst (Reads text) e (reads text), back answer)
   where
-    back : (x : Row) → Reads text x → reading text ≡ x
+    back : (x : Row) → Reads text x → parsing text ≡ x
     back (Row.Is id n len) (row b) = begun text b
-    back (Row.Refused number) (none f) = other (reading text) refl (reads text)
+    back (Row.Refused number) (none f) = other (parsing text) refl (reads text)
       where
-        other : (y : Row) → reading text ≡ y → Reads text y → reading text ≡ Row.Refused paper.badLine
+        other : (y : Row) → parsing text ≡ y → Reads text y → parsing text ≡ Row.Refused paper.badLine
         other (Row.Is id n len) e (row b) = absurd (f _ _ _ b)
         other (Row.Refused m) e (none g) = e

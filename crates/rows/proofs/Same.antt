@@ -6,7 +6,7 @@ use Prim.Native.Nat.{ℕ}
 use denote.Ref.{RefT, now}
 use contract.Lifetimes.{Lfts}
 use Rattle.laws.proofs.Promise.{gives-same, equal-same}
-use Rattle.rows.specs.declared.Written.{Written}
+use Rattle.wire.specs.declared.Written.{Written}
 use Rattle.rows.specs.declared.Row.{Row}
 use Rattle.rows.specs.declared.Judged.{Judged}
 use Rattle.rows.proofs.write.Reads as write

@@ -9,7 +9,7 @@ use Rattle.laws.specs.Promise.{Given}
 use Rattle.settings.specs.Columns.{count, idAt}
 use Rattle.settings.specs.Rules.{inRange}
 use Rattle.rows.specs.Row.{rowOf, rowRoom, lineLength, firstLine, isRow, idIn, numberIn}
-use Rattle.rows.specs.declared.Written.{Written}
+use Rattle.wire.specs.declared.Written.{Written}
 use Rattle.rows.specs.declared.Row.{Row}
 use Rattle.rows.specs.declared.Judged.{Judged}
 
@@ -17,14 +17,14 @@ abbrev pub unwritten : ℕ → Given Written
 unwritten number = record { answer = Written.Refused number; written = [] }
 
 abbrev pub writtenAs : List ℕ → Given Written
-writtenAs bytes = record { answer = Written.Row (length bytes); written = bytes }
+writtenAs bytes = record { answer = Written.Len (length bytes); written = bytes }
 
 unfoldable pub writing : ℕ → ℕ → ℕ → Given Written
 writing id n room = cond (ltb room rowRoom) (unwritten paper.shortBuffer) (writtenAs (rowOf id n))
 
 -- 14: "not four digits as above, tab, 1 to 5 decimal digits with no leading zero but a lone 0, newline, or text ended"
-unfoldable pub reading : List ℕ → Row
-reading text =
+unfoldable pub parsing : List ℕ → Row
+parsing text =
     cond (ltb (lineLength text) (length text) && isRow (firstLine text))
     (Row.Is (idIn (firstLine text)) (numberIn (firstLine text)) (suc (lineLength text)))
     (Row.Refused paper.badLine)
@@ -37,4 +37,4 @@ judgedAs k (Row.Refused number) = Judged.Refused number
 
 -- 12 for a place past the table
 unfoldable pub judging : ℕ → List ℕ → Judged
-judging k text = cond (ltb k count) (judgedAs k (reading text)) (Judged.Refused paper.notAllowed)
+judging k text = cond (ltb k count) (judgedAs k (parsing text)) (Judged.Refused paper.notAllowed)

@@ -12,7 +12,7 @@ use Rattle.settings.specs.Rules.{inRange}
 use Rattle.lines.specs.Numbers.{decimal}
 use Rattle.rows.specs.Decimals.{isNumber, valueOf}
 use Rattle.rows.specs.Row.{rowOf, rowRoom}
-use Rattle.rows.specs.Calls.{reading, judging}
+use Rattle.rows.specs.Calls.{parsing, judging}
 use Rattle.rows.specs.declared.Row.{Row}
 use Rattle.rows.specs.declared.Judged.{Judged}
 
@@ -36,7 +36,7 @@ pub data Reads (text : List ℕ) : Row → Type 0 where
   none : ((id n : ℕ) (rest : List ℕ) → Begins text id n rest → ⊥) → Reads text (Row.Refused paper.badLine)
 
 abbrev pub ReadExactly : Type 0
-ReadExactly = (text : List ℕ) (answer : Row) → (reading text ≡ answer → Reads text answer) × (Reads text answer → reading text ≡ answer)
+ReadExactly = (text : List ℕ) (answer : Row) → (parsing text ≡ answer → Reads text answer) × (Reads text answer → parsing text ≡ answer)
 
 -- 3. The row that is due at a place of the table: 14 exactly when there is no row, 15 exactly when it has another id, 16 exactly when it has
 -- the id that is due and a number outside the own range.

@@ -3,9 +3,10 @@
 ghost use mathlib.Core.Path.{_≡_};
 ghost use lib.ListN.{length};
 ghost use Rattle.laws.specs.Promise.{Gives};
-ghost use Rattle.rows.specs.Calls.{writing, reading, judging};
-ghost use Rattle.rows.specs.declared.Written.{Written};
+ghost use Rattle.rows.specs.Calls.{writing, parsing, judging};
+ghost use Rattle.wire.specs.declared.Written.{Written};
 use settings::COUNT;
+use wire::Written;
 
 mod decimals;
 mod reader;
@@ -15,12 +16,6 @@ mod writer;
 pub const ROW_ROOM: usize = 11;
 
 pub(crate) const TAB: u8 = b'\t';
-
-// What the writer answers: the row's length, or document 01's number of the refusal.
-pub enum Written {
-    Row(usize),
-    Refused(u8),
-}
 
 // What the reader answers: the id, the number and how many bytes the row takes, or the number of the refusal.
 pub enum Row {
@@ -44,12 +39,12 @@ pub fn write(id: u16, number: u16, out: &mut [u8]) -> Written
     let row = writer::row_of(id, number);
     let len = row.len;
     let chars = row.chars;
-    Written::Row(bytes::copy(&chars[..len], out))
+    Written::Len(bytes::copy(&chars[..len], out))
 }
 
 // Reads the row at the front of a text: 14 for a line that is not so built, or a text that has ended.
 pub fn read(text: &[u8]) -> Row
-    ensures { λ r. ⌜ r ≡ reading (now (text .entry)) ⌝ }
+    ensures { λ r. ⌜ r ≡ parsing (now (text .entry)) ⌝ }
 {
     let len = reader::line_len(text);
     if !((len < text.len()) & reader::is_row(&text[..len])) {

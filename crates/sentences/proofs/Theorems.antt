@@ -34,8 +34,8 @@ use Rattle.backup.specs.declared.Backup.{Backup}
 use lib.Dec.{ltb}
 use Rattle.laws.specs.Promise.{Given}
 use Rattle.backup.specs.Text.{Says as Judgement, good, refused, textOf, textSays}
-use Rattle.backup.specs.Calls.{writtenAs, writing, reading, readAs}
-use Rattle.backup.specs.declared.Written.{Written}
+use Rattle.backup.specs.Calls.{writtenAs, writing, parsing, readAs}
+use Rattle.wire.specs.declared.Written.{Written}
 use Rattle.backup.proofs.Theorems.{read-is-written, written-is-read}
 use Rattle.tally.specs.Results.{tallyAllowed}
 use Rattle.who.specs.Parts.{serialFits}
@@ -241,7 +241,7 @@ good-is-good verdict = (
 
 -- a text that is accepted is read as some table, which it is the text of
 read-as : (text : List ℕ) (s : Judgement) → textSays text ≡ s → readAs s .verdict ≡ Checked.Accepted → IsBackup text
-unfolding reading writing
+unfolding parsing writing
 read-as text (good table) is e =
     let written = read-is-written text table (ap readAs is) in
     let made : writing table 512 ≡ writtenAs (textOf table) = rw (written .is-allowed) refl in
@@ -250,11 +250,11 @@ read-as text (good table) is e =
 read-as text (refused number line) is e = let z : _≡_ {A = ℕ} 0 1 = cc in absurd (omega arith)
 
 pub good-is-backup : GoodIsBackup
-unfolding reading
+unfolding parsing
 good-is-backup text = (
-  λ e. read-as text (textSays text) refl (good-is-good (reading text .verdict) .0 e),
-  λ b. good-is-good (reading text .verdict) .1
-      (ap (λ (l : List ℕ). reading l .verdict) (b .is-text) ∙ ap (λ (r : Backup). r .verdict) (written-is-read (b .table) (b .is-whole) (b .is-allowed))),
+  λ e. read-as text (textSays text) refl (good-is-good (parsing text .verdict) .0 e),
+  λ b. good-is-good (parsing text .verdict) .1
+      (ap (λ (l : List ℕ). parsing l .verdict) (b .is-text) ∙ ap (λ (r : Backup). r .verdict) (written-is-read (b .table) (b .is-whole) (b .is-allowed))),
 )
 
 pub well-is-well : WellIsWell

@@ -17,7 +17,7 @@ use Rattle.view.specs.declared.Sight.{Sight}
 use Rattle.view.specs.declared.Viewed.{Viewed}
 use Rattle.view.proofs.Serials.{same-serial}
 use Rattle.view.proofs.Hearing.{Valued, understood-valued}
-use Rattle.view.proofs.Counting.{few-asked, few-understood, calls-allowed, counts-are-true}
+use Rattle.view.proofs.Counting.{few-answered, few-understood, calls-allowed, counts-are-true}
 use Rattle.lines.specs.Lines.{chars, lineOf}
 use Rattle.lines.specs.Numbers.{lastDigit, decimalFrom, decimal}
 use Rattle.lines.proofs.Adding.{says-text, text-says}
@@ -59,8 +59,8 @@ pub line-is-told : LineIsTold
 unfolding seenText viewing sightOf
 line-is-told v command bytes ok =
     record {
-      due-told = λ h. rw (ok, lt-ltb (v .asked) count h);
-      none-told = λ h. rw (ok, le-ltb (v .asked) count h);
+      due-told = λ h. rw (ok, lt-ltb (v .answered) count h);
+      none-told = λ h. rw (ok, le-ltb (v .answered) count h);
     }
 
 pub shown-is-counted : ShownIsCounted
@@ -85,8 +85,8 @@ shown-is-shown v = (
   where
     by : (t : Bool) → allowed v ≡ t → take 20 (shownText v) ≡ chars "shown: 8 of 8 values" → (allowed v ≡ true) × (v .understood ≡ 8)
     by true ok e =
-        let few : v .understood ≤ v .asked = few-understood v ok in
-        let most : v .asked ≤ 8 = few-asked v ok in
+        let few : v .understood ≤ v .answered = few-understood v ok in
+        let most : v .answered ≤ 8 = few-answered v ok in
         (ok, eight-shown (v .understood) (omega arith) (rw ok at e))
     by false ok e = let z : _≡_ {A = ℕ} 0x72 0x73 = ap (λ (l : List ℕ). getD l 0 0) (rw ok at e) in absurd (omega arith)
 

@@ -24,7 +24,7 @@ use Rattle.collect.specs.declared.Stage.{Stage}
 use Rattle.collect.specs.declared.Collector.{Collector}
 use Rattle.collect.specs.declared.Collected.{Collected}
 use Rattle.backup.specs.Text.{textOf, good}
-use Rattle.backup.specs.Calls.{reading, readAs}
+use Rattle.backup.specs.Calls.{parsing, readAs}
 use Rattle.backup.specs.declared.Checked.{Checked}
 use Rattle.tally.specs.Results.{tallyAllowed}
 use Rattle.tally.specs.declared.Tally.{Tally}
@@ -108,7 +108,7 @@ pub record IsBackup (text : List ℕ) : Type 0 where
   pub is-text : text ≡ textOf table
 
 abbrev pub GoodIsBackup : Type 0
-GoodIsBackup = (text : List ℕ) → Says (lineOf (checkedText (reading text .verdict))) 0 "good: " ↔ IsBackup text
+GoodIsBackup = (text : List ℕ) → Says (lineOf (checkedText (parsing text .verdict))) 0 "good: " ↔ IsBackup text
 
 -- 5. The line of a yard says after its first two counts that none stopped, was silent or was not begun exactly where the tally is allowed
 -- and has none; and it begins with no board done and none equal exactly where the tally is allowed and has none of these.
@@ -158,7 +158,7 @@ CollectorsCount = (c : Collector) → length (c .numbers) ≡ count → Collecto
 
 -- and that of a good file is the number of settings in the table that it holds.
 abbrev pub FilesCount : Type 0
-FilesCount = (text : List ℕ) (table : Table) → reading text ≡ readAs (good table) → checkedText (reading text .verdict) ≡ goodText (length (table .numbers))
+FilesCount = (text : List ℕ) (table : Table) → parsing text ≡ readAs (good table) → checkedText (parsing text .verdict) ≡ goodText (length (table .numbers))
 
 -- 8. No sentence is cut: each fits a line, with any counts.
 abbrev pub Fits : List ℕ → Type 0

@@ -40,8 +40,8 @@ SerialIsTold = (value serial : List ℕ) → IsSerial value serial → wordsText
 -- 2. A frame is told by what it comes to while an id is due (SightIsSeen of `view` says when a value is understood), and after the last id
 -- by an empty line.
 pub record Told (v : Viewer) (command : ℕ) (bytes : List ℕ) : Type 0 where
-  pub due-told : v .asked < count → seenText v command bytes ≡ sightText (rest bytes) (sightAt (idAt (v .asked)) command bytes)
-  pub none-told : count ≤ v .asked → seenText v command bytes ≡ []
+  pub due-told : v .answered < count → seenText v command bytes ≡ sightText (rest bytes) (sightAt (idAt (v .answered)) command bytes)
+  pub none-told : count ≤ v .answered → seenText v command bytes ≡ []
 
 abbrev pub LineIsTold : Type 0
 LineIsTold = (v : Viewer) (command : ℕ) (bytes : List ℕ) → allowed v ≡ true → Told v command bytes

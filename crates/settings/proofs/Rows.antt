@@ -9,7 +9,7 @@ use borrow.Author.Tests.{lt-ltb, le-ltb, ltb-true, ltb-false, leb-true, eqb-true
 use lib.ListN.{length, getD}
 use lib.Dec.{ltb, leb, eqb}
 use Rattle.laws.proofs.Lists.{upTo-at, before-first}
-use Rattle.settings.specs.Columns.{count, ids, idAt, widthAt, lowAt, highAt, factoryAt, partners, partnerAt, placeOf, roleAt}
+use Rattle.settings.specs.Columns.{count, ids, idAt, widthAt, lowAt, highAt, factoryAt, partnerIds, partnerAt, placeOf, roleAt}
 use Rattle.settings.specs.Rules.{inRange, agrees, lowAgrees, highAgrees}
 use Rattle.settings.specs.Calls.{settingAt, placing, finding}
 use Rattle.settings.specs.Laws.{Row, PlaceIsFound, FindIsFound, FoundHasId}
@@ -53,7 +53,7 @@ module _ (k : ℕ) (h : k < count) where
 
 -- a partner with the larger id is at the next place, one with the smaller id at the place before
 abbrev partnerId : ℕ → ℕ
-partnerId k = getD partners k 0
+partnerId k = getD partnerIds k 0
 
 abbrev byId : ℕ → Bool
 byId k = cond (ltb (idAt k) (partnerId k)) (eqb (partnerAt k) (suc k)) (cond (ltb (partnerId k) (idAt k)) (eqb (suc (partnerAt k)) k) (eqb (partnerAt k) k))

@@ -22,12 +22,12 @@ pub record Entry : Type 0 where
   pub high : ℕ
   pub zero-too : Bool
   pub factory-number : ℕ
-  pub partner : ℕ
+  pub partner-id : ℕ
   pub role : Role
 
 abbrev entry : ℕ → ℕ → ℕ → ℕ → Bool → ℕ → ℕ → Role → Entry
 entry i w l h z f p r =
-    record { id = i; width = w; low = l; high = h; zero-too = z; factory-number = f; partner = p; role = r }
+    record { id = i; width = w; low = l; high = h; zero-too = z; factory-number = f; partner-id = p; role = r }
 
 abbrev pub entries : List Entry
 entries =
@@ -101,11 +101,11 @@ unfoldable pub placeOf : ℕ → ℕ
 placeOf id = before (λ x. eqb x id) ids
 
 -- the place of the other one of a pair is found by its id, so a new row renumbers nothing
-abbrev pub partners : List ℕ
-partners = map (λ (e : Entry). e .partner) entries
+abbrev pub partnerIds : List ℕ
+partnerIds = map (λ (e : Entry). e .partner-id) entries
 
 unfoldable pub partnerAt : ℕ → ℕ
-partnerAt k = placeOf (getD partners k 0)
+partnerAt k = placeOf (getD partnerIds k 0)
 
 abbrev pub roles : List Role
 roles = map (λ (e : Entry). e .role) entries

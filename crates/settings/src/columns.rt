@@ -190,7 +190,7 @@ pub(crate) const FACTORIES: [u16; COUNT] = [
 ];
 
 // The other one of its pair, by its id: a new row renumbers nothing. A setting alone has its own.
-const PARTNERS: [u16; COUNT] = [
+const PARTNER_IDS: [u16; COUNT] = [
     0x0321, // 0320
     0x0320, // 0321
     0x0323, // 0322
@@ -289,7 +289,7 @@ pub(crate) fn partner_of(index: usize) -> usize
     ensures { λ r. ⌜ r ≡ partnerAt index ⌝ }
 {
     let own = IDS[index];
-    let partner = PARTNERS[index];
+    let partner = PARTNER_IDS[index];
     if own < partner {
         return index + 1;
     }

@@ -14,7 +14,7 @@ use Rattle.laws.specs.Cutting.{Step, calls}
 use Rattle.laws.proofs.Cutting as cutting
 use Rattle.wire.specs.Digits.{isDigit}
 use Rattle.paper.specs.Numbers.{colon, newline}
-use Rattle.wire.specs.Reading.{Ended, good, refused, dataOf, badCount, sumsUp, bodySays, brokenSays}
+use Rattle.wire.specs.Parsing.{Ended, good, refused, dataOf, badCount, sumsUp, bodySays, brokenSays}
 use Rattle.wire.specs.Calls.{readAs}
 use Rattle.wire.proofs.Answers.{body-long, body-strange, body-count, body-sum, body-good, broken-long, broken-short}
 use Rattle.stream.specs.Stream.{Unfinished, outside, inside, next, endedBy, ends, taken, framesFrom, leftBy}

@@ -13,8 +13,8 @@ use Rattle.laws.specs.Lists.{every, before}
 use Rattle.laws.specs.Promise.{Given, Gives}
 use Rattle.laws.proofs.Lists.{before-first}
 use Rattle.paper.specs.Numbers.{colon, newline}
-use Rattle.wire.specs.Reading.{Ended, bodySays, brokenSays}
-use Rattle.wire.specs.Calls.{readAs, readingChars}
+use Rattle.wire.specs.Parsing.{Ended, bodySays, brokenSays}
+use Rattle.wire.specs.Calls.{readAs, parsingChars}
 use Rattle.wire.specs.declared.Read.{Read}
 use Rattle.wire.proofs.Answers.{broken-silent, chars-read}
 use Rattle.stream.specs.Stream.{Unfinished, outside, inside, next, endedBy, endsFrame, framesFrom, leftFrom, ends, taken}
@@ -183,7 +183,7 @@ module _ (h : Held) (ok : allowed h ≡ true) (long : length (h .chars) ≡ 74) 
 
 -- The characters of a frame that ended, read into room enough.
 
-pub chars-said : (chars buffer : List ℕ) {r : Read} {l : List ℕ} → 35 ≤ length buffer → Gives Read (readingChars chars (length buffer)) buffer r l
+pub chars-said : (chars buffer : List ℕ) {r : Read} {l : List ℕ} → 35 ≤ length buffer → Gives Read (parsingChars chars (length buffer)) buffer r l
     → Gives Read (readAs (bodySays chars)) buffer r l
 chars-said chars buffer enough met = rw (chars-read chars (length buffer) enough) at met
 

@@ -14,7 +14,7 @@ use Rattle.laws.specs.Promise.{overlaid}
 use Rattle.laws.proofs.Bools.{and-left, and-right}
 use Rattle.laws.proofs.Lists.{every-zero, every-take, zeros-behind, take-replicate, take-min}
 use Rattle.laws.proofs.Fronts.{padded-behind}
-use Rattle.wire.specs.Reading.{bodySays, brokenSays}
+use Rattle.wire.specs.Parsing.{bodySays, brokenSays}
 use Rattle.wire.proofs.Answers.{body-long, broken-long}
 use Rattle.stream.specs.Stream.{Unfinished, outside, inside}
 use Rattle.stream.specs.Calls.{allowed, stays, noChars, heldOf, unfinished}

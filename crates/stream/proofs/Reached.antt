@@ -11,7 +11,7 @@ use lib.Dec.{eqb}
 use Rattle.laws.specs.Lists.{every}
 use Rattle.laws.proofs.Lists.{every-append, take-again}
 use Rattle.paper.specs.Numbers.{colon, newline}
-use Rattle.wire.specs.Reading.{Ended}
+use Rattle.wire.specs.Parsing.{Ended}
 use Rattle.stream.specs.Stream.{Unfinished, outside, inside, next, endedBy, framesFrom, framesOf, leftFrom, leftBy}
 use Rattle.stream.specs.Calls.{allowed, stays, heldOf, unfinished}
 use Rattle.stream.specs.Laws.{AllowedIsLeft}

@@ -11,7 +11,7 @@ use lib.Dec.{eqb}
 use Rattle.laws.specs.Lists.{every}
 use Rattle.laws.proofs.Bools.{and-left, and-right, nor-left, nor-right}
 use Rattle.paper.specs.Numbers.{colon, newline}
-use Rattle.wire.specs.Reading.{Ended, bodySays}
+use Rattle.wire.specs.Parsing.{Ended, bodySays}
 use Rattle.stream.specs.Stream.{Unfinished, outside, inside, next, endedBy, framesFrom, leftFrom, ends, firstEnd, taken}
 use Rattle.stream.specs.Calls.{stays}
 

@@ -8,7 +8,7 @@ use lib.Dec.{ltb, leb, eqb}
 use Rattle.laws.specs.Lists.{every}
 use Rattle.laws.specs.Promise.{Given}
 use Rattle.paper.specs.Numbers.{mostData, shortBuffer, notAllowed}
-use Rattle.wire.specs.Reading.{Ended}
+use Rattle.wire.specs.Parsing.{Ended}
 use Rattle.wire.specs.Calls.{readAs}
 use Rattle.wire.specs.declared.Read.{Read}
 use Rattle.stream.specs.Stream.{Unfinished, outside, inside, endsFrame, framesFrom, leftFrom, taken}

@@ -11,7 +11,7 @@ use Rattle.laws.specs.Promise.{Given}
 use Rattle.laws.specs.Cutting.{Step, Offer, calls, ready}
 use Rattle.paper.specs.Numbers.{mostNibble, mostData}
 use Rattle.wire.specs.Frame.{frame}
-use Rattle.wire.specs.Reading.{Ended, good, refused}
+use Rattle.wire.specs.Parsing.{Ended, good, refused}
 use Rattle.laws.specs.Lists.{Bytes}
 use Rattle.wire.specs.Laws.{Writable}
 use Rattle.stream.specs.Stream.{Unfinished, outside, framesFrom, framesOf, leftBy, firstEnd, taken}

@@ -7,7 +7,7 @@ use mathlib.Core.List.{List, [], _∷_, _++_}
 use lib.ListN.{length}
 use lib.Dec.{eqb}
 use Rattle.paper.specs.Numbers.{colon, newline}
-use Rattle.wire.specs.Reading.{Ended, bodySays, brokenSays}
+use Rattle.wire.specs.Parsing.{Ended, bodySays, brokenSays}
 
 -- where the reading is: outside a frame, or inside one with the characters since its colon
 pub data Unfinished : Type 0 where

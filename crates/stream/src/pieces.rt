@@ -7,7 +7,7 @@ ghost use lib.ListN.{length};
 ghost use lib.Dec.{eqb};
 ghost use Rattle.laws.specs.Lists.{before};
 ghost use Rattle.laws.specs.Promise.{Gives};
-ghost use Rattle.wire.specs.Reading.{brokenSays};
+ghost use Rattle.wire.specs.Parsing.{brokenSays};
 ghost use Rattle.wire.specs.Calls.{readAs};
 ghost use Rattle.stream.specs.Stream.{inside};
 ghost use Rattle.stream.specs.Calls.{allowed, unfinished, heardOf, unheard, eventFrom};

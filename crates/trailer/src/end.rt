@@ -1,6 +1,6 @@
 use crate::words;
-use backup::Written;
 use board::Board;
+use wire::Written;
 
 // Writes the board's settings as a backup text to the file that was named, if one was.
 pub(crate) fn store(board: Board) {
@@ -13,7 +13,7 @@ pub(crate) fn store(board: Board) {
     let mut text = [0u8; paper::TEXT_ROOM];
     let written = backup::write(table, &mut text);
     match written {
-        Written::Text(count) => keep(&path[..len], &text, count),
+        Written::Len(count) => keep(&path[..len], &text, count),
         Written::Refused(_) => words::say(b"refused 12: the board's table is not allowed"),
     }
 }

@@ -1,7 +1,7 @@
 use crate::words;
 use backup::Checked;
 use board::Board;
-use board::Judged;
+use board::Handed;
 use tables::Table;
 use who::Verdict;
 
@@ -72,7 +72,7 @@ fn named(product: u16, version: u16, table: Table) -> Begun {
 }
 
 // Returns the board of a start, or none and says why.
-fn judged_start(judged: Judged) -> Begun {
+fn judged_start(judged: Handed) -> Begun {
     let board = judged.board;
     let verdict = judged.verdict;
     match verdict {

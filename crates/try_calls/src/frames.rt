@@ -53,7 +53,7 @@ pub fn set(row: &[u8]) {
 // What a writer answers, and the frame at the front of what was lent.
 fn told(written: Written, space: [u8; SPACE]) {
     match written {
-        Written::Frame(len) => say::front(space, len),
+        Written::Len(len) => say::front(space, len),
         Written::Refused(number) => say::refused(number),
     }
 }

@@ -14,9 +14,9 @@ use crate::parts::start_of;
 use crate::say;
 use crate::words;
 use backup::Checked;
-use backup::Written;
 use bytes::scan::find;
 use tables::Table;
+use wire::Written;
 
 // In a word that replaces a line of a text, what is between the line's number and its bytes.
 const EQUALS: u8 = b'=';
@@ -34,7 +34,7 @@ pub fn text(row: &[u8]) {
     let table = filled::table_of(row, false);
     let written = backup::write(table, &mut space[0..room]);
     match written {
-        Written::Text(len) => shown(len, space),
+        Written::Len(len) => shown(len, space),
         Written::Refused(number) => say::refused(number),
     }
 }
@@ -68,7 +68,7 @@ fn factory_text() -> Draft {
 // The length of a text; 0 of a refusal.
 fn len_of(written: Written) -> usize {
     match written {
-        Written::Text(len) => len,
+        Written::Len(len) => len,
         Written::Refused(_) => 0,
     }
 }

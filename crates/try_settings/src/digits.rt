@@ -66,7 +66,7 @@ fn is_written(byte: usize) -> bool {
     let mut out = [0u8; FRAME_ROOM];
     let written = wire::write_frame(GET, &[low(byte)], &mut out);
     match written {
-        Written::Frame(len) => (len == LEN) & is_front(out, frame_of(byte)),
+        Written::Len(len) => (len == LEN) & is_front(out, frame_of(byte)),
         Written::Refused(_) => false,
     }
 }

@@ -21,15 +21,15 @@ use Rattle.view.specs.declared.Viewed.{Viewed}
 
 -- a viewer that is allowed
 module _ (v : Viewer) (ok : allowed v ≡ true) where
-  pub few-asked : v .asked ≤ count
+  pub few-answered : v .answered ≤ count
   unfolding allowed
-  few-asked = leb-true (v .asked) count (and-right (leb (v .understood) (v .asked)) (leb (v .asked) count) ok)
+  few-answered = leb-true (v .answered) count (and-right (leb (v .understood) (v .answered)) (leb (v .answered) count) ok)
 
-  pub few-understood : v .understood ≤ v .asked
+  pub few-understood : v .understood ≤ v .answered
   unfolding allowed
-  few-understood = leb-true (v .understood) (v .asked) (and-left (leb (v .understood) (v .asked)) (leb (v .asked) count) ok)
+  few-understood = leb-true (v .understood) (v .answered) (and-left (leb (v .understood) (v .answered)) (leb (v .answered) count) ok)
 
-pub is-allowed : (a u : ℕ) → u ≤ a → a ≤ count → allowed (record { asked = a; understood = u }) ≡ true
+pub is-allowed : (a u : ℕ) → u ≤ a → a ≤ count → allowed (record { answered = a; understood = u }) ≡ true
 unfolding allowed
 is-allowed a u h k = both _ _ (le-leb u a h) (le-leb a count k)
 
@@ -37,13 +37,13 @@ is-allowed a u h k = both _ _ (le-leb u a h) (le-leb a count k)
 abbrev sight : Viewer → Frame → Sight
 sight v f = sightOf v (f .command) (f .bytes)
 
-sight-is : (v : Viewer) (f : Frame) → sight v f ≡ sightFor (drop (v .asked) ids) f
+sight-is : (v : Viewer) (f : Frame) → sight v f ≡ sightFor (drop (v .answered) ids) f
 unfolding sightOf
-sight-is v f = by (ltb (v .asked) count) refl
+sight-is v f = by (ltb (v .answered) count) refl
   where
-    by : (t : Bool) → ltb (v .asked) count ≡ t → cond t (sightAt (idAt (v .asked)) (f .command) (f .bytes)) Sight.Nothing ≡ sightFor (drop (v .asked) ids) f
-    by true h = rw (drop-turn ids (v .asked) (ltb-true (v .asked) count h))
-    by false h = rw (drop-of-length-le ids {i = v .asked} (ltb-false (v .asked) count h))
+    by : (t : Bool) → ltb (v .answered) count ≡ t → cond t (sightAt (idAt (v .answered)) (f .command) (f .bytes)) Sight.Nothing ≡ sightFor (drop (v .answered) ids) f
+    by true h = rw (drop-turn ids (v .answered) (ltb-true (v .answered) count h))
+    by false h = rw (drop-of-length-le ids {i = v .answered} (ltb-false (v .answered) count h))
 
 -- a call on an allowed viewer
 pub viewed : (v : Viewer) (f : Frame) → allowed v ≡ true → viewing v (f .command) (f .bytes) ≡ told (moved v (sight v f)) (sight v f)
@@ -58,27 +58,27 @@ one-answered (Sight.Strange id) = (omega arith, omega arith)
 -- it stays allowed
 moved-allowed : (v : Viewer) (f : Frame) → allowed v ≡ true → allowed (moved v (sight v f)) ≡ true
 unfolding sightOf
-moved-allowed v f ok = by (ltb (v .asked) count) refl
+moved-allowed v f ok = by (ltb (v .answered) count) refl
   where
-    by : (t : Bool) → ltb (v .asked) count ≡ t → allowed (moved v (cond t (sightAt (idAt (v .asked)) (f .command) (f .bytes)) Sight.Nothing)) ≡ true
+    by : (t : Bool) → ltb (v .answered) count ≡ t → allowed (moved v (cond t (sightAt (idAt (v .answered)) (f .command) (f .bytes)) Sight.Nothing)) ≡ true
     by true h =
-        let s : Sight = sightAt (idAt (v .asked)) (f .command) (f .bytes) in
-        let less : v .asked < count = ltb-true (v .asked) count h in
+        let s : Sight = sightAt (idAt (v .answered)) (f .command) (f .bytes) in
+        let less : v .answered < count = ltb-true (v .answered) count h in
         let one = one-answered s in
-        let under : v .understood ≤ v .asked = few-understood v ok in
-        is-allowed (v .asked + answers s) (v .understood + shows s) (omega (arith, one .0)) (omega (arith, one .1))
-    by false h = is-allowed (v .asked + 0) (v .understood + 0) (omega (arith, few-understood v ok)) (omega (arith, few-asked v ok))
+        let under : v .understood ≤ v .answered = few-understood v ok in
+        is-allowed (v .answered + answers s) (v .understood + shows s) (omega (arith, one .0)) (omega (arith, one .1))
+    by false h = is-allowed (v .answered + 0) (v .understood + 0) (omega (arith, few-understood v ok)) (omega (arith, few-answered v ok))
 
 -- the frames count from the id on that is due
 record From (v : Viewer) (frames : List Frame) (last : Viewed) : Type 0 where
   pub stays : allowed (last .viewer) ≡ true
-  pub asked-from : last .viewer .asked ≡ v .asked + counted answers (drop (v .asked) ids) frames
-  pub understood-from : last .viewer .understood ≡ v .understood + counted shows (drop (v .asked) ids) frames
+  pub asked-from : last .viewer .answered ≡ v .answered + counted answers (drop (v .answered) ids) frames
+  pub understood-from : last .viewer .understood ≡ v .understood + counted shows (drop (v .answered) ids) frames
   pub next-own : last .next ≡ nextOf (last .viewer)
 
 counted-turn : (weigh : Sight → ℕ) (v : Viewer) (f : Frame) (more : List Frame)
-    → counted weigh (drop (v .asked) ids) (f ∷ more) ≡ weigh (sight v f) + counted weigh (drop (v .asked + answers (sight v f)) ids) more
-counted-turn weigh v f more = rw (← sight-is v f, drop-drop (answers (sight v f)) (v .asked) ids)
+    → counted weigh (drop (v .answered) ids) (f ∷ more) ≡ weigh (sight v f) + counted weigh (drop (v .answered + answers (sight v f)) ids) more
+counted-turn weigh v f more = rw (← sight-is v f, drop-drop (answers (sight v f)) (v .answered) ids)
 
 from-calls : (frames : List Frame) (v : Viewer) (s : Sight) → allowed v ≡ true → From v frames (calls (told v s) frames)
 from-calls [] v s ok = record { stays = ok; asked-from = omega arith; understood-from = omega arith; next-own = refl }
@@ -87,21 +87,21 @@ from-calls (f ∷ more) v s ok =
     rw (viewed v f ok)
     (record {
       stays = later .stays;
-      asked-from = rw (counted-turn answers v f more) (omega (arith, later .asked-from));
+      asked-from = rw (counted-turn answers v f more) (omega (arith, later .answered-from));
       understood-from = rw (counted-turn shows v f more) (omega (arith, later .understood-from));
       next-own = later .next-own;
     })
 
 -- it is done exactly where every id was answered
-done-asked : (v : Viewer) → allowed v ≡ true → (nextOf v ≡ Next.Done) ↔ (v .asked ≡ count)
-done-asked v ok = (by (ltb (v .asked) count) refl, λ all. rw (le-ltb (v .asked) count (omega arith)))
+done-asked : (v : Viewer) → allowed v ≡ true → (nextOf v ≡ Next.Done) ↔ (v .answered ≡ count)
+done-asked v ok = (by (ltb (v .answered) count) refl, λ all. rw (le-ltb (v .answered) count (omega arith)))
   where
-    by : (t : Bool) → ltb (v .asked) count ≡ t → cond t (Next.Waiting (idAt (v .asked))) Next.Done ≡ Next.Done → v .asked ≡ count
+    by : (t : Bool) → ltb (v .answered) count ≡ t → cond t (Next.Waiting (idAt (v .answered))) Next.Done ≡ Next.Done → v .answered ≡ count
     by true h e = let z : _≡_ {A = ℕ} 0 1 = cc in absurd (omega arith)
-    by false h e = let most : count ≤ v .asked = ltb-false (v .asked) count h in omega (arith, few-asked v ok)
+    by false h e = let most : count ≤ v .answered = ltb-false (v .answered) count h in omega (arith, few-answered v ok)
 
 begun-allowed : allowed begun ≡ true
-begun-allowed = is-allowed (begun .asked) (begun .understood) (omega arith) (omega arith)
+begun-allowed = is-allowed (begun .answered) (begun .understood) (omega arith) (omega arith)
 
 pub calls-allowed : (frames : List Frame) → allowed (calls starting frames .viewer) ≡ true
 calls-allowed frames = from-calls frames begun Sight.Nothing begun-allowed .stays
@@ -110,7 +110,7 @@ pub counts-are-true : CountsAreTrue
 counts-are-true frames =
     let all = from-calls frames begun Sight.Nothing begun-allowed in
     let last : Viewed = calls starting frames in
-    let asked : last .viewer .asked ≡ counted answers ids frames = all .asked-from ∙ omega arith in
+    let asked : last .viewer .answered ≡ counted answers ids frames = all .answered-from ∙ omega arith in
     let done = done-asked (last .viewer) (calls-allowed frames) in
     record {
       asked-are = asked;

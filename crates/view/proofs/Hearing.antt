@@ -89,9 +89,9 @@ sight-valued due id command bytes e =
 
 pub understood-valued : (v : Viewer) (command : ℕ) (bytes : List ℕ) (id : ℕ) → viewing v command bytes .sight ≡ Sight.Understood id → Valued id bytes
 unfolding viewing sightOf
-understood-valued v command bytes id e = by (allowed v) (ltb (v .asked) count) e
+understood-valued v command bytes id e = by (allowed v) (ltb (v .answered) count) e
   where
-    by : (a b : Bool) → cond a (told (moved v (cond b (sightAt (idAt (v .asked)) command bytes) Sight.Nothing)) (cond b (sightAt (idAt (v .asked)) command bytes) Sight.Nothing)) (stray v) .sight ≡ Sight.Understood id → Valued id bytes
-    by true true e = sight-valued (idAt (v .asked)) id command bytes e
+    by : (a b : Bool) → cond a (told (moved v (cond b (sightAt (idAt (v .answered)) command bytes) Sight.Nothing)) (cond b (sightAt (idAt (v .answered)) command bytes) Sight.Nothing)) (stray v) .sight ≡ Sight.Understood id → Valued id bytes
+    by true true e = sight-valued (idAt (v .answered)) id command bytes e
     by true false e = let z : _≡_ {A = ℕ} 0 1 = cc in absurd (omega arith)
     by false b e = let z : _≡_ {A = ℕ} 0 1 = cc in absurd (omega arith)

@@ -23,7 +23,7 @@ use Rattle.view.specs.declared.Viewer.{Viewer}
 use Rattle.view.specs.declared.Sight.{Sight}
 use Rattle.view.specs.declared.Viewed.{Viewed}
 use Rattle.view.proofs.Hearing.{heeded-is}
-use Rattle.view.proofs.Counting.{few-asked, few-understood, is-allowed, viewed, calls-allowed}
+use Rattle.view.proofs.Counting.{few-answered, few-understood, is-allowed, viewed, calls-allowed}
 
 -- a value that is understood, for each id
 abbrev values : List (List ℕ)
@@ -39,7 +39,7 @@ unfolding isUnderstood productFits serialFits serialReads
 understands k h = upTo-at count (λ i. isUnderstood (idAt i) (valueAt i)) refl k h
 
 abbrev state : ℕ → ℕ → Viewer
-state a u = record { asked = a; understood = u }
+state a u = record { answered = a; understood = u }
 
 -- a reply to the Get of the id at a place, and what it comes to
 abbrev replyAt : ℕ → Status → Frame
@@ -89,6 +89,6 @@ reach (suc a) u h k = by (leb u a) refl (λ less. reach a u less (omega arith)) 
 
 pub allowed-is-reached : AllowedIsReached
 allowed-is-reached v = (
-  λ ok. let r = reach (v .asked) (v .understood) (few-understood v ok) (few-asked v ok) in (r .frames, sym (r .arrives)),
+  λ ok. let r = reach (v .answered) (v .understood) (few-understood v ok) (few-answered v ok) in (r .frames, sym (r .arrives)),
   λ some. ap allowed (some .1) ∙ calls-allowed (some .0),
 )

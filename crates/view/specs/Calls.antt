@@ -24,7 +24,7 @@ sightAt id command bytes = onHeeded id (rest bytes) (heeding getCode id command 
 
 -- after the last id nothing is due
 unfoldable pub sightOf : Viewer → ℕ → List ℕ → Sight
-sightOf v command bytes = cond (ltb (v .asked) count) (sightAt (idAt (v .asked)) command bytes) Sight.Nothing
+sightOf v command bytes = cond (ltb (v .answered) count) (sightAt (idAt (v .answered)) command bytes) Sight.Nothing
 
 -- how many ids a frame answers, and how many of them with a value that is understood
 abbrev pub answers : Sight → ℕ
@@ -38,18 +38,18 @@ shows (Sight.Understood id) = 1
 shows (Sight.Strange id) = 0
 
 abbrev pub moved : Viewer → Sight → Viewer
-moved v s = record { asked = v .asked + answers s; understood = v .understood + shows s }
+moved v s = record { answered = v .answered + answers s; understood = v .understood + shows s }
 
 abbrev pub begun : Viewer
-begun = record { asked = 0; understood = 0 }
+begun = record { answered = 0; understood = 0 }
 
 -- The viewers that a start and replies give (the law AllowedIsReached says so, both ways).
 unfoldable pub allowed : Viewer → Bool
-allowed v = leb (v .understood) (v .asked) && leb (v .asked) count
+allowed v = leb (v .understood) (v .answered) && leb (v .answered) count
 
 -- the id that is due, or all were answered
 abbrev pub nextOf : Viewer → Next
-nextOf v = cond (ltb (v .asked) count) (Next.Waiting (idAt (v .asked))) Next.Done
+nextOf v = cond (ltb (v .answered) count) (Next.Waiting (idAt (v .answered))) Next.Done
 
 abbrev pub told : Viewer → Sight → Viewed
 told v s = record { viewer = v; next = nextOf v; sight = s }

@@ -65,7 +65,7 @@ counted weigh due (f ∷ more) = weigh (sightFor due f) + counted weigh (drop (a
 
 -- After a row of calls it is done exactly where all ids were answered.
 pub record Counts (frames : List Frame) (last : Viewed) : Type 0 where
-  pub asked-are : last .viewer .asked ≡ counted answers ids frames
+  pub asked-are : last .viewer .answered ≡ counted answers ids frames
   pub understood-are : last .viewer .understood ≡ counted shows ids frames
   pub done-when : (last .next ≡ Next.Done) ↔ (counted answers ids frames ≡ count)
 

@@ -35,8 +35,8 @@ fn on_frame(id: u16, command: u8, bytes: &[u8]) -> Sight
 pub(crate) fn by(viewer: Viewer, command: u8, bytes: &[u8]) -> Sight
     ensures { λ r. ⌜ r ≡ sightOf viewer command (now (bytes .entry)) ⌝ }
 {
-    if viewer.asked < COUNT {
-        return on_frame(state::id_at(viewer.asked), command, bytes);
+    if viewer.answered < COUNT {
+        return on_frame(state::id_at(viewer.answered), command, bytes);
     }
     Sight::Nothing
 }

@@ -13,7 +13,7 @@ pub const COUNT: usize = 8;
 
 // How many ids were answered, and how many of them with a value that was understood.
 pub struct Viewer {
-    pub asked: usize,
+    pub answered: usize,
     pub understood: usize,
 }
 
@@ -50,7 +50,7 @@ impl Viewer {
     pub fn is_allowed(self) -> bool
         ensures { λ r. ⌜ r ≡ allowed self ⌝ }
     {
-        (self.understood <= self.asked) & (self.asked <= COUNT)
+        (self.understood <= self.answered) & (self.answered <= COUNT)
     }
 
     // A frame was read, of this command and these data. A Get reply of the due id moves on, any other frame keeps waiting. Refuses 12 for a

@@ -35,7 +35,7 @@ pub(crate) fn begun() -> Viewer
     ensures { λ r. ⌜ r ≡ calls.begun ⌝ }
 {
     Viewer {
-        asked: 0,
+        answered: 0,
         understood: 0,
     }
 }
@@ -44,8 +44,8 @@ pub(crate) fn begun() -> Viewer
 fn next_of(viewer: Viewer) -> Next
     ensures { λ r. ⌜ r ≡ calls.nextOf viewer ⌝ }
 {
-    if viewer.asked < COUNT {
-        return Next::Waiting(id_at(viewer.asked));
+    if viewer.answered < COUNT {
+        return Next::Waiting(id_at(viewer.answered));
     }
     Next::Done
 }
@@ -100,7 +100,7 @@ pub(crate) fn moved(viewer: Viewer, sight: Sight) -> Viewer
     ensures { λ r. ⌜ r ≡ calls.moved viewer sight ⌝ }
 {
     Viewer {
-        asked: viewer.asked + answers(sight),
+        answered: viewer.answered + answers(sight),
         understood: viewer.understood + shows(sight),
     }
 }

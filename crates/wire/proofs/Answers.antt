@@ -11,8 +11,8 @@ use Rattle.laws.specs.Lists.{every}
 use Rattle.wire.specs.Digits.{isDigit}
 use Rattle.paper.specs.Numbers.{colon, newline}
 use Rattle.wire.specs.Frame.{frame}
-use Rattle.wire.specs.Reading.{refused, good, bodySays, brokenSays, badCount, sumsUp, commandOf, dataOf}
-use Rattle.wire.specs.Calls.{writing, unwritten, writtenAs, reading, readAs, wholeSays, readingChars, wellEnclosed, between}
+use Rattle.wire.specs.Parsing.{refused, good, bodySays, brokenSays, badCount, sumsUp, commandOf, dataOf}
+use Rattle.wire.specs.Calls.{writing, unwritten, writtenAs, parsing, readAs, wholeSays, parsingChars, wellEnclosed, between}
 
 -- the characters of a frame, in the order of the refusals
 pub body-long : (chars : List ℕ) → 73 < length chars → bodySays chars ≡ refused 1
@@ -73,16 +73,16 @@ module _ (command : ℕ) (bytes : List ℕ) (room : ℕ) (enough : 75 ≤ room) 
   writing-made k h = simp (le-ltb room 75 enough, le-ltb 15 command k, le-ltb 35 (length bytes) h)
 
 -- the whole-frame reader
-pub reading-short : (slice : List ℕ) (room : ℕ) → room < 35 → reading slice room ≡ readAs (refused 11)
-unfolding reading
+pub reading-short : (slice : List ℕ) (room : ℕ) → room < 35 → parsing slice room ≡ readAs (refused 11)
+unfolding parsing
 reading-short slice room h = simp (lt-ltb room 35 h)
 
-pub reading-loose : (slice : List ℕ) (room : ℕ) → 35 ≤ room → wellEnclosed slice ≡ false → reading slice room ≡ readAs (refused 2)
-unfolding reading wholeSays
+pub reading-loose : (slice : List ℕ) (room : ℕ) → 35 ≤ room → wellEnclosed slice ≡ false → parsing slice room ≡ readAs (refused 2)
+unfolding parsing wholeSays
 reading-loose slice room h e = simp (le-ltb room 35 h, e)
 
-pub reading-between : (slice : List ℕ) (room : ℕ) → 35 ≤ room → wellEnclosed slice ≡ true → reading slice room ≡ readAs (bodySays (between slice))
-unfolding reading wholeSays
+pub reading-between : (slice : List ℕ) (room : ℕ) → 35 ≤ room → wellEnclosed slice ≡ true → parsing slice room ≡ readAs (bodySays (between slice))
+unfolding parsing wholeSays
 reading-between slice room h e = simp (le-ltb room 35 h, e)
 
 pub enclosed-long : (slice : List ℕ) → wellEnclosed slice ≡ true → 2 ≤ length slice
@@ -90,10 +90,10 @@ enclosed-long slice e =
     leb-true 2 (length slice) (and-left (leb 2 (length slice)) (eqb (getD slice 0 0) colon && eqb (getD slice (length slice - 1) 0) newline) e)
 
 -- the reader of the characters alone
-pub chars-short : (chars : List ℕ) (room : ℕ) → room < 35 → readingChars chars room ≡ readAs (refused 11)
-unfolding readingChars
+pub chars-short : (chars : List ℕ) (room : ℕ) → room < 35 → parsingChars chars room ≡ readAs (refused 11)
+unfolding parsingChars
 chars-short chars room h = simp (lt-ltb room 35 h)
 
-pub chars-read : (chars : List ℕ) (room : ℕ) → 35 ≤ room → readingChars chars room ≡ readAs (bodySays chars)
-unfolding readingChars
+pub chars-read : (chars : List ℕ) (room : ℕ) → 35 ≤ room → parsingChars chars room ≡ readAs (bodySays chars)
+unfolding parsingChars
 chars-read chars room h = simp (le-ltb room 35 h)

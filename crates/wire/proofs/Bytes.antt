@@ -14,7 +14,7 @@ use Rattle.laws.proofs.Lists.{drop-turn}
 use Rattle.laws.proofs.Promise.{sets-front}
 use Rattle.wire.specs.Digits.{nibble}
 use Rattle.wire.specs.Frame.{digitsOf}
-use Rattle.wire.specs.Reading.{bytesOf, payloadOf, dataOf, badCount}
+use Rattle.wire.specs.Parsing.{bytesOf, payloadOf, dataOf, badCount}
 
 pub length-digitsOf : (bytes : List ℕ) → length (digitsOf bytes) ≡ 2 * length bytes
 length-digitsOf [] = refl

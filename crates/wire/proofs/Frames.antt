@@ -10,16 +10,16 @@ use Rattle.laws.specs.Promise.{overlaid}
 use Rattle.laws.proofs.Lists.{sets-append}
 use Rattle.laws.proofs.Promise.{overlaid-sets}
 use Rattle.wire.specs.Digits.{digit}
-use Rattle.paper.specs.Numbers.{colon, newline, total}
+use Rattle.paper.specs.Numbers.{colon, newline, frameTotal}
 use Rattle.wire.specs.Frame.{check, digitsOf, body, frame}
 use Rattle.wire.proofs.Bytes.{length-digitsOf}
 
 -- "Command, data bytes and check sum to 0x55 modulo 256", and no other byte does
-pub check-sums : (command : ℕ) (bytes : List ℕ) → (command + sumOf bytes + check command bytes) % 256 ≡ total
+pub check-sums : (command : ℕ) (bytes : List ℕ) → (command + sumOf bytes + check command bytes) % 256 ≡ frameTotal
 unfolding check
 check-sums command bytes = omega arith
 
-pub check-only : (command : ℕ) (bytes : List ℕ) (k : ℕ) → k < 256 → (command + sumOf bytes + k) % 256 ≡ total → k ≡ check command bytes
+pub check-only : (command : ℕ) (bytes : List ℕ) (k : ℕ) → k < 256 → (command + sumOf bytes + k) % 256 ≡ frameTotal → k ≡ check command bytes
 unfolding check
 check-only command bytes k h e = omega arith
 

@@ -12,10 +12,10 @@ use Rattle.laws.specs.Lists.{every, sumOf, Bytes}
 use Rattle.laws.proofs.Bools.{and-left, and-right}
 use Rattle.laws.proofs.Lists.{every-at, every-take, every-append, sum-append}
 use Rattle.wire.specs.Digits.{digit, nibble, isDigit}
-use Rattle.paper.specs.Numbers.{colon, newline, total}
+use Rattle.paper.specs.Numbers.{colon, newline, frameTotal}
 use Rattle.wire.specs.Frame.{check, digitsOf, body, frame}
-use Rattle.wire.specs.Reading.{Ended, good, refused, bytesOf, commandOf, payloadOf, dataOf, badCount, sumsUp, bodySays}
-use Rattle.wire.specs.Calls.{between, wellEnclosed, reading, readAs, writing, writtenAs}
+use Rattle.wire.specs.Parsing.{Ended, good, refused, bytesOf, commandOf, payloadOf, dataOf, badCount, sumsUp, bodySays}
+use Rattle.wire.specs.Calls.{between, wellEnclosed, parsing, readAs, writing, writtenAs}
 use Rattle.wire.specs.declared.Read.{Read}
 use Rattle.wire.proofs.Nibbles.{nibble-digit, digit-nibble, digit-isDigit, nibble-at}
 use Rattle.wire.proofs.Bytes.{length-bytesOf, length-data, odd-count}
@@ -62,8 +62,8 @@ module _ (command : ℕ) (bytes : List ℕ) (nib : command ≤ 15) (few : length
 
   sums-back : sumsUp (body command bytes) ≡ true
   sums-back =
-      let all : (command + (sumOf bytes + (check command bytes + 0))) % 256 ≡ total = omega (arith, check-sums command bytes) in
-      rw (command-back, payload-back, sum-append) (eq-eqb _ total all)
+      let all : (command + (sumOf bytes + (check command bytes + 0))) % 256 ≡ frameTotal = omega (arith, check-sums command bytes) in
+      rw (command-back, payload-back, sum-append) (eq-eqb _ frameTotal all)
 
   count-back : badCount (length (body command bytes)) ≡ false
   count-back = rw length-body (simp (le-ltb (2 * length bytes + 3) 3 (omega arith), ne-eqb ((2 * length bytes + 3) % 2) 0 (omega arith)))
@@ -104,7 +104,7 @@ well-enclosed (x ∷ rest) e =
     rw front (ap₂ (λ (y : ℕ) (ys : List ℕ). y ∷ ys) first split)
 
 pub frame-says : (command : ℕ) (bytes : List ℕ) → command ≤ 15 → length bytes ≤ 35 → Bytes bytes → (room : ℕ) → 35 ≤ room
-    → reading (frame command bytes) room ≡ readAs (good command bytes)
+    → parsing (frame command bytes) room ≡ readAs (good command bytes)
 unfolding frame
 frame-says command bytes nib few small room h =
     reading-between (frame command bytes) room h (enclosed-well (body command bytes))
@@ -184,10 +184,10 @@ said-body (x ∷ rest) command bytes s =
     let many : 0 < length payload = rw (length-bytesOf rest) (omega arith) in
     let parts : payload ≡ bytes ++ k ∷ [] = rw (s .bytes-are) at (last-behind payload many) in
     let small : k < 256 = ltb-true k 256 (every-at (λ b. ltb b 256) payload (bytes-small rest all) (length payload - 1) (omega arith)) in
-    let whole : (nibble x + sumOf payload) % 256 ≡ total = eqb-true _ total (s .sums) in
+    let whole : (nibble x + sumOf payload) % 256 ≡ frameTotal = eqb-true _ frameTotal (s .sums) in
     let split : sumOf payload ≡ sumOf bytes + (k + 0) = ap sumOf parts ∙ sum-append bytes (k ∷ []) in
     let first : nibble x ≡ command = s .command-is in
-    let sum : (command + sumOf bytes + k) % 256 ≡ total = omega arith in
+    let sum : (command + sumOf bytes + k) % 256 ≡ frameTotal = omega arith in
     let check-is : k ≡ check command bytes = check-only command bytes k small sum in
     let front : x ≡ digit command = sym (digit-nibble x one) ∙ ap digit (s .command-is) in
     ap₂ (λ (y : ℕ) (ys : List ℕ). y ∷ ys) front (sym (digits-bytes rest all (omega arith)) ∙ ap digitsOf (rw check-is at parts))
@@ -225,7 +225,7 @@ slice-is slice command bytes enclosed e out h =
     writing-made command bytes out h (said-nibble (between slice) command bytes s) (said-few (between slice) command bytes s)
     ∙ ap writtenAs (sym (well-enclosed slice enclosed ∙ rw chars))
 
-pub slice-written : (slice : List ℕ) (room : ℕ) (command : ℕ) (bytes : List ℕ) → reading slice room ≡ readAs (good command bytes)
+pub slice-written : (slice : List ℕ) (room : ℕ) (command : ℕ) (bytes : List ℕ) → parsing slice room ≡ readAs (good command bytes)
     → (out : ℕ) → 75 ≤ out → writing command bytes out ≡ writtenAs slice
 slice-written slice room command bytes e out h = by (ltb room 35) (wellEnclosed slice) refl refl
   where

@@ -10,7 +10,7 @@ use Rattle.laws.specs.Promise.{Given}
 use Rattle.wire.specs.Digits.{digit}
 use Rattle.paper.specs.Numbers.{colon, newline, mostNibble, mostData, frameRoom, shortBuffer, notAllowed}
 use Rattle.wire.specs.Frame.{frame}
-use Rattle.wire.specs.Reading.{Ended, good, refused, bodySays}
+use Rattle.wire.specs.Parsing.{Ended, good, refused, bodySays}
 use Rattle.wire.specs.declared.Pair.{Pair}
 use Rattle.wire.specs.declared.Written.{Written}
 use Rattle.wire.specs.declared.Read.{Read}
@@ -25,7 +25,7 @@ abbrev pub unwritten : ℕ → Given Written
 unwritten number = record { answer = Written.Refused number; written = [] }
 
 abbrev pub writtenAs : List ℕ → Given Written
-writtenAs bytes = record { answer = Written.Frame (length bytes); written = bytes }
+writtenAs bytes = record { answer = Written.Len (length bytes); written = bytes }
 
 unfoldable pub writing : ℕ → List ℕ → ℕ → Given Written
 writing command bytes room =
@@ -50,9 +50,9 @@ between slice = take (length slice - 2) (drop 1 slice)
 unfoldable pub wholeSays : List ℕ → Ended
 wholeSays slice = cond (wellEnclosed slice) (bodySays (between slice)) (refused paper.noDigit)
 
-unfoldable pub reading : List ℕ → ℕ → Given Read
-reading slice room = cond (ltb room mostData) (readAs (refused shortBuffer)) (readAs (wholeSays slice))
+unfoldable pub parsing : List ℕ → ℕ → Given Read
+parsing slice room = cond (ltb room mostData) (readAs (refused shortBuffer)) (readAs (wholeSays slice))
 
 -- The characters between colon and newline alone, as the stream has them: the same refusals but for the enclosing.
-unfoldable pub readingChars : List ℕ → ℕ → Given Read
-readingChars chars room = cond (ltb room mostData) (readAs (refused shortBuffer)) (readAs (bodySays chars))
+unfoldable pub parsingChars : List ℕ → ℕ → Given Read
+parsingChars chars room = cond (ltb room mostData) (readAs (refused shortBuffer)) (readAs (bodySays chars))

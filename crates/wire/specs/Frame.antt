@@ -2,13 +2,13 @@
 -- (byte 10)." Assumes nothing.
 use Prim.Native.Nat.{ℕ, _+_, _-_, _/_, _%_}
 use mathlib.Core.List.{List, [], _∷_, _++_}
-use Rattle.paper.specs.Numbers.{colon, newline, total}
+use Rattle.paper.specs.Numbers.{colon, newline, frameTotal}
 use Rattle.laws.specs.Lists.{sumOf}
 use Rattle.wire.specs.Digits.{digit}
 
 -- the check byte that brings command and data to the total
 unfoldable pub check : ℕ → List ℕ → ℕ
-check command bytes = (total + (256 - (command + sumOf bytes) % 256)) % 256
+check command bytes = (frameTotal + (256 - (command + sumOf bytes) % 256)) % 256
 
 -- each byte as two digits, the high nibble first
 abbrev pub digitsOf : List ℕ → List ℕ

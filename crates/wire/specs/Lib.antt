@@ -2,6 +2,6 @@
 -- order.
 pub mod Digits
 pub mod Frame
-pub mod Reading
+pub mod Parsing
 pub mod Calls
 pub mod Laws

@@ -3,7 +3,7 @@
 ghost use Rattle.laws.specs.Lists.{every};
 ghost use Rattle.laws.specs.Promise.{Gives};
 ghost use Rattle.wire.specs.Digits.{isDigit};
-ghost use Rattle.wire.specs.Calls.{pairOf, writing, reading, readingChars};
+ghost use Rattle.wire.specs.Calls.{pairOf, writing, parsing, parsingChars};
 ghost use Rattle.wire.specs.declared.Written.{Written};
 ghost use Rattle.wire.specs.declared.Read.{Read};
 ghost use mathlib.Core.Path.{_≡_};
@@ -19,9 +19,9 @@ pub struct Pair {
     pub low: u8,
 }
 
-// What the frame writer answers: the frame's length, or document 01's number of the refusal.
+// What a writer answers: the length of what it wrote, or document 01's number of the refusal.
 pub enum Written {
-    Frame(usize),
+    Len(usize),
     Refused(u8),
 }
 
@@ -59,13 +59,13 @@ pub fn write_frame(command: u8, bytes: &[u8], out: &mut [u8]) -> Written
     if paper::MOST_DATA < bytes.len() {
         return Written::Refused(paper::NOT_ALLOWED);
     }
-    Written::Frame(writer::put_frame(command, bytes, out))
+    Written::Len(writer::put_frame(command, bytes, out))
 }
 
 // Reads one whole frame, from its colon to its newline, and puts its data at the front of `into`. Refuses 11 under 35 bytes of room,
 // then 2 for a slice not so enclosed, then 1 to 4 on the characters between.
 pub fn read_frame(frame: &[u8], into: &mut [u8]) -> Read
-    ensures { λ r. ⌜ Gives Read (reading (now (frame .entry)) (length (now (into .entry)))) (now (into .entry)) r (now (into .exit)) ⌝ }
+    ensures { λ r. ⌜ Gives Read (parsing (now (frame .entry)) (length (now (into .entry)))) (now (into .entry)) r (now (into .exit)) ⌝ }
 {
     if into.len() < paper::MOST_DATA {
         return Read::Refused(paper::SHORT_BUFFER);
@@ -79,7 +79,7 @@ pub fn read_frame(frame: &[u8], into: &mut [u8]) -> Read
 // Reads the characters between a frame's colon and its newline, where they stand without the two, and puts the data at the front of
 // `into`. Refuses 11 under 35 bytes of room, then 1 to 4 on the characters.
 pub fn read_chars(chars: &[u8], into: &mut [u8]) -> Read
-    ensures { λ r. ⌜ Gives Read (readingChars (now (chars .entry)) (length (now (into .entry)))) (now (into .entry)) r (now (into .exit)) ⌝ }
+    ensures { λ r. ⌜ Gives Read (parsingChars (now (chars .entry)) (length (now (into .entry)))) (now (into .entry)) r (now (into .exit)) ⌝ }
 {
     if into.len() < paper::MOST_DATA {
         return Read::Refused(paper::SHORT_BUFFER);

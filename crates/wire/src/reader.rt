@@ -6,7 +6,7 @@ ghost use lib.ListN.{length, take};
 ghost use Rattle.laws.specs.Lists.{every};
 ghost use Rattle.laws.specs.Promise.{Gives};
 ghost use Rattle.wire.specs.Digits.{isDigit};
-ghost use Rattle.wire.specs.Reading.{bodySays, badCount, payloadOf};
+ghost use Rattle.wire.specs.Parsing.{bodySays, badCount, payloadOf};
 ghost use Rattle.wire.specs.Calls.{wellEnclosed, readAs};
 ghost use Rattle.wire.specs.declared.Read.{Read};
 use crate::Read;

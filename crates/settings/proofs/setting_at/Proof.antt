@@ -2,7 +2,7 @@
 use mathlib.Core.Path.{refl}
 use borrow.Author.Needs.{needs}
 use Rattle.settings.proofs.Rows.{getD-past}
-use Rattle.settings.specs.Columns.{ids, widths, partners, partnerAt, placeOf}
+use Rattle.settings.specs.Columns.{ids, widths, partnerIds, partnerAt, placeOf}
 use Rattle.settings.proofs.setting_at.Statement.{statement}
 use Rattle.settings.proofs.setting_at.Tie as tie
 
@@ -10,7 +10,7 @@ returns : tie.Need-returns
 unfolding partnerAt placeOf
 returns c =
     let past = c .if1 .taken in
-    rw (getD-past ids _ 0 past, getD-past widths _ 0 past, getD-past partners _ 0 past) refl
+    rw (getD-past ids _ 0 past, getD-past widths _ 0 past, getD-past partnerIds _ 0 past) refl
 
 id-of-requires : tie.Need-id-of-requires
 id-of-requires c κs = search needs

@@ -3,21 +3,21 @@ use Prim.Native.Nat.{_-_}
 use native.Mathlib.Omega.{arith}
 use borrow.Author.Needs.{needs}
 use lib.ListN.{length}
-use Rattle.rows.proofs.Decimal.{Reading, reading-start, here, reading-turn, reading-low, reading-end}
+use Rattle.rows.proofs.Decimal.{Parsing, parsing-start, here, parsing-turn, parsing-low, parsing-end}
 use Rattle.rows.proofs.decimals.value_of.Statement.{statement}
 use Rattle.rows.proofs.decimals.value_of.Tie as tie
 
 abbrev Inv-loop : tie.InvT-loop
-Inv-loop digits n₀ i₀ n i = Reading digits n i
+Inv-loop digits n₀ i₀ n i = Parsing digits n i
 
 abbrev μ-loop : tie.MeasureT-loop
 μ-loop digits n₀ i₀ n i = length digits - i
 
 loop-holds : tie.Need-loop-holds Inv-loop μ-loop
-loop-holds c = reading-start _
+loop-holds c = parsing-start _
 
 mul-n : tie.Need-mul-n Inv-loop μ-loop
-mul-n c = record { fits = omega (arith, reading-low (c .before .before .pre) (c .loop-test .taken) (c .before .loop .inv)) }
+mul-n c = record { fits = omega (arith, parsing-low (c .before .before .pre) (c .loop-test .taken) (c .before .loop .inv)) }
 
 shared-slice-read-n : tie.Need-shared-slice-read-n Inv-loop μ-loop
 shared-slice-read-n c = omega arith
@@ -30,7 +30,7 @@ cast-n c = record { fits = omega (arith, here (c .before .before .before .pre) (
 
 add-n : tie.Need-add-n Inv-loop μ-loop
 add-n c =
-    let low = reading-low (c .before .before .before .pre) (c .before .loop-test .taken) (c .before .before .loop .inv) in
+    let low = parsing-low (c .before .before .before .pre) (c .before .loop-test .taken) (c .before .before .loop .inv) in
     record { fits = omega (arith, low, here (c .before .before .before .pre) (c .before .loop-test .taken) (c .before .before .loop .inv) .1) }
 
 add-i : tie.Need-add-i Inv-loop μ-loop
@@ -40,10 +40,10 @@ loop-less : tie.Need-loop-less Inv-loop μ-loop
 loop-less c = omega arith
 
 loop-again : tie.Need-loop-again Inv-loop μ-loop
-loop-again c = reading-turn (c .before .before .before .pre) (c .before .loop-test .taken) (c .before .before .loop .inv)
+loop-again c = parsing-turn (c .before .before .before .pre) (c .before .loop-test .taken) (c .before .before .loop .inv)
 
 returns : tie.Need-returns Inv-loop μ-loop
-returns c = reading-end (c .loop-test .left) (c .before .loop .inv)
+returns c = parsing-end (c .loop-test .left) (c .before .loop .inv)
 
 pub value-of-spec : {M : Type 1} → statement M
 value-of-spec =

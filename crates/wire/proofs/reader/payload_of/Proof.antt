@@ -5,7 +5,7 @@ use native.Mathlib.Omega.{arith}
 use borrow.Author.Needs.{needs}
 use lib.ListN.{length, drop, replicate, length-set}
 use lib.Seq.{sets}
-use Rattle.wire.specs.Reading.{bytesOf, payloadOf}
+use Rattle.wire.specs.Parsing.{bytesOf, payloadOf}
 use Rattle.wire.proofs.Nibbles.{nibble-at}
 use Rattle.wire.proofs.Bytes.{bytes-turn, payload-front}
 use Rattle.wire.proofs.reader.payload_of.Statement.{statement}

@@ -8,7 +8,7 @@ use borrow.Author.Tests.{eq-eqb, ne-eqb}
 use lib.ListN.{length, take, length-take}
 use Rattle.laws.specs.Lists.{sumOf}
 use Rattle.laws.proofs.Promise.{copied, gives-none, gives-bytes}
-use Rattle.wire.specs.Reading.{commandOf, payloadOf}
+use Rattle.wire.specs.Parsing.{commandOf, payloadOf}
 use Rattle.wire.specs.Calls.{readAs}
 use Rattle.wire.proofs.Nibbles.{nibble-at}
 use Rattle.wire.proofs.Bytes.{odd-count, length-data, payload-part, data-part}

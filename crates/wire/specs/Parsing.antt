@@ -7,7 +7,7 @@ use lib.Dec.{ltb, eqb}
 use Rattle.paper.specs.Numbers as paper
 use Rattle.laws.specs.Lists.{every, sumOf}
 use Rattle.wire.specs.Digits.{nibble, isDigit}
-use Rattle.paper.specs.Numbers.{mostChars, total}
+use Rattle.paper.specs.Numbers.{mostChars, frameTotal}
 
 -- what an ended frame says: a command with its data, or the number of its refusal
 pub data Ended : Type 0 where
@@ -35,7 +35,7 @@ abbrev pub badCount : ℕ → Bool
 badCount n = ltb n 3 || eqb (n % 2) 0
 
 abbrev pub sumsUp : List ℕ → Bool
-sumsUp chars = eqb ((commandOf chars + sumOf (payloadOf chars)) % 256) total
+sumsUp chars = eqb ((commandOf chars + sumOf (payloadOf chars)) % 256) frameTotal
 
 -- ended by a newline, in the order of the paper's rows: 1 "over 73 characters in the frame", 2 "a character is no digit", 3 "under 3
 -- characters, or an even count", 4 "sum is not 0x55"

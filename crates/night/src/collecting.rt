@@ -1,6 +1,6 @@
 // The collector in a talk: a board's settings read by Gets, one after the other.
-use crate::line::Ends;
 use crate::names;
+use crate::serial::Ends;
 use crate::talk;
 use crate::talk::Turn;
 use crate::words;
@@ -56,7 +56,7 @@ pub(crate) fn show(report: i32, before: Collected, after: Collected) {
 
 // Reads all settings of the board; each is shown as it comes, where that is wished.
 pub(crate) fn settings_of(ends: Ends, shown: bool) -> Collected {
-    let read = talk::whole(ends, talk::reading(), shown);
+    let read = talk::whole(ends, talk::collecting(), shown);
     read.collected
 }
 
