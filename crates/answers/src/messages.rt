@@ -37,8 +37,9 @@ pub(crate) fn number(command: u8, n: u16) -> Message
     ensures { λ r. ⌜ r ≡ messageOf command (little 2 n) ⌝ }
 {
     let mut bytes = [0u8; paper::MOST_DATA];
-    bytes[0] = (n % 256) as u8;
-    bytes[1] = (n / 256 % 256) as u8;
+    let low_first = endian::bytes_16(n);
+    bytes[0] = low_first[0];
+    bytes[1] = low_first[1];
     Message {
         command,
         len: 2,

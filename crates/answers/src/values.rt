@@ -10,11 +10,12 @@ pub(crate) fn wide(width: usize, n: u16) -> Value
     requires { ⌜ (1 ≤ width) × (width ≤ 2) ⌝ }
     ensures { λ r. ⌜ r ≡ valueOf (little width n) ⌝ }
 {
+    let low_first = endian::bytes_16(n);
     let mut bytes = [0u8; paper::MOST_SERIAL];
-    bytes[0] = (n % 256) as u8;
+    bytes[0] = low_first[0];
     if width == 1 {
         return Value { len: 1, bytes };
     }
-    bytes[1] = (n / 256 % 256) as u8;
+    bytes[1] = low_first[1];
     Value { len: 2, bytes }
 }

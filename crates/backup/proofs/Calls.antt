@@ -14,7 +14,8 @@ use Rattle.tables.specs.Rules.{allowed, factory}
 use Rattle.tables.specs.declared.Table.{Table}
 use Rattle.backup.specs.Text.{header, places, textOf, refused, linesSay, saysFor, textSays}
 use Rattle.backup.proofs.Places.{header-long}
-use Rattle.backup.specs.Calls.{unwritten, writtenAs, writing, readAs, parsing}
+use Rattle.wire.specs.Calls.{unwritten, writtenAs}
+use Rattle.backup.specs.Calls.{writing, readAs, parsing}
 
 -- a text that begins with the header is as long at least
 pub header-inside : (text : List ℕ) → same (take (length header) text) header ≡ true → 12 ≤ length text

@@ -13,7 +13,8 @@ use Rattle.settings.specs.Columns.{count, idAt}
 use Rattle.tables.specs.Rules.{numberAt}
 use Rattle.tables.specs.declared.Table.{Table}
 use Rattle.rows.specs.Row.{rowOf, rowRoom}
-use Rattle.rows.specs.Calls.{writing, writtenAs}
+use Rattle.wire.specs.Calls.{writtenAs}
+use Rattle.rows.specs.Calls.{writing}
 use Rattle.wire.specs.declared.Written.{Written}
 use Rattle.rows.proofs.Rows.{write-made}
 use Rattle.rows.proofs.Theorems.{row-is-short}

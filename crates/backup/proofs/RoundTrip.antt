@@ -27,7 +27,8 @@ use Rattle.rows.proofs.Ranges.{range-wide}
 use Rattle.rows.proofs.Judging.{numbered}
 use Rattle.rows.proofs.Theorems.{row-is-judged-exactly, row-is-short}
 use Rattle.backup.specs.Text.{linesFor, textFor, Says, good, refused, endSays, following, linesSay, saysFor, placesFrom, places, header, textOf}
-use Rattle.backup.specs.Calls.{writtenAs, readAs}
+use Rattle.wire.specs.Calls.{writtenAs}
+use Rattle.backup.specs.Calls.{readAs}
 use Rattle.backup.specs.Laws.{arePlaces, filled, IsText, ReadExactly, RefusedInOrder, WrittenIsRead, ReadIsWritten, TextIsShort}
 use Rattle.backup.specs.declared.Checked.{Checked}
 use Rattle.backup.specs.declared.Backup.{Backup}

@@ -1,24 +1,18 @@
 -- What each public call answers, for every input. Assumes nothing.
 use Prim.Native.Nat.{ℕ}
 use mathlib.Core.Bool.{cond, not}
-use mathlib.Core.List.{List, []}
-use lib.ListN.{length}
+use mathlib.Core.List.{List}
 use lib.Dec.{ltb}
 use Rattle.paper.specs.Numbers as paper
 use Rattle.paper.specs.Numbers.{textRoom}
 use Rattle.laws.specs.Promise.{Given}
+use Rattle.wire.specs.Calls.{unwritten, writtenAs}
+use Rattle.wire.specs.declared.Written.{Written}
 use Rattle.tables.specs.Rules.{factory, allowed}
 use Rattle.tables.specs.declared.Table.{Table}
 use Rattle.backup.specs.Text.{textOf, Says, good, refused, textSays}
-use Rattle.wire.specs.declared.Written.{Written}
 use Rattle.backup.specs.declared.Checked.{Checked}
 use Rattle.backup.specs.declared.Backup.{Backup}
-
-abbrev pub unwritten : ℕ → Given Written
-unwritten number = record { answer = Written.Refused number; written = [] }
-
-abbrev pub writtenAs : List ℕ → Given Written
-writtenAs bytes = record { answer = Written.Len (length bytes); written = bytes }
 
 unfoldable pub writing : Table → ℕ → Given Written
 writing table room = cond (ltb room textRoom) (unwritten paper.shortBuffer) (cond (not (allowed table)) (unwritten paper.notAllowed) (writtenAs (textOf table)))

@@ -18,7 +18,8 @@ use Rattle.rows.specs.declared.Judged.{Judged}
 use Rattle.paper.specs.Numbers as paper
 use Rattle.paper.specs.Numbers.{textRoom}
 use Rattle.backup.specs.Text.{textFor, textOf, good, refused, saysFor}
-use Rattle.backup.specs.Calls.{writing, writtenAs, parsing, readAs}
+use Rattle.wire.specs.Calls.{writtenAs}
+use Rattle.backup.specs.Calls.{writing, parsing, readAs}
 
 -- 1. A text with any first line and lines for any places of the table that ascend: it is read as a table exactly when that table is allowed,
 -- has factory numbers at every other place, and the text is byte for byte the one that is made for it.

@@ -100,8 +100,8 @@ fn put_id(line: Line, index: usize) -> Line {
     let found = settings::at(index);
     match found {
         Found::At(setting) => {
-            let id = setting.id;
-            put_byte(put_byte(line, (id / 256) as u8), (id % 256) as u8)
+            let low_first = endian::bytes_16(setting.id);
+            put_byte(put_byte(line, low_first[1]), low_first[0])
         }
         Found::Nothing => line,
     }

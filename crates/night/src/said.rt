@@ -3,29 +3,19 @@ use crate::names;
 use lines::Line;
 use requests::Wanted;
 
-// With this flag and a value of the setting's own width comes the nearest allowed number.
-const PARAMETER: u8 = 4;
-
-// What the number is that comes with a flag.
+// Puts what the number is that comes with a flag.
 fn put_word(line: Line, flag: u8) -> Line {
-    if flag == PARAMETER {
+    if flag == paper::PARAMETER_FLAG {
         return line.put(b", nearest ");
     }
     line.put(b", number ")
 }
 
-// The number of two bytes, the low one first.
-fn number_of(low: u8, high: u8) -> u16 {
-    low as u16 + 256 * (high as u16)
-}
-
-// The number in a value of one byte or two.
+// Puts the number in a value of one byte or two.
 fn put_number(line: Line, index: usize, value: &[u8]) -> Line {
-    if value.len() == 1 {
-        return names::put_amount(line, index, number_of(value[0], 0));
-    }
-    if value.len() == 2 {
-        return names::put_amount(line, index, number_of(value[0], value[1]));
+    let len = value.len();
+    if (len == 1) | (len == 2) {
+        return names::put_amount(line, index, endian::read_16(value));
     }
     line
 }

@@ -26,7 +26,8 @@ use Rattle.lines.proofs.Digits.{digits-under}
 use Rattle.lines.proofs.Theorems.{line-is-text}
 use Rattle.rows.specs.Decimals.{isNumber}
 use Rattle.rows.specs.Row.{tab, idDigits, rowOf, rowRoom, lineLength, firstLine, isRow, idIn, numberIn}
-use Rattle.rows.specs.Calls.{unwritten, writtenAs, writing, parsing}
+use Rattle.wire.specs.Calls.{unwritten, writtenAs}
+use Rattle.rows.specs.Calls.{writing, parsing}
 use Rattle.rows.specs.Laws.{RowIsShort, Begins, Reads, row, none, ReadExactly}
 use Rattle.rows.specs.declared.Row.{Row}
 use Rattle.rows.proofs.Decimal.{number-digits, number-small, decimal-read, read-decimal}

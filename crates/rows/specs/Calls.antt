@@ -1,23 +1,18 @@
 -- What each public call answers, for every input. Assumes nothing.
 use Prim.Native.Nat.{ℕ, suc}
 use mathlib.Core.Bool.{cond, _&&_}
-use mathlib.Core.List.{List, []}
+use mathlib.Core.List.{List}
 use lib.ListN.{length}
 use lib.Dec.{ltb, eqb}
 use Rattle.paper.specs.Numbers as paper
 use Rattle.laws.specs.Promise.{Given}
+use Rattle.wire.specs.Calls.{unwritten, writtenAs}
+use Rattle.wire.specs.declared.Written.{Written}
 use Rattle.settings.specs.Columns.{count, idAt}
 use Rattle.settings.specs.Rules.{inRange}
 use Rattle.rows.specs.Row.{rowOf, rowRoom, lineLength, firstLine, isRow, idIn, numberIn}
-use Rattle.wire.specs.declared.Written.{Written}
 use Rattle.rows.specs.declared.Row.{Row}
 use Rattle.rows.specs.declared.Judged.{Judged}
-
-abbrev pub unwritten : ℕ → Given Written
-unwritten number = record { answer = Written.Refused number; written = [] }
-
-abbrev pub writtenAs : List ℕ → Given Written
-writtenAs bytes = record { answer = Written.Len (length bytes); written = bytes }
 
 unfoldable pub writing : ℕ → ℕ → ℕ → Given Written
 writing id n room = cond (ltb room rowRoom) (unwritten paper.shortBuffer) (writtenAs (rowOf id n))

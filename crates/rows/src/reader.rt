@@ -51,22 +51,20 @@ pub(crate) fn is_row(line: &[u8]) -> bool
     decimals::is_number(&line[NUMBER_AT..])
 }
 
-// The nibble of a digit: the low four bits count from 0 for a decimal digit and from 1 for a letter, and letters alone stand from 64 on.
-fn nibble_of(c: u8) -> u16
-    requires { ⌜ nibble c < 16 ⌝ }
-    ensures { λ r. ⌜ r ≡ nibble c ⌝ }
+// Returns the byte of two digits.
+fn byte_of(high: u8, low: u8) -> u8
+    requires { ⌜ (nibble high < 16) × (nibble low < 16) ⌝ }
+    ensures { λ r. ⌜ r ≡ nibble high * 16 + nibble low ⌝ }
 {
-    (c % 16 + 9 * (c / 64)) as u16
+    wire::nibble_of(high) * 16 + wire::nibble_of(low)
 }
 
-// The id of four digits.
+// Returns the id of four digits.
 fn id_of(a: u8, b: u8, c: u8, d: u8) -> u16
     requires { ⌜ (nibble a < 16) × (nibble b < 16) × (nibble c < 16) × (nibble d < 16) ⌝ }
     ensures { λ r. ⌜ r ≡ (nibble a * 16 + nibble b) * 256 + (nibble c * 16 + nibble d) ⌝ }
 {
-    let high = nibble_of(a) * 16 + nibble_of(b);
-    let low = nibble_of(c) * 16 + nibble_of(d);
-    high * 256 + low
+    byte_of(a, b) as u16 * 256 + byte_of(c, d) as u16
 }
 
 // What a line so built says.

@@ -34,7 +34,8 @@ use Rattle.backup.specs.declared.Backup.{Backup}
 use lib.Dec.{ltb}
 use Rattle.laws.specs.Promise.{Given}
 use Rattle.backup.specs.Text.{Says as Judgement, good, refused, textOf, textSays}
-use Rattle.backup.specs.Calls.{writtenAs, writing, parsing, readAs}
+use Rattle.wire.specs.Calls.{writtenAs}
+use Rattle.backup.specs.Calls.{writing, parsing, readAs}
 use Rattle.wire.specs.declared.Written.{Written}
 use Rattle.backup.proofs.Theorems.{read-is-written, written-is-read}
 use Rattle.tally.specs.Results.{tallyAllowed}

@@ -72,7 +72,7 @@ moved-allowed v f ok = by (ltb (v .answered) count) refl
 -- the frames count from the id on that is due
 record From (v : Viewer) (frames : List Frame) (last : Viewed) : Type 0 where
   pub stays : allowed (last .viewer) ≡ true
-  pub asked-from : last .viewer .answered ≡ v .answered + counted answers (drop (v .answered) ids) frames
+  pub answered-from : last .viewer .answered ≡ v .answered + counted answers (drop (v .answered) ids) frames
   pub understood-from : last .viewer .understood ≡ v .understood + counted shows (drop (v .answered) ids) frames
   pub next-own : last .next ≡ nextOf (last .viewer)
 
@@ -81,13 +81,13 @@ counted-turn : (weigh : Sight → ℕ) (v : Viewer) (f : Frame) (more : List Fra
 counted-turn weigh v f more = rw (← sight-is v f, drop-drop (answers (sight v f)) (v .answered) ids)
 
 from-calls : (frames : List Frame) (v : Viewer) (s : Sight) → allowed v ≡ true → From v frames (calls (told v s) frames)
-from-calls [] v s ok = record { stays = ok; asked-from = omega arith; understood-from = omega arith; next-own = refl }
+from-calls [] v s ok = record { stays = ok; answered-from = omega arith; understood-from = omega arith; next-own = refl }
 from-calls (f ∷ more) v s ok =
     let later = from-calls more (moved v (sight v f)) (sight v f) (moved-allowed v f ok) in
     rw (viewed v f ok)
     (record {
       stays = later .stays;
-      asked-from = rw (counted-turn answers v f more) (omega (arith, later .answered-from));
+      answered-from = rw (counted-turn answers v f more) (omega (arith, later .answered-from));
       understood-from = rw (counted-turn shows v f more) (omega (arith, later .understood-from));
       next-own = later .next-own;
     })

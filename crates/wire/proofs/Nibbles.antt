@@ -1,7 +1,7 @@
 -- A digit and its nibble are each other's: every nibble's digit is read as that nibble, and a character that is read as a nibble is
 -- that nibble's digit. Assumes nothing.
 use mathlib.Core.Path.{_≡_, refl, sym, _∙_}
-use mathlib.Core.Bool.{Bool, true, false, not, _&&_, _||_}
+use mathlib.Core.Bool.{Bool, true, false, false≢true, not, _&&_, _||_}
 use Prim.Native.Nat.{ℕ, _+_, _*_, _/_, _%_, _≤_, _<_, _-_}
 use native.Mathlib.Omega.{arith}
 use borrow.Author.Tests.{lt-ltb, le-ltb, lt-leb, le-leb, leb-true, ltb-true, ltb-false, ne-eqb}
@@ -49,6 +49,15 @@ digit-test c = by (leb 48 c && leb c 57) (leb 65 c && leb c 70) refl refl
         let high : c ≤ 70 = leb-true c 70 (and-right (leb 65 c) _ q) in
         rw (nibble-high c low high) (sym (lt-ltb (c - 55) 16 (omega arith)))
     by false false p q = rw (nibble-none c p q)
+
+-- any other has 16 for its nibble
+pub none-is-16 : (c : ℕ) → isDigit c ≡ false → nibble c ≡ 16
+none-is-16 c none = by (leb 48 c && leb c 57) (leb 65 c && leb c 70) refl refl
+  where
+    by : (s t : Bool) → (leb 48 c && leb c 57) ≡ s → (leb 65 c && leb c 70) ≡ t → nibble c ≡ 16
+    by true t p q = absurd (false≢true (sym none ∙ sym (digit-test c) ∙ rw p refl))
+    by false true p q = absurd (false≢true (sym none ∙ sym (digit-test c) ∙ rw (p, q) refl))
+    by false false p q = nibble-none c p q
 
 -- and its nibble is its low four bits, with nine more for a letter
 pub nibble-bits : (c : ℕ) → nibble c < 16 → c % 16 + 9 * (c / 64) ≡ nibble c

@@ -11,6 +11,7 @@ use Rattle.wire.specs.declared.Pair.{Pair}
 use Rattle.wire.specs.declared.Written.{Written}
 use Rattle.wire.specs.declared.Read.{Read}
 use Rattle.wire.proofs.pair_of.Reads as pair-of
+use Rattle.wire.proofs.nibble_of.Reads as nibble-of
 use Rattle.wire.proofs.all_digits.Reads as all-digits
 use Rattle.wire.proofs.write_frame.Reads as write-frame
 use Rattle.wire.proofs.read_frame.Reads as read-frame
@@ -34,6 +35,9 @@ module _ (κs : Lfts 2) (bytes buffer left left′ : RefT (List ℕ)) where
 
 pub pair-of-same : (byte : ℕ) (r r′ : Pair) → pair-of.Post tt (byte, tt) r (byte, tt) → pair-of.Post tt (byte, tt) r′ (byte, tt) → r ≡ r′
 pair-of-same byte r r′ met met′ = equal-same met met′
+
+pub nibble-of-same : (c r r′ : ℕ) → nibble-of.Post tt (c, tt) r (c, tt) → nibble-of.Post tt (c, tt) r′ (c, tt) → r ≡ r′
+nibble-of-same c r r′ met met′ = equal-same met met′
 
 pub all-digits-same : (κs : Lfts 1) (chars : RefT (List ℕ)) (r r′ : Bool) → all-digits.Post κs (chars, tt) r (chars, tt) → all-digits.Post κs (chars, tt) r′ (chars, tt) → r ≡ r′
 all-digits-same κs chars r r′ met met′ = equal-same met met′

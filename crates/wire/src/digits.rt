@@ -7,6 +7,9 @@ use crate::Pair;
 
 const TEN: u8 = 10;
 
+// What is told of a character that is no digit.
+pub(crate) const NO_NIBBLE: u8 = 16;
+
 // The character of a nibble.
 pub(crate) fn digit_of(n: u8) -> u8
     requires { ⌜ n < 16 ⌝ }

@@ -2,7 +2,7 @@
 // fixes its answer and every lent byte (specs/Calls.antt).
 ghost use Rattle.laws.specs.Lists.{every};
 ghost use Rattle.laws.specs.Promise.{Gives};
-ghost use Rattle.wire.specs.Digits.{isDigit};
+ghost use Rattle.wire.specs.Digits.{nibble, isDigit};
 ghost use Rattle.wire.specs.Calls.{pairOf, writing, parsing, parsingChars};
 ghost use Rattle.wire.specs.declared.Written.{Written};
 ghost use Rattle.wire.specs.declared.Read.{Read};
@@ -36,6 +36,16 @@ pub fn pair_of(byte: u8) -> Pair
     ensures { λ r. ⌜ r ≡ pairOf byte ⌝ }
 {
     digits::pair_of(byte)
+}
+
+// Returns the nibble that a digit stands for, and 16 for any other character.
+pub fn nibble_of(c: u8) -> u8
+    ensures { λ r. ⌜ r ≡ nibble c ⌝ }
+{
+    if !digits::is_digit(c) {
+        return digits::NO_NIBBLE;
+    }
+    digits::nibble_of(c)
 }
 
 // Whether every character is a digit.
