@@ -6,16 +6,16 @@ use mathlib.Core.Path.{_≡_}
 use mathlib.Core.Bool.{true}
 use mathlib.Core.List.{List, [], _∷_, _++_}
 use lib.ListN.{length, take}
-use lib.Dec.{leb}
 use Rattle.paper.specs.Numbers as paper
 use Rattle.laws.specs.Cutting as Cutting
-use Rattle.laws.specs.Cutting.{Offer, ready}
+use Rattle.laws.specs.Cutting.{Offer}
 use Rattle.paper.specs.Numbers.{mostNibble, mostData, getCode, setCode}
 use Rattle.wire.specs.Frame.{frame}
 use Rattle.endian.specs.Numbers.{little, fromLittle}
 use Rattle.wire.specs.Parsing.{good}
-use Rattle.stream.specs.Stream.{outside, framesOf}
-use Rattle.stream.specs.Calls.{heldOf}
+use Rattle.stream.specs.Stream.{framesOf, leftBy}
+use Rattle.stream.specs.Calls.{mostHeld, heldOf, unfinished, allowed}
+use Rattle.stream.specs.Laws.{brokenIn}
 use Rattle.stream.specs.declared.Held.{Held}
 use Rattle.wire.specs.Laws as wire
 use Rattle.laws.specs.Lists.{Bytes}
@@ -32,17 +32,22 @@ use Rattle.reply.specs.declared.Reply.{Reply}
 use Rattle.follow.specs.Laws as follow
 use Rattle.demands.specs.Sets.{placeIn, valueIn, isComplete}
 
--- 1. Written by one end, read by the other as the same command and data: whole, and by the box in any cutting, with room enough in
--- each call.
+-- 1. Written by one end, read by the other as the same command and data: whole; and by the box on its stream, whatever frame it holds
+-- unfinished, whatever follows, and in any row of calls that takes the bytes: first what the frame's colon ends, then the frame.
 abbrev pub WrittenIsRead : Type 0
 WrittenIsRead = wire.WrittenIsRead
 
 abbrev pub WrittenIsHeard : Type 0
 WrittenIsHeard =
     (command : ℕ) (bytes : List ℕ) → command ≤ mostNibble → length bytes ≤ mostData → Bytes bytes
-    → (offers : List (Offer ℕ)) → ready (λ room. leb mostData room) offers ≡ true → length (frame command bytes) ≤ length offers
-    → Cutting.calls boxHears (heldOf outside) (frame command bytes) offers
-    ≡ record { state = heldOf outside; events = good command bytes ∷ []; taken = length (frame command bytes) }
+    → (held : Held) → length (held .chars) ≡ mostHeld → allowed held ≡ true → (more : List ℕ) (offers : List (Offer ℕ))
+    → Cutting.calls boxHears held (frame command bytes ++ more) offers .taken ≡ length (frame command bytes ++ more)
+    → Cutting.calls boxHears held (frame command bytes ++ more) offers
+    ≡ record {
+      state = heldOf (leftBy more);
+      events = brokenIn (unfinished held) ++ good command bytes ∷ framesOf more;
+      taken = length (frame command bytes ++ more);
+    }
 
 -- 2. Read whole, it is byte for byte what the writer makes.
 abbrev pub ReadIsWritten : Type 0
