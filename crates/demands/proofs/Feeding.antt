@@ -1,169 +1,218 @@
 -- A board fed the list in any cutting, and a follower fed the board's replies. Assumes nothing.
-use mathlib.Core.Path.{_≡_, refl, sym, ap, _∙_}
-use mathlib.Core.Bool.{true, false, _&&_, false≢true}
-use mathlib.Core.List.{List, [], _∷_, _++_, map}
-use Prim.Native.Nat.{ℕ, _+_, _-_, _≤_, min}
+use mathlib.Core.Path.{_≡_, refl, sym, ap, ap₂, subst, _∙_}
+use mathlib.Core.Bool.{Bool, true, false, cond, _&&_, false≢true}
+use mathlib.Core.List.{List, [], _∷_, _++_, map, append-nil}
+use Prim.Native.Nat.{ℕ, _+_, _-_, _≤_}
 use native.Mathlib.Omega.{arith}
 use borrow.Author.Tests.{leb-true}
-use lib.ListN.{length, take, drop, length-take, length-drop}
-use lib.Seq.{take-length}
-use lib.Dec.{leb}
+use lib.ListN.{length, take, drop, length-append, length-map}
+use lib.Seq.{take-length, take-append-seam, drop-append-seam, take-append-add}
+use lib.Dec.{leb, ltb, eqb}
 use Rattle.laws.specs.Cutting as Cutting
-use Rattle.laws.specs.Cutting.{Step, Offer, ready}
+use Rattle.laws.specs.Cutting.{Step, Offer}
 use Rattle.laws.proofs.Bools.{and-left, and-right}
-use Rattle.paper.specs.Numbers.{frameRoom, mostData}
-use Rattle.wire.specs.Parsing.{Ended}
-use Rattle.stream.specs.Stream.{Unfinished, outside, framesOf, taken}
-use Rattle.stream.specs.Calls.{heldOf, unfinished}
+use Rattle.laws.specs.Promise.{Given}
+use Rattle.paper.specs.Numbers.{frameRoom, mostChars, setCode}
+use Rattle.wire.specs.Frame.{frame}
+use Rattle.wire.specs.Laws.{Writable}
+use Rattle.wire.specs.Parsing.{Ended, refused, brokenSays}
+use Rattle.stream.specs.Stream.{Unfinished, outside, inside, framesFrom, framesOf, leftBy, taken}
+use Rattle.stream.specs.Calls.{unfinished, allowed}
+use Rattle.stream.specs.Laws.{brokenIn}
+use Rattle.stream.specs.declared.Held.{Held}
+use Rattle.stream.proofs.Helds.{unfinished-outside}
+use Rattle.stream.proofs.Reached.{unfinished-kept}
+use Rattle.stream.proofs.Theorems.{written-is-heard, heard-from-anywhere}
 use Rattle.settings.specs.Columns.{count}
 use Rattle.tables.specs.declared.Table.{Table}
-use Rattle.answers.specs.Answers.{coreAllowed}
-use Rattle.answers.specs.Requests.{setRequest}
+use Rattle.answers.specs.Requests.{setData, setRequest}
 use Rattle.answers.specs.declared.Core.{Core}
 use Rattle.board.specs.Parts.{boardAllowed}
 use Rattle.board.specs.Calls.{decidedBy, heardBy, answering}
 use Rattle.board.specs.declared.Board.{Board}
+use Rattle.board.specs.declared.Answered.{Answered}
 use Rattle.board.proofs.Pieces.{answering-heard}
-use Rattle.board.proofs.Replying.{bounded}
 use Rattle.board.proofs.Giving.{call-count}
 use Rattle.board.proofs.Theorems.{answer-keeps-allowed}
-use Rattle.restore.specs.Order.{dueSets}
-use Rattle.restore.specs.Calls.{framesFor}
-use Rattle.restore.specs.Laws.{Tables}
-use Rattle.requests.specs.declared.Wanted.{Wanted}
-use Rattle.restore.proofs.Theorems.{list-restores-it}
-use Rattle.demands.specs.Talk.{Deed, stores, calls, Said, Talk, talk, boardAt}
-use Rattle.demands.specs.Demand3.{isCalls, AnyCutting, isFeeding, acceptedSet, ListIsAccepted, repliesOf, eventFor, followed, Confirmed, ListIsConfirmed}
-use Rattle.laws.proofs.Bools.{both}
-use Rattle.stream.specs.Laws.{Writables, nothing, broken, whole}
-use Rattle.stream.proofs.Helds.{allowed-outside}
-use Rattle.stream.proofs.Theorems.{heard-is-writable}
 use Rattle.listen.specs.Hearing.{boxHears}
-use Rattle.listen.proofs.Hearing.{box-takes-all}
-use Rattle.reply.specs.Events as events
-use Rattle.reply.specs.Events.{Event, OnStream}
-use Rattle.restore.specs.Order.{order, wanted}
-use Rattle.restore.specs.Calls.{bothAllowed}
-use Rattle.follow.specs.Following.{begun}
-use Rattle.follow.specs.Laws.{run, matched, ownReply}
+use Rattle.listen.proofs.Hearing.{box-whole}
+use Rattle.reply.specs.Events.{Event, refusedFrame}
+use Rattle.restore.specs.Order.{order, wanted, dueSets}
+use Rattle.restore.specs.Calls.{bothAllowed, framesFor, listedAs, listing}
+use Rattle.restore.specs.Laws.{Tables}
+use Rattle.restore.specs.declared.Listed.{Listed}
+use Rattle.requests.specs.declared.Wanted.{Wanted}
+use Rattle.restore.proofs.Theorems.{list-restores-it, sets-are-differing}
+use Rattle.follow.specs.Following.{standing, begun, advanced}
+use Rattle.follow.specs.Calls.{answered, told, starting}
+use Rattle.follow.specs.Laws as follow
+use Rattle.follow.specs.Laws.{run, ownReply}
 use Rattle.follow.specs.declared.Follower.{Follower}
-use Rattle.follow.proofs.Theorems.{count-is-matched, done-is-all, equal-is-none, all-are-confirmed}
-use Rattle.demands.proofs.Talking.{call, any-cutting}
-use Rattle.demands.proofs.Deciding.{Sound}
-use Rattle.demands.proofs.Listing.{frameFor, listed, due-in, accepts-all}
+use Rattle.follow.specs.declared.Followed.{Followed}
+use Rattle.follow.specs.declared.Standing.{Standing}
+use Rattle.follow.proofs.Standings.{standing-is, refused-keeps, told-good, following-good}
+use Rattle.follow.proofs.Counting.{all-done, Goes, goes-far, begins}
+use Rattle.follow.proofs.Theorems.{all-are-confirmed}
+use Rattle.demands.specs.Talk.{Deed, stores, calls, Talk, talk, afterAll, saidToAll, boardAt}
+use Rattle.demands.specs.Demand3.{isCalls, Rests, setBySet, OneCallForEach, accepted, Stands, ListIsAccepted, repliesOf, eventFor, followed, Confirmed, ListIsConfirmed}
+use Rattle.demands.proofs.Deciding.{Sound, took}
+use Rattle.demands.proofs.Cuts.{cutting-read, on-line, Fit}
+use Rattle.demands.proofs.Listing.{InTable, no-set, a-set, set-writable, frameFor, listed, due-in, accepts-all, both-allowed, made-list}
 
--- calls and nothing between are a row of calls
-abbrev offersOf : List Deed → List (Offer ℕ)
-offersOf [] = []
-offersOf (stores given ∷ more) = []
-offersOf (calls n room ∷ more) = record { count = n; with = room } ∷ offersOf more
-
-abbrev talkOf : Step Board Said → Talk
-talkOf s = record { board = s .state; said = s .events; taken = s .taken }
-
-talk-row : (deeds : List Deed) (board : Board) (bytes : List ℕ) → isCalls deeds ≡ true → talk board bytes deeds ≡ talkOf (Cutting.calls call board bytes (offersOf deeds))
-talk-row [] board bytes e = refl
-talk-row (stores given ∷ more) board bytes e = absurd (false≢true e)
-talk-row (calls n room ∷ more) board bytes e =
-    let here = answering board (take n bytes) room in
-    let later = talk-row more (here .answer .board) (drop (here .answer .taken) bytes) e in
-    ap (λ (t : Talk). record { board = t .board; said = call board room (take n bytes) .events ++ t .said; taken = here .answer .taken + t .taken }) later
-
-feeding-calls : (deeds : List Deed) → isFeeding deeds ≡ true → isCalls deeds ≡ true
-feeding-calls [] e = refl
-feeding-calls (stores given ∷ more) e = absurd (false≢true e)
-feeding-calls (calls n room ∷ more) e = feeding-calls more (and-right (leb 1 n && leb frameRoom room) _ e)
-
--- any cutting
-pub cutting-read : AnyCutting
-cutting-read core u bytes deeds e =
-    let reads = any-cutting (record { core = core; reading = u }) bytes (offersOf deeds) in
-    rw (talk-row deeds (boardAt core u) bytes e) (record { said-is = reads .events-are; board-is = reads .state-is })
-
--- a call with room enough on an allowed board takes a byte at least, where there is one
-some-taken : (u : Unfinished) (piece : List ℕ) → min 1 (length piece) ≤ taken u piece
-unfolding taken
-some-taken u piece = omega arith
-
-pub call-takes : (board : Board) (piece : List ℕ) (room : ℕ) → boardAllowed board ≡ true → frameRoom ≤ room → min 1 (length piece) ≤ answering board piece room .answer .taken
+-- The list at a board that is not inside a frame: a call for each Set takes it.
+call-takes-first : (core : Core) (first rest : List ℕ) (n room : ℕ) → boardAllowed (boardAt core outside) ≡ true → frameRoom ≤ room → length first ≤ n
+    → taken outside (first ++ take (n - length first) rest) ≡ length first → answering (boardAt core outside) (take n (first ++ rest)) room .answer .taken ≡ length first
 unfolding heardBy decidedBy
-call-takes board piece room ok h = rw (answering-heard board piece room h ok) (some-taken (unfinished (board .held)) piece)
+call-takes-first core first rest n room ok enough long is =
+    let all : n ≡ length first + (n - length first) = omega arith in
+    let piece : take n (first ++ rest) ≡ first ++ take (n - length first) rest = ap (λ (m : ℕ). take m (first ++ rest)) all ∙ take-append-add first rest (n - length first) in
+    ap (λ (g : Given Answered). g .answer .taken) (answering-heard (boardAt core outside) (take n (first ++ rest)) room enough ok)
+    ∙ ap₂ taken (unfinished-kept outside) piece ∙ is
 
-all-fed : (deeds : List Deed) (board : Board) (bytes : List ℕ) → length (board .core .table .numbers) ≡ count → boardAllowed board ≡ true → isFeeding deeds ≡ true
-    → length bytes ≤ length deeds → talk board bytes deeds .taken ≡ length bytes
-all-fed [] board bytes long ok e few = omega arith
-all-fed (stores given ∷ more) board bytes long ok e few = absurd (false≢true e)
-all-fed (calls n room ∷ more) board bytes long ok e few =
-    let own = and-left (leb 1 n && leb frameRoom room) _ e in
-    let some : 1 ≤ n = leb-true 1 n (and-left (leb 1 n) _ own) in
-    let piece : List ℕ = take n bytes in
-    let here = answering board piece room in
+set-by-set : {ws : List Wanted} → InTable ws → (core : Core) (deeds : List Deed) → Fit (boardAt core outside) → setBySet (map frameFor ws) deeds ≡ true
+    → (isCalls deeds ≡ true) × (talk (boardAt core outside) (framesFor ws) deeds .taken ≡ length (framesFor ws))
+set-by-set no-set core [] f e = (refl, refl)
+set-by-set no-set core (d ∷ more) f e = absurd (false≢true e)
+set-by-set (a-set h later) core [] f e = absurd (false≢true e)
+set-by-set (a-set h later) core (stores given ∷ more) f e = absurd (false≢true e)
+set-by-set (a-set {w} {more} h later) core (calls n room ∷ ds) f e =
+    let bytes : List ℕ = setData (w .setting .index) (w .number) in
+    let first : List ℕ = frame setCode bytes in
+    let rest : List ℕ = framesFor more in
+    let ok : Writable setCode bytes = set-writable (w .setting .index) (w .number) h in
+    let own = and-left (leb (length first) n && leb frameRoom room) _ e in
+    let long : length first ≤ n = leb-true _ n (and-left (leb (length first) n) _ own) in
+    let enough : frameRoom ≤ room = leb-true frameRoom room (and-right (leb (length first) n) _ own) in
+    let ended = written-is-heard setCode bytes (ok .nibble) (ok .few) (ok .small) in
+    let here = answering (boardAt core outside) (take n (first ++ rest)) room in
     let t : ℕ = here .answer .taken in
-    let most : t ≤ min n (length bytes) = rw length-take at (bounded board piece room .within) in
-    let least : min 1 (min n (length bytes)) ≤ t = rw length-take at (call-takes board piece room ok (leb-true frameRoom room (and-right (leb 1 n) _ own))) in
-    let less : length (drop t bytes) ≤ length more = rw length-drop (omega arith) in
-    let rest : talk (here .answer .board) (drop t bytes) more .taken ≡ length bytes - t =
-    all-fed more (here .answer .board) (drop t bytes) (call-count board piece room long) (answer-keeps-allowed board piece room long ok)
-    (and-right (leb 1 n && leb frameRoom room) _ e) less ∙ length-drop t bytes in
-    omega arith
+    let count : t ≡ length first = call-takes-first core first rest n room (f .ok) enough long (ended (take (n - length first) rest) .2) in
+    let front : take t (first ++ rest) ≡ first = ap (λ (m : ℕ). take m (first ++ rest)) count ∙ take-append-seam first rest in
+    let back : drop t (first ++ rest) ≡ rest = ap (λ (m : ℕ). drop m (first ++ rest)) count ∙ drop-append-seam first rest in
+    let left : leftBy (take t (first ++ rest)) ≡ outside = ap leftBy (front ∙ sym (append-nil first)) ∙ ended [] .1 in
+    let after : Core = afterAll core (framesOf (take t (first ++ rest))) in
+    let next : here .answer .board ≡ boardAt after outside = took core outside (first ++ rest) n room .board-is ∙ ap (boardAt after) left in
+    let fit : Fit (boardAt after outside) =
+    subst Fit next (record { long = call-count (boardAt core outside) _ room (f .long); ok = answer-keeps-allowed (boardAt core outside) _ room (f .long) (f .ok) }) in
+    let goes = set-by-set later after ds fit (and-right (leb (length first) n && leb frameRoom room) _ e) in
+    (goes .0, ap₂ (λ (a b : ℕ). a + b) count (ap₂ (λ (b : Board) (l : List ℕ). talk b l ds .taken) next back ∙ goes .1) ∙ sym (length-append first rest))
 
-at-rest-allowed : (core : Core) → coreAllowed core ≡ true → boardAllowed (boardAt core outside) ≡ true
-unfolding boardAllowed
-at-rest-allowed core ok = both _ _ ok allowed-outside
+at-rest : (board : Board) → Rests board → board ≡ boardAt (board .core) outside
+at-rest board rests = on-line board (rests .held-long) (rests .is-allowed) ∙ ap (boardAt (board .core)) (unfinished-outside (board .held) (rests .not-inside))
 
-pub list-accepted : ListIsAccepted
-list-accepted core to ok two deeds feeding enough =
-    let bytes : List ℕ = framesFor (dueSets (core .table) to) in
+pub one-call-each : OneCallForEach
+one-call-each board to rests two room enough deeds e =
+    let line : board ≡ boardAt (board .core) outside = at-rest board rests in
+    let made = made-list (board .core .table) to two room enough in
+    let sets : List Wanted = dueSets (board .core .table) to in
+    let fit : Fit (boardAt (board .core) outside) = subst Fit line (record { long = two .from-long; ok = rests .is-allowed }) in
+    let row : setBySet (map frameFor sets) deeds ≡ true = rw (made, listed (due-in (board .core .table) to) .frames-are) at e in
+    let goes = set-by-set (due-in (board .core .table) to) (board .core) deeds fit row in
+    (goes .0, rw made (subst (λ (b : Board). talk b (framesFor sets) deeds .taken ≡ length (framesFor sets)) (sym line) (goes .1)))
+
+fed : (core : Core) (to : Table) → Tables (core .table) to → (deeds : List Deed) → isCalls deeds ≡ true
+    → talk (boardAt core outside) (framesFor (dueSets (core .table) to)) deeds .taken ≡ length (framesFor (dueSets (core .table) to))
+    → Stands (boardAt core outside) to (listedAs (dueSets (core .table) to)) (talk (boardAt core outside) (framesFor (dueSets (core .table) to)) deeds)
+fed core to two deeds e all =
+    let sets : List Wanted = dueSets (core .table) to in
+    let bytes : List ℕ = framesFor sets in
+    let end : Talk = talk (boardAt core outside) bytes deeds in
     let sound : Sound (core .table) = record { long = two .from-long; ok = two .from-allowed } in
-    let all = all-fed deeds (boardAt core outside) bytes (two .from-long) (at-rest-allowed core ok) feeding enough in
-    let reads = cutting-read core outside bytes deeds (feeding-calls deeds feeding) in
-    let whole : take (talk (boardAt core outside) bytes deeds .taken) bytes ≡ bytes = ap (λ (n : ℕ). take n bytes) all ∙ take-length bytes in
+    let reads = cutting-read core outside bytes deeds e in
+    let whole : take (end .taken) bytes ≡ bytes = ap (λ (n : ℕ). take n bytes) all ∙ take-length bytes in
     let list = listed (due-in (core .table) to) in
     let restored = list-restores-it (core .table) to two in
     let ends = accepts-all core sound (due-in (core .table) to) (restored .each-accepted) in
+    let frames : end .frames ≡ framesOf bytes = reads .frames-are ∙ ap framesOf whole in
+    let said : end .said ≡ map accepted (framesOf bytes) =
+    reads .said-is ∙ ap (saidToAll core) (frames ∙ list .frames-are) ∙ ends .all-said ∙ ap (map accepted) (sym (list .frames-are)) in
+    let many : length (end .said) ≡ length sets =
+    ap length said ∙ length-map (framesOf bytes) accepted ∙ ap length (list .frames-are) ∙ length-map sets frameFor in
     record {
-      all-taken = all;
-      each-accepted = reads .said-is ∙ rw (whole, list .frames-are) (ends .all-said);
-      board-is = reads .board-is ∙ rw (whole, list .frames-are, list .none-left, ends .all-after, restored .wanted-stands);
+      frames-are = frames;
+      each-accepted = said;
+      counts-are = ap₂ Listed.List (sym all) (sym many);
+      board-is = reads .board-is ∙ rw (frames, whole, list .frames-are, list .none-left, ends .all-after, restored .wanted-stands);
     }
 
+pub list-accepted : ListIsAccepted
+list-accepted board to rests two room enough deeds e all =
+    let line : board ≡ boardAt (board .core) outside = at-rest board rests in
+    let made = made-list (board .core .table) to two room enough in
+    let bytes : List ℕ = framesFor (dueSets (board .core .table) to) in
+    let fits : talk (boardAt (board .core) outside) bytes deeds .taken ≡ length bytes = subst (λ (b : Board). talk b bytes deeds .taken ≡ length bytes) line (rw made at all) in
+    rw made
+    (subst (λ (b : Board). Stands b to (listedAs (dueSets (board .core .table) to)) (talk b bytes deeds)) (sym line) (fed (board .core) to two deeds e fits))
+
 -- the board's replies are the list itself
-replies-are : (ws : List Wanted) → repliesOf (map acceptedSet ws) ≡ framesFor ws
+replies-are : (ws : List Wanted) → repliesOf (map accepted (map frameFor ws)) ≡ framesFor ws
 replies-are [] = refl
 replies-are (w ∷ ws) = ap (λ (l : List ℕ). setRequest (w .setting .index) (w .number) ++ l) (replies-are ws)
 
 -- and the box hears in them the Sets' own replies
-pub own-events : (to : Table) (ks : List ℕ) → map eventFor (map frameFor (map (wanted to) ks)) ≡ map ownReply (map (wanted to) ks)
+own-events : (to : Table) (ks : List ℕ) → map eventFor (map frameFor (map (wanted to) ks)) ≡ map ownReply (map (wanted to) ks)
 own-events to [] = refl
 own-events to (k ∷ ks) = ap (λ (l : List Event). ownReply (wanted to k) ∷ l) (own-events to ks)
 
--- what is heard on a stream is bytes
-pub on-stream : {fs : List Ended} → Writables fs → OnStream (map eventFor fs)
-on-stream nothing = events.nothing
-on-stream (broken later) = events.a-refusal (on-stream later)
-on-stream (whole w later) = events.a-frame (w .small) (on-stream later)
+-- a row of the follower's calls tells of the follower that the events give
+told-run : (from to : Table) → bothAllowed from to ≡ true → (f : Follower) (happened : List Event) → Goes from to f → follow.calls (answered f) happened ≡ answered (run f happened)
+told-run from to ok f [] g = refl
+told-run from to ok f (e ∷ more) g =
+    rw (sym (following-good f e (g .is-allowed))) (told-run from to ok (advanced f e) more (goes-far from to ok f (e ∷ []) g))
 
-follows : (from to : Table) → Tables from to → (offers : List (Offer ℕ)) → ready (λ room. leb mostData room) offers ≡ true
-    → length (framesFor (dueSets from to)) ≤ length offers → Confirmed from to (followed from to (framesFor (dueSets from to)) offers)
-follows from to two offers room many =
-    let bytes : List ℕ = framesFor (dueSets from to) in
-    let ok : bothAllowed from to ≡ true = both _ _ (two .from-allowed) (two .to-allowed) in
-    let heard-all : Cutting.calls boxHears (heldOf outside) bytes offers .events ≡ framesOf bytes = ap (λ s. s .events) (box-takes-all [] bytes offers room many) in
-    let happened : List Event = map eventFor (framesOf bytes) in
-    let stream : OnStream happened = on-stream (heard-is-writable outside bytes) in
-    let own : happened ≡ map ownReply (dueSets from to) = ap (map eventFor) (listed (due-in from to) .frames-are) ∙ own-events to (order from to) in
-    let count : run (begun from to) happened .confirmed ≡ length (dueSets from to) = ap (λ (f : Follower). f .confirmed) (ap (run (begun from to)) own ∙ all-are-confirmed from to ok) in
-    let matching : matched (dueSets from to) happened ≡ length (dueSets from to) = sym (count-is-matched from to happened ok stream) ∙ count in
-    rw heard-all
+-- a frame that the first colon breaks keeps it waiting
+broken-waits : (n : ℕ) → eventFor (brokenSays n) ≡ refusedFrame
+unfolding brokenSays
+broken-waits n = by (ltb mostChars n)
+  where
+    by : (t : Bool) → eventFor (cond t (refused 1) (refused 2)) ≡ refusedFrame
+    by true = refl
+    by false = refl
+
+skips : (f : Follower) (u : Unfinished) (fs : List Ended) → run f (map eventFor (brokenIn u ++ fs)) ≡ run f (map eventFor fs)
+skips f outside fs = refl
+skips f (inside chars) fs =
+    ap (λ (e : Event). run (advanced f e) (map eventFor fs)) (broken-waits (length chars)) ∙ ap (λ (g : Follower). run g (map eventFor fs)) (refused-keeps f)
+
+ran : (f : Follower) (u : Unfinished) {ws : List Wanted} → InTable ws → run f (map eventFor (framesFrom u (framesFor ws))) ≡ run f (map eventFor (map frameFor ws))
+ran f u no-set = refl
+ran f u (a-set {w} {more} h later) =
+    let bytes : List ℕ = setData (w .setting .index) (w .number) in
+    let ok : Writable setCode bytes = set-writable (w .setting .index) (w .number) h in
+    let frames : framesFrom u (frame setCode bytes ++ framesFor more) ≡ brokenIn u ++ map frameFor (w ∷ more) =
+    heard-from-anywhere u setCode bytes (ok .nibble) (ok .few) (ok .small) (framesFor more) .0
+    ∙ ap (λ (fs : List Ended). brokenIn u ++ frameFor w ∷ fs) (listed later .frames-are) in
+    ap (λ (fs : List Ended). run f (map eventFor fs)) frames ∙ skips f u (map frameFor (w ∷ more))
+
+follows : (from to : Table) → bothAllowed from to ≡ true → (held : Held) → length (held .chars) ≡ 74 → allowed held ≡ true → (offers : List (Offer ℕ))
+    → Cutting.calls boxHears held (framesFor (dueSets from to)) offers .taken ≡ length (framesFor (dueSets from to))
+    → Confirmed from to (followed from to held (framesFor (dueSets from to)) offers)
+unfolding starting
+follows from to ok held long fits offers all =
+    let sets : List Wanted = dueSets from to in
+    let bytes : List ℕ = framesFor sets in
+    let frames : List Ended = framesFrom (unfinished held) bytes in
+    let heard : Cutting.calls boxHears held bytes offers .events ≡ frames = ap (λ (s : Step Held Ended). s .events) (box-whole held long fits bytes offers all) in
+    let start : Goes from to (begun from to) = begins from to ok in
+    let last : Follower = record { from = from; to = to; confirmed = length sets; stopped = false } in
+    let runs : run (begun from to) (map eventFor frames) ≡ last =
+    ran (begun from to) (unfinished held) (due-in from to) ∙ ap (run (begun from to)) (own-events to (order from to)) ∙ all-are-confirmed from to ok in
+    let tells : followed from to held bytes offers ≡ answered last =
+    ap (λ (fs : List Ended). follow.calls (told (begun from to)) (map eventFor fs)) heard
+    ∙ ap (λ (t : Followed). follow.calls t (map eventFor frames)) (sym (told-good (begun from to) (start .is-allowed)))
+    ∙ told-run from to ok (begun from to) (map eventFor frames) start ∙ ap answered runs in
+    let stands : standing last ≡ cond (eqb (length sets) 0) Standing.Equal Standing.Done = sym (standing-is last _ (all-done from to ok (length sets) (omega arith))) in
+    rw tells
     (record {
-      all-confirmed = count;
-      done-when = λ some. done-is-all from to happened ok stream .1 (some, matching);
-      equal-when = λ none. equal-is-none from to happened ok .1 none;
+      all-confirmed = sets-are-differing from to;
+      ends-as = stands ∙ ap (λ (n : ℕ). cond (eqb n 0) Standing.Equal Standing.Done) (sets-are-differing from to);
     })
 
 pub list-confirmed : ListIsConfirmed
-list-confirmed core to ok two deeds feeding enough offers room many =
-    let bytes : List ℕ = framesFor (dueSets (core .table) to) in
-    let fed = list-accepted core to ok two deeds feeding enough in
-    let replies : repliesOf (talk (boardAt core outside) bytes deeds .said) ≡ bytes = ap repliesOf (fed .each-accepted) ∙ replies-are (dueSets (core .table) to) in
-    rw replies (follows (core .table) to two offers room (rw replies at many))
+list-confirmed board to rests two room enough deeds e all held long fits offers taken-all =
+    let from : Table = board .core .table in
+    let made = made-list from to two room enough in
+    let accepted-list = list-accepted board to rests two room enough deeds e all in
+    let replies : repliesOf (talk board (listing from to room .written) deeds .said) ≡ framesFor (dueSets from to) =
+    ap repliesOf (accepted-list .each-accepted) ∙ rw (made, listed (due-in from to) .frames-are) (replies-are (dueSets from to)) in
+    rw replies (follows from to (both-allowed from to two) held long fits offers (rw replies at taken-all))

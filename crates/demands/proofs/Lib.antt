@@ -2,6 +2,7 @@
 pub mod Making
 pub mod Talking
 pub mod Deciding
+pub mod Cuts
 pub mod Listing
 pub mod Feeding
 pub mod Understanding

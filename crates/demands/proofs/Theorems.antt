@@ -1,14 +1,15 @@
 -- The statements of specs/, proved. Assumes nothing.
 use Rattle.demands.specs.Demand2.{WrittenIsRead, WrittenIsHeard, ReadIsWritten, RepliesAreUnderstood, GetIsUnderstood, SetIsUnderstood, CountIsMatched}
-use Rattle.demands.specs.Demand3.{BoardDecides, AnyCutting, OneSetForEach, NoOtherSet, ListIsAccepted, ListIsConfirmed}
-use Rattle.demands.specs.Shams.{ShamsFall, RealPass}
+use Rattle.demands.specs.Demand3.{BoardDecides, AnyCutting, CuttingChangesNothing, EmptyChangesNothing, AllIsTaken, OneSetForEach, DueIsNext, OneCallForEach, ListIsAccepted, ListIsConfirmed}
+use Rattle.demands.specs.Shams.{ShamsFall, RefusingDecides, RealPass}
 use Rattle.demands.specs.Lines.{ThirteenHold}
 use Rattle.wire.proofs.Theorems as wire
-use Rattle.restore.proofs.Theorems as restore
 use Rattle.follow.proofs.Theorems as follow
 use Rattle.demands.proofs.Understanding.{heard-written, replies-understood, get-understood, set-understood}
 use Rattle.demands.proofs.Deciding as deciding
-use Rattle.demands.proofs.Feeding.{cutting-read, list-accepted, list-confirmed}
+use Rattle.demands.proofs.Cuts.{cutting-read, changes-nothing, empty-nothing, taking-all}
+use Rattle.demands.proofs.Listing.{one-for-each, due-next}
+use Rattle.demands.proofs.Feeding.{one-call-each, list-accepted, list-confirmed}
 use Rattle.demands.proofs.Shams as shams
 use Rattle.demands.proofs.Lines.{thirteen-lines-hold}
 
@@ -41,11 +42,23 @@ board-decides = deciding.board-decides
 pub any-cutting-is-read : AnyCutting
 any-cutting-is-read = cutting-read
 
-pub one-set-for-each : OneSetForEach
-one-set-for-each = restore.one-for-each
+pub cutting-changes-nothing : CuttingChangesNothing
+cutting-changes-nothing = changes-nothing
 
-pub no-other-set : NoOtherSet
-no-other-set = restore.no-other-set
+pub empty-changes-nothing : EmptyChangesNothing
+empty-changes-nothing = empty-nothing
+
+pub all-is-taken : AllIsTaken
+all-is-taken = taking-all
+
+pub one-set-for-each : OneSetForEach
+one-set-for-each = one-for-each
+
+pub due-is-next : DueIsNext
+due-is-next = due-next
+
+pub one-call-for-each : OneCallForEach
+one-call-for-each = one-call-each
 
 pub list-is-accepted : ListIsAccepted
 list-is-accepted = list-accepted
@@ -56,6 +69,9 @@ list-is-confirmed = list-confirmed
 -- the shams, and the worked lines
 pub shams-fall : ShamsFall
 shams-fall = shams.shams-fall
+
+pub refusing-decides : RefusingDecides
+refusing-decides = shams.refusing-decides
 
 pub real-pass : RealPass
 real-pass = shams.real-pass

@@ -1,7 +1,7 @@
 -- Demand 2. Assumes nothing.
 use mathlib.Core.Path.{_≡_, refl, sym, ap, _∙_}
 use mathlib.Core.Bool.{Bool, true, _&&_}
-use mathlib.Core.List.{List, [], _∷_, _++_, append-nil}
+use mathlib.Core.List.{List, [], _∷_, _++_}
 use mathlib.Core.Option.{Option, none, some}
 use Prim.Native.Nat.{ℕ, _+_, _^_, _≤_, _<_}
 use native.Mathlib.Omega.{arith}
@@ -18,8 +18,8 @@ use Rattle.stream.specs.Stream.{taken}
 use Rattle.stream.specs.Calls.{unfinished}
 use Rattle.stream.specs.Laws.{Writables, whole}
 use Rattle.endian.proofs.Theorems.{little-is-read}
-use Rattle.stream.proofs.Theorems.{written-is-heard, heard-is-writable}
-use Rattle.listen.proofs.Hearing.{box-takes-all}
+use Rattle.stream.proofs.Theorems.{written-is-heard, heard-from-anywhere, heard-is-writable}
+use Rattle.listen.proofs.Hearing.{box-whole}
 use Rattle.settings.specs.Columns.{count, idAt, widthAt, placeOf}
 use Rattle.settings.specs.Calls.{finding}
 use Rattle.tables.specs.Calls.{setTo}
@@ -43,12 +43,11 @@ use Rattle.demands.specs.Sets.{placeIn, valueIn, isComplete}
 use Rattle.demands.specs.Demand2.{WrittenIsHeard, Understood, no-reply, as-error, as-done, as-unknown, as-ping, as-get, as-set, RepliesAreUnderstood, GetIsUnderstood, SetIsUnderstood}
 use Rattle.demands.proofs.Listing.{set-writable}
 
--- a frame fed in any cutting
+-- a frame fed in any cutting, after any unfinished one
 pub heard-written : WrittenIsHeard
-heard-written command bytes nibble few small offers room many =
-    let one = written-is-heard command bytes nibble few small [] in
-    let same : frame command bytes ++ [] ≡ frame command bytes = append-nil (frame command bytes) in
-    box-takes-all [] (frame command bytes) offers room many ∙ rw (rw same at (one .0), rw same at (one .1))
+heard-written command bytes nibble few small held long ok more offers all =
+    let one = heard-from-anywhere (unfinished held) command bytes nibble few small more in
+    box-whole held long ok (frame command bytes ++ more) offers all ∙ rw (one .0, one .1)
 
 -- the replies, kind by kind
 abbrev U : Decision → Type 0

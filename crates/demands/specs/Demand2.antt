@@ -6,17 +6,19 @@ use mathlib.Core.Path.{_≡_}
 use mathlib.Core.Bool.{true}
 use mathlib.Core.List.{List, [], _∷_, _++_}
 use lib.ListN.{length, take}
-use lib.Dec.{leb}
 use Rattle.paper.specs.Numbers as paper
+use Rattle.laws.specs.Promise.{Given}
 use Rattle.laws.specs.Cutting as Cutting
-use Rattle.laws.specs.Cutting.{Offer, ready}
+use Rattle.laws.specs.Cutting.{Offer}
 use Rattle.paper.specs.Numbers.{mostNibble, mostData, getCode, setCode}
 use Rattle.wire.specs.Frame.{frame}
 use Rattle.endian.specs.Numbers.{little, fromLittle}
 use Rattle.wire.specs.Parsing.{good}
-use Rattle.stream.specs.Stream.{outside, framesOf}
-use Rattle.stream.specs.Calls.{heldOf}
+use Rattle.stream.specs.Stream.{framesOf, leftBy}
+use Rattle.stream.specs.Calls.{mostHeld, heldOf, unfinished, allowed}
+use Rattle.stream.specs.Laws.{brokenIn, stepOf}
 use Rattle.stream.specs.declared.Held.{Held}
+use Rattle.stream.specs.declared.Heard.{Heard}
 use Rattle.wire.specs.Laws as wire
 use Rattle.laws.specs.Lists.{Bytes}
 use Rattle.settings.specs.Columns.{count, widthAt}
@@ -24,7 +26,7 @@ use Rattle.answers.specs.Answers.{Sent, silent, sent, error, said}
 use Rattle.answers.specs.Requests.{getRequest, setData, setRequest}
 use Rattle.answers.specs.declared.Core.{Core}
 use Rattle.board.specs.Calls.{endedIn, deciding}
-use Rattle.listen.specs.Hearing.{boxHears}
+use Rattle.listen.specs.Hearing.{boxHearing}
 use Rattle.reply.specs.Replies.{flagOf, rest}
 use Rattle.reply.specs.Calls.{parsing}
 use Rattle.reply.specs.declared.Status.{Status}
@@ -32,17 +34,26 @@ use Rattle.reply.specs.declared.Reply.{Reply}
 use Rattle.follow.specs.Laws as follow
 use Rattle.demands.specs.Sets.{placeIn, valueIn, isComplete}
 
--- 1. Written by one end, read by the other as the same command and data: whole, and by the box in any cutting, with room enough in
--- each call.
+-- 1. Written by one end, read by the other as the same command and data: whole; and by the box on its stream, whatever frame it holds
+-- unfinished, whatever follows, and in any row of calls that takes the bytes: first what the frame's colon ends, then the frame.
 abbrev pub WrittenIsRead : Type 0
 WrittenIsRead = wire.WrittenIsRead
 
-abbrev pub WrittenIsHeard : Type 0
-WrittenIsHeard =
+abbrev pub HearsWritten : (Held → List ℕ → ℕ → Given Heard) → Type 0
+HearsWritten hear =
     (command : ℕ) (bytes : List ℕ) → command ≤ mostNibble → length bytes ≤ mostData → Bytes bytes
-    → (offers : List (Offer ℕ)) → ready (λ room. leb mostData room) offers ≡ true → length (frame command bytes) ≤ length offers
-    → Cutting.calls boxHears (heldOf outside) (frame command bytes) offers
-    ≡ record { state = heldOf outside; events = good command bytes ∷ []; taken = length (frame command bytes) }
+    → (held : Held) → length (held .chars) ≡ mostHeld → allowed held ≡ true → (more : List ℕ) (offers : List (Offer ℕ))
+    → let end = Cutting.calls (λ h room piece. stepOf (hear h piece room)) held (frame command bytes ++ more) offers in
+    end .taken ≡ length (frame command bytes ++ more)
+    → end
+    ≡ record {
+      state = heldOf (leftBy more);
+      events = brokenIn (unfinished held) ++ good command bytes ∷ framesOf more;
+      taken = length (frame command bytes ++ more);
+    }
+
+abbrev pub WrittenIsHeard : Type 0
+WrittenIsHeard = HearsWritten boxHearing
 
 -- 2. Read whole, it is byte for byte what the writer makes.
 abbrev pub ReadIsWritten : Type 0

@@ -51,7 +51,7 @@ lines =
     refused ":800100000003D" 10 ":8001004010038" ∷
     refused ":" 3 ":4AAAAFD" ∷
     refused ":253" 5 ":30250" ∷
-    nearest 0x032D 20000 0 0 ∷  -- "Set 032D to 20000 while 032C is 0: nearest 0."
+    refused ":82D0300204EAF" 10 ":82D0304000019" ∷  -- "Set 032D to 20000 while 032C is 0: nearest 0.", the factory table having 0 there
     nearest 0x032D 8700 30000 0 ∷  -- "With 032C 30000: 032D wished 8700 gives 0,
     nearest 0x032D 8701 30000 17400 ∷  -- 8701 gives 17400."
     -- "From 0320/0321 100/110 to 120/130: 0321 first."

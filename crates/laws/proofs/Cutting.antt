@@ -3,14 +3,22 @@
 use mathlib.Core.Bool.{Bool, true, _&&_}
 use lib.Dec.{leb}
 use borrow.Author.Tests.{leb-true}
-use mathlib.Core.Path.{_≡_, sym, ap, _∙_}
+use mathlib.Core.Path.{_≡_, refl, sym, ap, _∙_}
 use mathlib.Core.List.{List, [], _∷_, _++_}
 use Prim.Native.Nat.{ℕ, _+_, _≤_, _-_, min}
 use native.Mathlib.Omega.{arith}
 use lib.ListN.{length, take, drop, length-take, length-drop}
-use lib.Seq.{take-take, take-add}
+use lib.Seq.{take-take, take-add, take-all}
 use Rattle.laws.specs.Cutting.{Step, Offer, calls, ready}
 use Rattle.laws.proofs.Bools.{and-left, and-right}
+
+-- calls that come to nothing, one after the other, come to nothing
+pub all-idle : {S E C : Type 0} (call : S → C → List ℕ → Step S E) (s : S) → ((c : C) (piece : List ℕ) → call s c piece ≡ record { state = s; events = []; taken = 0 })
+    → (bytes : List ℕ) (offers : List (Offer C)) → calls call s bytes offers ≡ record { state = s; events = []; taken = 0 }
+all-idle call s idle bytes [] = refl
+all-idle {S} {E} call s idle bytes (o ∷ more) =
+    rw (idle (o .with) (take (o .count) bytes))
+    (ap (λ (t : Step S E). record { state = t .state; events = t .events; taken = 0 + t .taken }) (all-idle call s idle bytes more))
 
 -- U is where a reading is; says and left read a row of bytes from there, state is how a call holds it
 module _ {S E C U : Type 0} (call : S → C → List ℕ → Step S E) (state : U → S) (says : U → List ℕ → List E) (left : U → List ℕ → U) where
@@ -19,6 +27,20 @@ module _ {S E C U : Type 0} (call : S → C → List ℕ → Step S E) (state : 
     pub within : s .taken ≤ length bytes
     pub state-is : s .state ≡ state (left u (take (s .taken) bytes))
     pub events-are : s .events ≡ says u (take (s .taken) bytes)
+
+  -- steps that take as many of the same bytes come to the same; and one that takes all of them says what they say
+  pub read-same : (u : U) (bytes : List ℕ) (s s′ : Step S E) → Reads u bytes s → Reads u bytes s′ → s .taken ≡ s′ .taken → s ≡ s′
+  read-same u bytes s s′ one other same =
+      let states : s .state ≡ s′ .state = one .state-is ∙ rw same (sym (other .state-is)) in
+      let events : s .events ≡ s′ .events = one .events-are ∙ rw same (sym (other .events-are)) in
+      λ i. record { state = states i; events = events i; taken = same i }
+
+  pub read-whole : (u : U) (bytes : List ℕ) (s : Step S E) → Reads u bytes s → s .taken ≡ length bytes → s ≡ record { state = state (left u bytes); events = says u bytes; taken = length bytes }
+  read-whole u bytes s one all =
+      let whole : take (s .taken) bytes ≡ bytes = take-all (s .taken) bytes (omega arith) in
+      let states : s .state ≡ state (left u bytes) = one .state-is ∙ rw whole in
+      let events : s .events ≡ says u bytes = one .events-are ∙ rw whole in
+      λ i. record { state = states i; events = events i; taken = all i }
 
   module _ (says-nil : (u : U) → says u [] ≡ []) (left-nil : (u : U) → left u [] ≡ u)
       (says-append : (u : U) (xs ys : List ℕ) → says u (xs ++ ys) ≡ says u xs ++ says (left u xs) ys)
@@ -56,22 +78,24 @@ module _ {S E C U : Type 0} (call : S → C → List ℕ → Step S E) (state : 
           both u bytes here (calls call (here .state) (drop (here .taken) bytes) more) h
           (rw (h .state-is) (any-cutting u′ (drop (here .taken) bytes) more))
 
-      -- calls that take a byte at least, where there is one, take all in as many calls as there are bytes
-      module _ (serves : C → Bool) (goes-on : (u : U) (c : C) (piece : List ℕ) → serves c ≡ true → min 1 (length piece) ≤ call (state u) c piece .taken) where
-        pub all-taken : (u : U) (bytes : List ℕ) (offers : List (Offer C)) → ready serves offers ≡ true → length bytes ≤ length offers
-            → calls call (state u) bytes offers .taken ≡ length bytes
-        all-taken u bytes [] r h = omega arith
-        all-taken u bytes (o ∷ more) r h =
-            let own = and-left (leb 1 (o .count) && serves (o .with)) (ready serves more) r in
-            let some : 1 ≤ o .count = leb-true 1 _ (and-left (leb 1 (o .count)) (serves (o .with)) own) in
-            let here = call (state u) (o .with) (take (o .count) bytes) in
-            let one : min 1 (min (o .count) (length bytes)) ≤ here .taken =
-            rw length-take at (goes-on u (o .with) (take (o .count) bytes) (and-right (leb 1 (o .count)) _ own)) in
-            let reading : Reads u bytes here = part u (o .with) (o .count) bytes in
-            let first : here .taken ≤ length bytes = reading .within in
-            let u′ : U = left u (take (here .taken) bytes) in
-            let less : length (drop (here .taken) bytes) ≤ length more = rw length-drop (omega arith) in
-            let rest : calls call (here .state) (drop (here .taken) bytes) more .taken ≡ length bytes - here .taken =
-            rw (reading .state-is) (all-taken u′ (drop (here .taken) bytes) more (and-right (leb 1 (o .count) && serves (o .with)) _ r) less)
-            ∙ length-drop (here .taken) bytes in
-            omega arith
+-- Calls that take a byte at least, where there is one, take all in as many calls as there are bytes. `fit` is what a call wants of a state, and
+-- keeps.
+module _ {S E C : Type 0} (call : S → C → List ℕ → Step S E) (fit : S → Type 0) (serves : C → Bool)
+    (within : (s : S) (c : C) (piece : List ℕ) → call s c piece .taken ≤ length piece)
+    (goes-on : (s : S) (c : C) (piece : List ℕ) → fit s → serves c ≡ true → min 1 (length piece) ≤ call s c piece .taken)
+    (keeps : (s : S) (c : C) (piece : List ℕ) → fit s → fit (call s c piece .state)) where
+  pub all-taken : (s : S) (bytes : List ℕ) (offers : List (Offer C)) → fit s → ready serves offers ≡ true → length bytes ≤ length offers
+      → calls call s bytes offers .taken ≡ length bytes
+  all-taken s bytes [] f r h = omega arith
+  all-taken s bytes (o ∷ more) f r h =
+      let own = and-left (leb 1 (o .count) && serves (o .with)) (ready serves more) r in
+      let some : 1 ≤ o .count = leb-true 1 _ (and-left (leb 1 (o .count)) (serves (o .with)) own) in
+      let piece : List ℕ = take (o .count) bytes in
+      let here = call s (o .with) piece in
+      let least : min 1 (min (o .count) (length bytes)) ≤ here .taken = rw length-take at (goes-on s (o .with) piece f (and-right (leb 1 (o .count)) _ own)) in
+      let most : here .taken ≤ min (o .count) (length bytes) = rw length-take at (within s (o .with) piece) in
+      let less : length (drop (here .taken) bytes) ≤ length more = rw length-drop (omega arith) in
+      let rest : calls call (here .state) (drop (here .taken) bytes) more .taken ≡ length bytes - here .taken =
+      all-taken (here .state) (drop (here .taken) bytes) more (keeps s (o .with) piece f) (and-right (leb 1 (o .count) && serves (o .with)) _ r) less
+      ∙ length-drop (here .taken) bytes in
+      omega arith

@@ -6,7 +6,7 @@ use Prim.Native.Nat.{ℕ, zero, suc, _+_, _≤_, _<_, min}
 use native.Mathlib.Omega.{arith}
 use borrow.Author.Tests.{ltb-true, ltb-false, le-leb}
 use lib.ListN.{length, take, drop}
-use lib.Seq.{take-nil}
+use lib.Seq.{take-nil, take-length}
 use lib.Dec.{ltb, leb}
 use Rattle.laws.specs.Promise.{Given}
 use Rattle.laws.specs.Cutting.{Step, Offer, calls, ready}
@@ -24,8 +24,8 @@ use Rattle.listen.specs.declared.Told.{Told}
 use Rattle.listen.specs.declared.Listened.{Listened}
 use Rattle.listen.specs.Hearing.{boxHearing, boxHears}
 use Rattle.listen.specs.Calls.{mostQuiet, mostNoise, quieter, louder, afterNoise, afterSilence, toldBy, listenerAllowed, listening}
-use Rattle.listen.specs.Laws.{framesIn, Turn, readied, listens, listenerAt, AnyCutting, AllIsTaken, unasked, NoiseIsCounted}
-use Rattle.listen.proofs.Hearing.{box-short, box-cutting, box-takes-all, one-cut, small-refusal}
+use Rattle.listen.specs.Laws.{framesIn, Turn, readied, listens, listenerAt, AnyCutting, WholeIsTold, AllIsTaken, unasked, NoiseIsCounted}
+use Rattle.listen.proofs.Hearing.{box-short, box-cutting, box-all, one-cut, small-refusal}
 use Rattle.listen.proofs.Settling.{listening-short, listening-silent, listening-heard, filled, none-heard}
 
 -- what is told, read as frames
@@ -205,9 +205,14 @@ rooms-many (o ∷ more) = ap suc (rooms-many more)
 
 pub taking : AllIsTaken
 taking earlier bytes quiet noise few low offers serves enough =
-    let alike = all-alike earlier (listenerAt earlier quiet noise) refl few low bytes offers in
-    let all = box-takes-all earlier bytes (rooms offers) (sym (rooms-ready offers) ∙ serves) (rw (rooms-many offers) enough) in
-    (alike .taken-alike ∙ ap (λ s. s .taken) all, alike .events-alike ∙ ap (λ s. s .events) all)
+    all-alike earlier (listenerAt earlier quiet noise) refl few low bytes offers .taken-alike
+    ∙ box-all (heldOf (leftBy earlier)) bytes (rooms offers) (left-allowed earlier) (sym (rooms-ready offers) ∙ serves) (rw (rooms-many offers) enough)
+
+pub telling : WholeIsTold
+telling earlier bytes quiet noise few low offers all =
+    let cut = cutting earlier bytes quiet noise few low offers in
+    let whole : take (calls listens (listenerAt earlier quiet noise) bytes offers .taken) bytes ≡ bytes = ap (λ (n : ℕ). take n bytes) all ∙ take-length bytes in
+    (cut .frames-are ∙ rw whole, cut .held-is ∙ rw whole)
 
 pub counting : NoiseIsCounted
 counting earlier bytes quiet noise few low offers plain = all-alike earlier (listenerAt earlier quiet noise) refl few low bytes offers .noise-counted plain

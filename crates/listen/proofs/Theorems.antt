@@ -1,12 +1,15 @@
 -- The statements of specs/Laws.antt, proved. Assumes nothing.
 use mathlib.Core.Path.{refl}
-use Rattle.listen.specs.Laws.{AnyCutting, AllIsTaken, PatienceEnds, StartIsAsked, NoiseEnds, NoiseIsCounted, TakenIsWithin, FrameIsWhole, EventsAreOnStream}
+use Rattle.listen.specs.Laws.{AnyCutting, WholeIsTold, AllIsTaken, PatienceEnds, StartIsAsked, NoiseEnds, NoiseIsCounted, TakenIsWithin, FrameIsWhole, EventsAreOnStream}
 use Rattle.listen.proofs.Merging as merging
 use Rattle.listen.proofs.Patience as patience
 use Rattle.listen.proofs.Leaning as leaning
 
 pub any-cutting : AnyCutting
 any-cutting = merging.cutting
+
+pub whole-is-told : WholeIsTold
+whole-is-told = merging.telling
 
 pub all-is-taken : AllIsTaken
 all-is-taken = merging.taking

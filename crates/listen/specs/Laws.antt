@@ -61,13 +61,20 @@ AnyCutting =
     (earlier bytes : List ℕ) (quiet noise : ℕ) → quiet ≤ mostQuiet → noise ≤ mostNoise → (offers : List (Offer Turn))
     → Cut earlier bytes (calls listens (listenerAt earlier quiet noise) bytes offers)
 
--- Reads that are handed a byte at least and lend room enough take every byte, in as many reads as there are bytes.
+-- So reads that take every byte tell all its frames; and reads that are handed a byte at least and lend room enough do take every byte, in as
+-- many reads as there are bytes.
+abbrev pub WholeIsTold : Type 0
+WholeIsTold =
+    (earlier bytes : List ℕ) (quiet noise : ℕ) → quiet ≤ mostQuiet → noise ≤ mostNoise → (offers : List (Offer Turn))
+    → calls listens (listenerAt earlier quiet noise) bytes offers .taken ≡ length bytes
+    → (calls listens (listenerAt earlier quiet noise) bytes offers .events ≡ framesFrom (leftBy earlier) bytes)
+    × (calls listens (listenerAt earlier quiet noise) bytes offers .state .held ≡ heldOf (leftBy (earlier ++ bytes)))
+
 abbrev pub AllIsTaken : Type 0
 AllIsTaken =
     (earlier bytes : List ℕ) (quiet noise : ℕ) → quiet ≤ mostQuiet → noise ≤ mostNoise → (offers : List (Offer Turn))
     → ready (λ turn. leb mostData (turn .room)) offers ≡ true → length bytes ≤ length offers
-    → (calls listens (listenerAt earlier quiet noise) bytes offers .taken ≡ length bytes)
-    × (calls listens (listenerAt earlier quiet noise) bytes offers .events ≡ framesFrom (leftBy earlier) bytes)
+    → calls listens (listenerAt earlier quiet noise) bytes offers .taken ≡ length bytes
 
 -- 2. Patience ends. A listener after this many reads, one after the other, that gave nothing.
 abbrev pub silences : ℕ → Listener → ℕ → Listener

@@ -1,6 +1,7 @@
 -- The statements of specs/Laws.antt, proved. Assumes nothing.
-use Rattle.restore.specs.Laws.{OneForEach, NoOther, InOrder, ListRestores, SetsAreFew, ListIsShort, DueTells}
+use Rattle.restore.specs.Laws.{OneForEach, NoOther, SetsAreDiffering, InOrder, ListRestores, SetsAreFew, ListIsShort, DueTells}
 use Rattle.restore.proofs.Placing.{one-each, no-other, in-order}
+use Rattle.restore.proofs.Differing.{sets-differing}
 use Rattle.restore.proofs.Restoring.{list-restores}
 use Rattle.restore.proofs.Rows.{sets-few, frames-fit, tells-due}
 
@@ -9,6 +10,9 @@ one-for-each = one-each
 
 pub no-other-set : NoOther
 no-other-set = no-other
+
+pub sets-are-differing : SetsAreDiffering
+sets-are-differing = sets-differing
 
 pub sets-are-in-order : InOrder
 sets-are-in-order = in-order

@@ -1,6 +1,6 @@
 -- What is proved of the definitions, as statements to hold against the paper. Each is proved under its name in proofs/Theorems.antt.
 -- Assumes nothing.
-use Prim.Native.Nat.{ℕ, zero, suc, _≤_, _<_}
+use Prim.Native.Nat.{ℕ, zero, suc, _+_, _≤_, _<_}
 use mathlib.Core.Path.{_≡_}
 use mathlib.Core.Bool.{Bool, true, false, cond, not, _&&_}
 use mathlib.Core.List.{List, [], _∷_}
@@ -36,6 +36,14 @@ OneForEach = (from to : Table) (k : ℕ) → k < count → times k (order from t
 
 abbrev pub NoOther : Type 0
 NoOther = (from to : Table) → every (λ k. ltb k count && differs from to k) (order from to) ≡ true
+
+-- There are as many Sets as settings that differ: counted over the table, with no list in it.
+unfoldable pub differing : ℕ → Table → Table → ℕ
+differing zero from to = zero
+differing (suc n) from to = differing n from to + cond (differs from to n) 1 0
+
+abbrev pub SetsAreDiffering : Type 0
+SetsAreDiffering = (from to : Table) → length (dueSets from to) ≡ differing count from to
 
 -- 2. The order, of any two of them: "the lower id goes first if its new number agrees with the partner's present one, else the higher" where
 -- they are a pair, else "ascending id".

@@ -7,24 +7,25 @@ use native.Mathlib.Nat.{not-suc-le-zero, le-of-suc-le-suc}
 use native.Mathlib.Omega.{arith}
 use borrow.Author.Tests.{ltb-true, ltb-false, leb-true, eq-eqb}
 use lib.ListN.{length, take}
-use lib.Seq.{take-nil, take-all}
+use lib.Seq.{take-nil}
 use lib.Dec.{ltb, leb, eqb}
 use Rattle.laws.specs.Lists.{every}
-use Rattle.laws.specs.Cutting.{Step, calls}
+use Rattle.laws.specs.Cutting.{Step, Offer, calls}
 use Rattle.laws.proofs.Cutting as cutting
 use Rattle.wire.specs.Digits.{isDigit}
 use Rattle.paper.specs.Numbers.{colon, newline}
 use Rattle.wire.specs.Parsing.{Ended, good, refused, dataOf, badCount, sumsUp, bodySays, brokenSays}
 use Rattle.wire.specs.Calls.{readAs}
 use Rattle.wire.proofs.Answers.{body-long, body-strange, body-count, body-sum, body-good, broken-long, broken-short}
-use Rattle.stream.specs.Stream.{Unfinished, outside, inside, next, endedBy, ends, taken, framesFrom, leftBy}
-use Rattle.stream.specs.Calls.{heldOf, unfinished, heardOf, eventOf, eventFrom, dataOfFirst}
-use Rattle.stream.specs.Laws.{frameIn, stepOf, hears, Cut, AnyCutting, FirstAt, FirstEndIsFirst, AllIsTaken, CuttingChangesNothing, RefusedIsSmall}
+use Rattle.stream.specs.Stream.{Unfinished, outside, inside, next, endedBy, ends, taken, framesFrom, leftFrom, leftBy}
+use Rattle.stream.specs.Calls.{heldOf, unfinished, allowed, heardOf, eventOf, eventFrom, dataOfFirst}
+use Rattle.stream.specs.Laws.{frameIn, stepOf, hears, AnyCutting, FirstAt, FirstEndIsFirst, AllIsTaken, EmptyChangesNothing, RefusedIsSmall}
 use Rattle.stream.specs.declared.Held.{Held}
 use Rattle.stream.specs.declared.Event.{Event}
 use Rattle.stream.proofs.Streams.{left-append, frames-append, none-ends, taken-within}
-use Rattle.stream.proofs.Answers.{hearing-short, hearing-heard}
-use Rattle.stream.proofs.Reached.{left-allowed, kept, unfinished-kept, kept-frames, kept-left}
+use Rattle.stream.proofs.Answers.{hearing-short, hearing-stray, hearing-heard}
+use Rattle.stream.proofs.Helds.{held-same}
+use Rattle.stream.proofs.Reached.{heard-allowed, allowed-left, kept, unfinished-kept, kept-frames, kept-left}
 
 -- A frame that ends is seen as what it says: its refusals are 1 to 4.
 
@@ -126,25 +127,33 @@ heard-reads earlier piece =
       events-are = call-seen u piece ∙ kept-frames (leftBy earlier) bytes;
     }
 
-one-call : (earlier : List ℕ) (room : ℕ) (piece : List ℕ) → Reads earlier piece (hears (heldOf (leftBy earlier)) room piece)
-one-call earlier room piece = by (ltb room 35) refl
+-- a call is refused and comes to nothing, or it is heard
+each-way : (P : Step Held Ended → Type 0) (held : Held) (room : ℕ) (piece : List ℕ) → P (record { state = held; events = []; taken = 0 })
+    → (allowed held ≡ true → P (stepOf (heardOf (unfinished held) piece))) → P (hears held room piece)
+each-way P held room piece idle heard = by (ltb room 35) (allowed held) refl refl
   where
-    by : (t : Bool) → ltb room 35 ≡ t → Reads earlier piece (hears (heldOf (leftBy earlier)) room piece)
-    by true e =
-        rw (hearing-short (heldOf (leftBy earlier)) piece room (ltb-true room 35 e))
-        (record { within = omega arith; state-is = rw append-nil; events-are = refl })
-    by false e =
-        rw (hearing-heard (heldOf (leftBy earlier)) piece room (ltb-false room 35 e) (left-allowed earlier), unfinished-kept (leftBy earlier))
-        (heard-reads earlier piece)
+    by : (s t : Bool) → ltb room 35 ≡ s → allowed held ≡ t → P (hears held room piece)
+    by true t e f = rw (hearing-short held piece room (ltb-true room 35 e)) idle
+    by false false e f = rw (hearing-stray held piece room (ltb-false room 35 e) f) idle
+    by false true e f = rw (hearing-heard held piece room (ltb-false room 35 e) f) (heard f)
+
+one-call : (earlier : List ℕ) (room : ℕ) (piece : List ℕ) → Reads earlier piece (hears (heldOf (leftBy earlier)) room piece)
+one-call earlier room piece =
+    each-way (Reads earlier piece) (heldOf (leftBy earlier)) room piece (record { within = omega arith; state-is = rw append-nil; events-are = refl })
+    (λ ok. rw (unfinished-kept (leftBy earlier)) (heard-reads earlier piece))
 
 -- the reading of earlier bytes goes on in the next ones
 says-append : (e xs ys : List ℕ) → framesFrom (leftBy e) (xs ++ ys) ≡ framesFrom (leftBy e) xs ++ framesFrom (leftBy (e ++ xs)) ys
 says-append e xs ys = frames-append (leftBy e) xs ys ∙ ap (λ (u : Unfinished). framesFrom (leftBy e) xs ++ framesFrom u ys) (sym (left-append outside e xs))
 
+row-reads : (earlier bytes : List ℕ) (offers : List (Offer ℕ)) → Reads earlier bytes (calls hears (heldOf (leftBy earlier)) bytes offers)
+row-reads =
+    cutting.any-cutting hears (λ (e : List ℕ). heldOf (leftBy e)) (λ (e : List ℕ). framesFrom (leftBy e)) (λ (e xs : List ℕ). e ++ xs)
+    (λ e. refl) append-nil says-append (λ e xs ys. sym (append-assoc e xs ys)) one-call
+
 pub any-cutting : AnyCutting
 any-cutting earlier bytes offers =
-    let all = cutting.any-cutting hears (λ (e : List ℕ). heldOf (leftBy e)) (λ (e : List ℕ). framesFrom (leftBy e)) (λ (e xs : List ℕ). e ++ xs)
-    (λ e. refl) append-nil says-append (λ e xs ys. sym (append-assoc e xs ys)) one-call earlier bytes offers in
+    let all = row-reads earlier bytes offers in
     record { within = all .within; state-is = all .state-is; events-are = all .events-are }
 
 -- a call with room enough takes a byte where there is one
@@ -152,26 +161,44 @@ taken-some : (u : Unfinished) (piece : List ℕ) → min 1 (length piece) ≤ ta
 unfolding taken
 taken-some u piece = omega arith
 
-goes-on : (earlier : List ℕ) (room : ℕ) (piece : List ℕ) → leb 35 room ≡ true → min 1 (length piece) ≤ hears (heldOf (leftBy earlier)) room piece .taken
-goes-on earlier room piece e =
-    rw (hearing-heard (heldOf (leftBy earlier)) piece room (leb-true 35 room e) (left-allowed earlier)) (taken-some _ piece)
+goes-on : (held : Held) (room : ℕ) (piece : List ℕ) → allowed held ≡ true → leb 35 room ≡ true → min 1 (length piece) ≤ hears held room piece .taken
+goes-on held room piece ok e = rw (hearing-heard held piece room (leb-true 35 room e) ok) (taken-some _ piece)
 
 pub all-taken : AllIsTaken
-all-taken earlier bytes offers r h =
-    let all = calls hears (heldOf (leftBy earlier)) bytes offers in
-    let cut : Cut earlier bytes all = any-cutting earlier bytes offers in
-    let count : all .taken ≡ length bytes =
-    cutting.all-taken hears (λ (e : List ℕ). heldOf (leftBy e)) (λ (e : List ℕ). framesFrom (leftBy e)) (λ (e xs : List ℕ). e ++ xs)
-    (λ e. refl) append-nil says-append (λ e xs ys. sym (append-assoc e xs ys)) one-call (λ room. leb 35 room) goes-on earlier bytes offers r h in
-    let whole : take (all .taken) bytes ≡ bytes = take-all (all .taken) bytes (omega arith) in
-    let states : all .state ≡ heldOf (leftBy (earlier ++ bytes)) = rw whole at (cut .state-is) in
-    let events : all .events ≡ framesFrom (leftBy earlier) bytes = rw whole at (cut .events-are) in
-    λ i. record { state = states i; events = events i; taken = count i }
+all-taken =
+    cutting.all-taken hears (λ (held : Held). allowed held ≡ true) (λ room. leb 35 room)
+    (λ held room piece. each-way (λ (s : Step Held Ended). s .taken ≤ length piece) held room piece (omega arith) (λ ok. taken-within (unfinished held) piece)) goes-on
+    (λ held room piece ok. each-way (λ (s : Step Held Ended). allowed (s .state) ≡ true) held room piece ok
+    (λ f. heard-allowed held f (take (taken (unfinished held) piece) piece)))
 
-pub changes-nothing : CuttingChangesNothing
-changes-nothing earlier bytes offers offers′ all all′ e e′ same =
-    let one : Cut earlier bytes all = rw e (any-cutting earlier bytes offers) in
-    let other : Cut earlier bytes all′ = rw e′ (any-cutting earlier bytes offers′) in
-    let states : all .state ≡ all′ .state = one .state-is ∙ rw same (sym (other .state-is)) in
-    let events : all .events ≡ all′ .events = one .events-are ∙ rw same (sym (other .events-are)) in
-    λ i. record { state = states i; events = events i; taken = same i }
+-- An allowed state is one that bytes left, so all this is said of any of them.
+module _ (held : Held) (long : length (held .chars) ≡ 74) where
+  pub whole-heard : allowed held ≡ true → (bytes : List ℕ) (offers : List (Offer ℕ)) → calls hears held bytes offers .taken ≡ length bytes
+      → calls hears held bytes offers ≡ record { state = heldOf (leftFrom (unfinished held) bytes); events = framesFrom (unfinished held) bytes; taken = length bytes }
+  whole-heard ok bytes offers all =
+      let left = allowed-left held long .0 ok in
+      let u : Unfinished = leftBy (left .0) in
+      let row = row-reads (left .0) bytes offers in
+      rw (← left .1)
+      (cutting.read-whole hears (λ (e : List ℕ). heldOf (leftBy e)) (λ (e : List ℕ). framesFrom (leftBy e)) (λ (e xs : List ℕ). e ++ xs) (left .0) bytes _ row (rw (← left .1) at all)
+      ∙ rw (unfinished-kept u, kept-frames u bytes, kept-left u bytes, left-append outside (left .0) bytes))
+
+  pub changes-nothing : (bytes : List ℕ) (offers offers′ : List (Offer ℕ)) → calls hears held bytes offers .taken ≡ calls hears held bytes offers′ .taken
+      → calls hears held bytes offers ≡ calls hears held bytes offers′
+  changes-nothing bytes offers offers′ same = by (allowed held) refl
+    where
+      idle : allowed held ≡ false → (room : ℕ) (piece : List ℕ) → hears held room piece ≡ record { state = held; events = []; taken = 0 }
+      idle e room piece =
+          each-way (λ (s : Step Held Ended). s ≡ record { state = held; events = []; taken = 0 }) held room piece refl (λ f. absurd (false≢true (sym e ∙ f)))
+
+      by : (t : Bool) → allowed held ≡ t → calls hears held bytes offers ≡ calls hears held bytes offers′
+      by false e = cutting.all-idle hears held (idle e) bytes offers ∙ sym (cutting.all-idle hears held (idle e) bytes offers′)
+      by true e =
+          let left = allowed-left held long .0 e in
+          rw (← left .1)
+          (cutting.read-same hears (λ (e : List ℕ). heldOf (leftBy e)) (λ (e : List ℕ). framesFrom (leftBy e)) (λ (e xs : List ℕ). e ++ xs) (left .0) bytes _ _
+          (row-reads (left .0) bytes offers) (row-reads (left .0) bytes offers′) (rw (← left .1) at same))
+
+pub empty-nothing : EmptyChangesNothing
+unfolding taken
+empty-nothing held room long ok h = hearing-heard held [] room h ok ∙ rw (held-same held ok long)

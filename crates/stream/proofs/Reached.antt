@@ -35,7 +35,7 @@ proper-next (inside chars) b e = by (eqb b newline) (eqb b colon) refl refl
   where
     by : (s t : Bool) → eqb b newline ≡ s → eqb b colon ≡ t → proper (next (inside chars) b) ≡ true
     by true t p q = rw p
-    by false true p q = rw (p, q)
+    by false true p q = simp (p, q, e)
     by false false p q = rw (p, q, every-append, e, p, q)
 
 left-proper : (u : Unfinished) (bytes : List ℕ) → proper u ≡ true → proper (leftFrom u bytes) ≡ true
@@ -94,7 +94,7 @@ kept-next (inside chars) b = by (eqb b newline) (eqb b colon) refl refl
   where
     by : (s t : Bool) → eqb b newline ≡ s → eqb b colon ≡ t → kept (next (inside (take 74 chars)) b) ≡ kept (next (inside chars) b)
     by true t p q = rw p
-    by false true p q = rw (p, q)
+    by false true p q = simp (p, q, take-take 74 74 chars (omega arith))
     by false false p q = rw (p, q, take-again)
 
 kept-ended : (u : Unfinished) (b : ℕ) → endedBy (kept u) b ≡ endedBy u b

@@ -1,5 +1,5 @@
 -- The frame writer and the stream undo each other. Assumes nothing.
-use mathlib.Core.Path.{_≡_, refl, _∙_}
+use mathlib.Core.Path.{_≡_, refl, ap, _∙_}
 use mathlib.Core.Bool.{Bool, true, false, cond}
 use mathlib.Core.List.{List, [], _∷_, _++_}
 use Prim.Native.Nat.{ℕ, _≤_}
@@ -11,9 +11,9 @@ use Rattle.wire.specs.Frame.{body, frame}
 use Rattle.wire.specs.Parsing.{Ended, good, refused, bodySays, brokenSays}
 use Rattle.wire.proofs.Nibbles.{digit-stays}
 use Rattle.wire.proofs.RoundTrip.{body-all, body-says, Said, said, said-nibble, said-few, said-small}
-use Rattle.stream.specs.Stream.{outside, inside, next, framesFrom, leftFrom, taken}
+use Rattle.stream.specs.Stream.{Unfinished, outside, inside, next, framesFrom, leftFrom, taken}
 use Rattle.stream.specs.Calls.{stays}
-use Rattle.stream.specs.Laws.{Writables, nothing, broken, whole, HeardIsWritable}
+use Rattle.stream.specs.Laws.{brokenIn, HeardFromAnywhere, Writables, nothing, broken, whole, HeardIsWritable}
 use Rattle.stream.proofs.Streams.{whole-frames, whole-left, whole-taken}
 
 pub frame-heard : (command : ℕ) (bytes : List ℕ) → command ≤ 15 → length bytes ≤ 35 → Bytes bytes → (rest : List ℕ)
@@ -27,6 +27,18 @@ frame-heard command bytes nib few small rest =
       whole-left (body command bytes) rest staying,
       whole-taken (body command bytes) rest staying,
     )
+
+-- from anywhere: a colon ends what it ends, and then is the first byte of a frame
+colon-anywhere : (u : Unfinished) (xs : List ℕ) → (framesFrom u (colon ∷ xs) ≡ brokenIn u ++ framesFrom outside (colon ∷ xs)) × (leftFrom u (colon ∷ xs) ≡ leftFrom outside (colon ∷ xs))
+colon-anywhere outside xs = (refl, refl)
+colon-anywhere (inside chars) xs = (refl, refl)
+
+pub heard-anywhere : HeardFromAnywhere
+unfolding frame
+heard-anywhere u command bytes nib few small rest =
+    let one = frame-heard command bytes nib few small rest in
+    let at = colon-anywhere u ((body command bytes ++ newline ∷ []) ++ rest) in
+    (at .0 ∙ ap (λ (fs : List Ended). brokenIn u ++ fs) (one .0), at .1 ∙ one .1)
 
 -- What is heard on the stream.
 

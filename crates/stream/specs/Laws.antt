@@ -11,11 +11,11 @@ use Rattle.laws.specs.Promise.{Given}
 use Rattle.laws.specs.Cutting.{Step, Offer, calls, ready}
 use Rattle.paper.specs.Numbers.{mostNibble, mostData}
 use Rattle.wire.specs.Frame.{frame}
-use Rattle.wire.specs.Parsing.{Ended, good, refused}
+use Rattle.wire.specs.Parsing.{Ended, good, refused, brokenSays}
 use Rattle.laws.specs.Lists.{Bytes}
 use Rattle.wire.specs.Laws.{Writable}
-use Rattle.stream.specs.Stream.{Unfinished, outside, framesFrom, framesOf, leftBy, firstEnd, taken}
-use Rattle.stream.specs.Calls.{mostHeld, heldOf, allowed, hearing}
+use Rattle.stream.specs.Stream.{Unfinished, outside, inside, framesFrom, leftFrom, framesOf, leftBy, firstEnd, taken}
+use Rattle.stream.specs.Calls.{mostHeld, heldOf, unfinished, allowed, hearing}
 use Rattle.stream.specs.declared.Event.{Event}
 use Rattle.stream.specs.declared.Held.{Held}
 use Rattle.stream.specs.declared.Heard.{Heard}
@@ -27,6 +27,18 @@ WrittenIsHeard =
     → (framesOf (frame command bytes ++ rest) ≡ good command bytes ∷ framesOf rest)
     × (leftBy (frame command bytes ++ rest) ≡ leftBy rest)
     × (taken outside (frame command bytes ++ rest) ≡ length (frame command bytes))
+
+-- What a colon ends: nothing outside a frame; inside one that frame, as broken.
+abbrev pub brokenIn : Unfinished → List Ended
+brokenIn outside = []
+brokenIn (inside chars) = brokenSays (length chars) ∷ []
+
+-- The same from anywhere: first what the frame's own colon ends, then the frame, then what follows as if it stood alone.
+abbrev pub HeardFromAnywhere : Type 0
+HeardFromAnywhere =
+    (u : Unfinished) (command : ℕ) (bytes : List ℕ) → command ≤ mostNibble → length bytes ≤ mostData → Bytes bytes → (rest : List ℕ)
+    → (framesFrom u (frame command bytes ++ rest) ≡ brokenIn u ++ good command bytes ∷ framesOf rest)
+    × (leftFrom u (frame command bytes ++ rest) ≡ leftBy rest)
 
 -- what is heard on the stream is within what the writer takes
 pub data Writables : List Ended → Type 0 where
@@ -65,13 +77,20 @@ pub record Cut (earlier bytes : List ℕ) (all : Step Held Ended) : Type 0 where
 abbrev pub AnyCutting : Type 0
 AnyCutting = (earlier bytes : List ℕ) (offers : List (Offer ℕ)) → Cut earlier bytes (calls hears (heldOf (leftBy earlier)) bytes offers)
 
--- Calls that are handed a byte at least and lend room enough take every byte, in as many calls as there are bytes; so what happened is the
--- frames of all the bytes.
+-- A row of calls that takes every byte, whatever the pieces, empty ones among them: what happened is the frames of all the bytes, from where
+-- the held frame is. (Its array has 74 entries in every value of the type.)
+abbrev pub WholeIsHeard : Type 0
+WholeIsHeard =
+    (held : Held) → length (held .chars) ≡ mostHeld → allowed held ≡ true → (bytes : List ℕ) (offers : List (Offer ℕ))
+    → calls hears held bytes offers .taken ≡ length bytes
+    → calls hears held bytes offers
+    ≡ record { state = heldOf (leftFrom (unfinished held) bytes); events = framesFrom (unfinished held) bytes; taken = length bytes }
+
+-- Calls that are handed a byte at least and lend room enough take every byte, in as many calls as there are bytes.
 abbrev pub AllIsTaken : Type 0
 AllIsTaken =
-    (earlier bytes : List ℕ) (offers : List (Offer ℕ)) → ready (λ room. leb mostData room) offers ≡ true → length bytes ≤ length offers
-    → calls hears (heldOf (leftBy earlier)) bytes offers
-    ≡ record { state = heldOf (leftBy (earlier ++ bytes)); events = framesFrom (leftBy earlier) bytes; taken = length bytes }
+    (held : Held) (bytes : List ℕ) (offers : List (Offer ℕ)) → allowed held ≡ true
+    → ready (λ room. leb mostData room) offers ≡ true → length bytes ≤ length offers → calls hears held bytes offers .taken ≡ length bytes
 
 -- A frame is refused by one of 1 to 4, and no higher number is a frame's.
 abbrev pub RefusedIsSmall : Type 0
@@ -79,12 +98,17 @@ RefusedIsSmall =
     (held : Held) (piece : List ℕ) (room number : ℕ) → allowed held ≡ true → mostData ≤ room
     → hearing held piece room .answer .event ≡ Event.Refused number → number ≤ 4
 
--- The cutting changes nothing: rows of calls that take as many of the same bytes come to the same.
+-- The cutting changes nothing: rows of calls that take as many of the same bytes come to the same, from any state.
 abbrev pub CuttingChangesNothing : Type 0
 CuttingChangesNothing =
-    (earlier bytes : List ℕ) (offers offers′ : List (Offer ℕ)) (all all′ : Step Held Ended)
-    → all ≡ calls hears (heldOf (leftBy earlier)) bytes offers → all′ ≡ calls hears (heldOf (leftBy earlier)) bytes offers′
-    → all .taken ≡ all′ .taken → all ≡ all′
+    (held : Held) → length (held .chars) ≡ mostHeld → (bytes : List ℕ) (offers offers′ : List (Offer ℕ))
+    → calls hears held bytes offers .taken ≡ calls hears held bytes offers′ .taken → calls hears held bytes offers ≡ calls hears held bytes offers′
+
+-- "An empty piece takes 0 and changes nothing."
+abbrev pub EmptyChangesNothing : Type 0
+EmptyChangesNothing =
+    (held : Held) (room : ℕ) → length (held .chars) ≡ mostHeld → allowed held ≡ true → mostData ≤ room
+    → hearing held [] room ≡ record { answer = record { held = held; event = Event.Nothing; taken = 0 }; written = [] }
 
 -- The end that a call stops at is the first: no frame ends before it, and where it is within the piece one ends there.
 pub record FirstAt (u : Unfinished) (piece : List ℕ) : Type 0 where

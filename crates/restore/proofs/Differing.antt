@@ -1,21 +1,20 @@
 -- There are as many Sets as settings that differ. Assumes nothing.
-use mathlib.Core.Path.{_≡_, refl, sym, ap, ap₂, _∙_}
+use mathlib.Core.Path.{_≡_, refl, sym, ap₂, _∙_}
 use mathlib.Core.Logic.{_≢_}
 use mathlib.Core.Bool.{Bool, true, false, cond, _&&_}
-use mathlib.Core.List.{List, [], _∷_, map}
+use mathlib.Core.List.{List, [], _∷_}
 use Prim.Native.Nat.{ℕ, zero, suc, _+_, _≤_, _<_}
 use native.Mathlib.Omega.{arith}
 use borrow.Author.Tests.{leb-true, lt-ltb, le-ltb, ltb-true, ltb-false, eqb-true, eqb-false}
-use lib.ListN.{length}
+use lib.ListN.{length, length-map}
 use lib.Dec.{eqb, ltb}
 use Rattle.laws.specs.Lists.{every}
 use Rattle.laws.proofs.Bools.{and-left, and-right}
 use Rattle.settings.specs.Columns.{count}
 use Rattle.tables.specs.declared.Table.{Table}
-use Rattle.restore.specs.Order.{differs, order, wanted, dueSets}
-use Rattle.restore.specs.Laws.{times}
-use Rattle.restore.proofs.Theorems.{one-for-each, no-other-set}
-use Rattle.rehearsal.specs.Laws.{differing}
+use Rattle.restore.specs.Order.{differs, order, wanted}
+use Rattle.restore.specs.Laws.{times, differing, SetsAreDiffering}
+use Rattle.restore.proofs.Placing.{one-each, no-other}
 
 -- how often the numbers below n come up in a row, all together
 unfoldable timesBelow : ℕ → List ℕ → ℕ
@@ -67,12 +66,8 @@ all-counted n p (j ∷ l) e =
 each-once : (from to : Table) (n : ℕ) → n ≤ count → timesBelow n (order from to) ≡ differing n from to
 unfolding timesBelow differing
 each-once from to zero h = refl
-each-once from to (suc n) h = ap₂ (λ (a b : ℕ). a + b) (each-once from to n (omega arith)) (one-for-each from to n (omega arith))
+each-once from to (suc n) h = ap₂ (λ (a b : ℕ). a + b) (each-once from to n (omega arith)) (one-each from to n (omega arith))
 
-length-map : (to : Table) (ks : List ℕ) → length (map (wanted to) ks) ≡ length ks
-length-map to [] = refl
-length-map to (k ∷ ks) = ap suc (length-map to ks)
-
-pub sets-are-differing : (from to : Table) → length (dueSets from to) ≡ differing count from to
-sets-are-differing from to =
-    length-map to (order from to) ∙ sym (all-counted count (differs from to) (order from to) (no-other-set from to)) ∙ each-once from to count (leb-true count count refl)
+pub sets-differing : SetsAreDiffering
+sets-differing from to =
+    length-map (order from to) (wanted to) ∙ sym (all-counted count (differs from to) (order from to) (no-other from to)) ∙ each-once from to count (leb-true count count refl)
