@@ -7,6 +7,7 @@ use native.Mathlib.Omega.{arith}
 use borrow.Author.Tests.{leb-true, ltb-true, ltb-false}
 use lib.ListN.{length, take, drop}
 use lib.Dec.{leb, ltb}
+use Rattle.laws.specs.Promise.{Given}
 use Rattle.laws.specs.Cutting as Cutting
 use Rattle.laws.specs.Cutting.{Step, Offer, ready}
 use Rattle.laws.proofs.Cutting as cutting
@@ -23,12 +24,13 @@ use Rattle.answers.specs.declared.Outcome.{Outcome}
 use Rattle.board.specs.Parts.{boardAllowed}
 use Rattle.board.specs.Calls.{deciding, decidedBy, heardBy, answering}
 use Rattle.board.specs.declared.Board.{Board}
+use Rattle.board.specs.declared.Answered.{Answered}
 use Rattle.board.proofs.Pieces.{answering-short, answering-stray, answering-heard, held-allowed}
 use Rattle.board.proofs.Replying.{bounded}
 use Rattle.board.proofs.Giving.{call-count}
 use Rattle.board.proofs.Theorems.{answer-keeps-allowed}
 use Rattle.listen.proofs.Hearing.{box-all, box-same, box-empty}
-use Rattle.demands.specs.Talk.{Deed, stores, calls, Said, saidIn, Talk, talk, afterAll, saidToAll, boardAt}
+use Rattle.demands.specs.Talk.{Deed, stores, calls, Said, saidIn, Talk, talk, afterAll, saidToAll, boardAt, framesAt}
 use Rattle.demands.specs.Demand3.{isCalls, AnyCutting, CuttingChangesNothing, EmptyChangesNothing, isFeeding, AllIsTaken}
 use Rattle.demands.proofs.Talking.{Line, stateOf, says, leaves, call, any-cutting}
 use Rattle.demands.proofs.Deciding.{talk-frames}
@@ -85,10 +87,23 @@ idle-talk [] board bytes stray e = refl
 idle-talk (stores given ∷ more) board bytes stray e = absurd (false≢true e)
 idle-talk (calls n room ∷ more) board bytes stray e = by (ltb room 75) refl (idle-talk more board bytes stray e)
   where
+    goes-on : Given Answered → Talk
+    goes-on here =
+        let later = talk (here .answer .board) (drop (here .answer .taken) bytes) more in
+        record {
+          board = later .board;
+          frames = framesAt board (take (here .answer .taken) bytes) ++ later .frames;
+          said = saidIn here ++ later .said;
+          taken = here .answer .taken + later .taken;
+        }
+
+    idle : Talk → Talk
+    idle t = record { board = t .board; frames = t .frames; said = t .said; taken = 0 + t .taken }
+
     by : (t : Bool) → ltb room 75 ≡ t → talk board bytes more ≡ record { board = board; frames = []; said = []; taken = 0 }
         → talk board bytes (calls n room ∷ more) ≡ record { board = board; frames = []; said = []; taken = 0 }
-    by true f later = rw (answering-short board (take n bytes) room (ltb-true _ _ f)) (ap (λ (t : Talk). record { board = t .board; frames = t .frames; said = t .said; taken = 0 + t .taken }) later)
-    by false f later = rw (answering-stray board (take n bytes) room (ltb-false _ _ f) stray) (ap (λ (t : Talk). record { board = t .board; frames = t .frames; said = t .said; taken = 0 + t .taken }) later)
+    by true f later = ap goes-on (answering-short board (take n bytes) room (ltb-true _ _ f)) ∙ ap idle later
+    by false f later = ap goes-on (answering-stray board (take n bytes) room (ltb-false _ _ f) stray) ∙ ap idle later
 
 -- a board's line is where its held frame is
 pub on-line : (board : Board) → length (board .held .chars) ≡ 74 → boardAllowed board ≡ true → board ≡ boardAt (board .core) (unfinished (board .held))

@@ -61,11 +61,11 @@ after-table (f ∷ fs) core s =
     after-table fs (afterOne core f) sound ∙ ap (λ (t : Table). Made t fs) one ∙ sym (made-append anySetting (core .table) (f ∷ []) fs)
 
 -- a store keeps table and line
-record Keeps (board after : Board) : Type 0 where
-  table-same : after .core .table ≡ board .core .table
-  held-same : after .held ≡ board .held
+pub record Keeps (board after : Board) : Type 0 where
+  pub table-same : after .core .table ≡ board .core .table
+  pub held-same : after .held ≡ board .held
 
-stores-keeps : (board : Board) (given : Sample) → Keeps board (storing board given .board)
+pub stores-keeps : (board : Board) (given : Sample) → Keeps board (storing board given .board)
 unfolding storing
 stores-keeps board given =
     pick (λ (j : Handed). Keeps board (j .board)) (boardAllowed board && sampleFits given)

@@ -1,7 +1,7 @@
 -- The statements of specs/, proved. Assumes nothing.
 use Rattle.demands.specs.Demand2.{WrittenIsRead, WrittenIsHeard, ReadIsWritten, RepliesAreUnderstood, GetIsUnderstood, SetIsUnderstood, CountIsMatched}
 use Rattle.demands.specs.Demand3.{BoardDecides, AnyCutting, CuttingChangesNothing, EmptyChangesNothing, AllIsTaken, OneSetForEach, DueIsNext, OneCallForEach, ListIsAccepted, ListIsConfirmed}
-use Rattle.demands.specs.Shams.{ShamsFall, RealPass}
+use Rattle.demands.specs.Shams.{ShamsFall, RefusingDecides, RealPass}
 use Rattle.demands.specs.Lines.{ThirteenHold}
 use Rattle.wire.proofs.Theorems as wire
 use Rattle.follow.proofs.Theorems as follow
@@ -69,6 +69,9 @@ list-is-confirmed = list-confirmed
 -- the shams, and the worked lines
 pub shams-fall : ShamsFall
 shams-fall = shams.shams-fall
+
+pub refusing-decides : RefusingDecides
+refusing-decides = shams.refusing-decides
 
 pub real-pass : RealPass
 real-pass = shams.real-pass

@@ -7,6 +7,7 @@ use mathlib.Core.Bool.{true}
 use mathlib.Core.List.{List, [], _∷_, _++_}
 use lib.ListN.{length, take}
 use Rattle.paper.specs.Numbers as paper
+use Rattle.laws.specs.Promise.{Given}
 use Rattle.laws.specs.Cutting as Cutting
 use Rattle.laws.specs.Cutting.{Offer}
 use Rattle.paper.specs.Numbers.{mostNibble, mostData, getCode, setCode}
@@ -15,8 +16,9 @@ use Rattle.endian.specs.Numbers.{little, fromLittle}
 use Rattle.wire.specs.Parsing.{good}
 use Rattle.stream.specs.Stream.{framesOf, leftBy}
 use Rattle.stream.specs.Calls.{mostHeld, heldOf, unfinished, allowed}
-use Rattle.stream.specs.Laws.{brokenIn}
+use Rattle.stream.specs.Laws.{brokenIn, stepOf}
 use Rattle.stream.specs.declared.Held.{Held}
+use Rattle.stream.specs.declared.Heard.{Heard}
 use Rattle.wire.specs.Laws as wire
 use Rattle.laws.specs.Lists.{Bytes}
 use Rattle.settings.specs.Columns.{count, widthAt}
@@ -24,7 +26,7 @@ use Rattle.answers.specs.Answers.{Sent, silent, sent, error, said}
 use Rattle.answers.specs.Requests.{getRequest, setData, setRequest}
 use Rattle.answers.specs.declared.Core.{Core}
 use Rattle.board.specs.Calls.{endedIn, deciding}
-use Rattle.listen.specs.Hearing.{boxHears}
+use Rattle.listen.specs.Hearing.{boxHearing}
 use Rattle.reply.specs.Replies.{flagOf, rest}
 use Rattle.reply.specs.Calls.{parsing}
 use Rattle.reply.specs.declared.Status.{Status}
@@ -37,17 +39,21 @@ use Rattle.demands.specs.Sets.{placeIn, valueIn, isComplete}
 abbrev pub WrittenIsRead : Type 0
 WrittenIsRead = wire.WrittenIsRead
 
-abbrev pub WrittenIsHeard : Type 0
-WrittenIsHeard =
+abbrev pub HearsWritten : (Held → List ℕ → ℕ → Given Heard) → Type 0
+HearsWritten hear =
     (command : ℕ) (bytes : List ℕ) → command ≤ mostNibble → length bytes ≤ mostData → Bytes bytes
     → (held : Held) → length (held .chars) ≡ mostHeld → allowed held ≡ true → (more : List ℕ) (offers : List (Offer ℕ))
-    → Cutting.calls boxHears held (frame command bytes ++ more) offers .taken ≡ length (frame command bytes ++ more)
-    → Cutting.calls boxHears held (frame command bytes ++ more) offers
+    → let end = Cutting.calls (λ h room piece. stepOf (hear h piece room)) held (frame command bytes ++ more) offers in
+    end .taken ≡ length (frame command bytes ++ more)
+    → end
     ≡ record {
       state = heldOf (leftBy more);
       events = brokenIn (unfinished held) ++ good command bytes ∷ framesOf more;
       taken = length (frame command bytes ++ more);
     }
+
+abbrev pub WrittenIsHeard : Type 0
+WrittenIsHeard = HearsWritten boxHearing
 
 -- 2. Read whole, it is byte for byte what the writer makes.
 abbrev pub ReadIsWritten : Type 0

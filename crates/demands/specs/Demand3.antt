@@ -45,7 +45,7 @@ use Rattle.follow.specs.Laws as follow
 use Rattle.follow.specs.declared.Followed.{Followed}
 use Rattle.follow.specs.declared.Standing.{Standing}
 use Rattle.demands.specs.Sets.{anySetting, made}
-use Rattle.demands.specs.Talk.{Deed, stores, calls, Said, Talk, talkBy, talk, afterAll, saidToAll, boardAt}
+use Rattle.demands.specs.Talk.{Deed, stores, calls, Said, Talk, Way, plainly, talkBy, talk, afterAll, saidToAll, boardAt}
 
 -- what holds after a conversation that began with the table `first`: its frames are those of the bytes taken, and the table is theirs
 pub record Decided (first : Table) (bytes : List ℕ) (end : Talk) : Type 0 where
@@ -56,15 +56,16 @@ pub record Decided (first : Table) (bytes : List ℕ) (end : Talk) : Type 0 wher
   pub table-is : end .board .core .table ≡ made anySetting first (end .frames)
 
 -- 1. For every identity, every allowed table, every row of bytes and every row of deeds; said of any way of answering, so that it can be
--- tried on a sham, and of the board's own. (A table has its numbers in every value of the type, which `length` says; a serial that
+-- tried on a sham, and of the board's own. A board that refuses every call and takes no byte meets it, as `refusing-decides` of Shams says: no
+-- Set was among the bytes taken. The good Gets and Sets of demand 2 shut it out. (A table has its numbers in every value of the type, which `length` says; a serial that
 -- does not fit is refused at the start.)
-abbrev pub Decides : (Board → List ℕ → ℕ → Given Answered) → Type 0
-Decides answer =
+abbrev pub Decides : {S : Type 0} → Way S → Type 0
+Decides way =
     (product version : ℕ) (serial : List ℕ) (table : Table) → serialFits serial ≡ true → length (table .numbers) ≡ count → allowed table ≡ true
-    → (bytes : List ℕ) (deeds : List Deed) → Decided table bytes (talkBy answer (starting product version serial table .board) bytes deeds)
+    → (bytes : List ℕ) (deeds : List Deed) → Decided table bytes (talkBy way (way .begins (starting product version serial table .board)) bytes deeds)
 
 abbrev pub BoardDecides : Type 0
-BoardDecides = Decides answering
+BoardDecides = Decides (plainly answering)
 
 -- "in any cutting": a conversation of calls alone says of the frames of the bytes taken what the board says of them one after the other, and
 -- leaves the board that they leave, on a line that has read those bytes; from any state, with any pieces and any room.

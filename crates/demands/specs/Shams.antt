@@ -3,23 +3,23 @@
 -- fakes the rest (demand 3, [..]). A box that invents its confirmed or taken count falls to demand 2's reply count and the frame-end rule. A
 -- never-changing table would keep ranges and pairs, so demand 3 always includes the Sets." What is asked, said of any way of answering; the
 -- shams; and that none of them meets it, while the board and the follower do. Assumes nothing.
-use Prim.Native.Nat.{ℕ, zero, _≤_, _<_}
+use Prim.Native.Nat.{ℕ, _≤_, _<_}
 use mathlib.Core.Path.{_≡_}
-use mathlib.Core.Bool.{true, cond}
-use mathlib.Core.List.{List, []}
-use lib.ListN.{length}
-use Rattle.paper.specs.Numbers as paper
-use Rattle.laws.specs.Lists.{same}
+use mathlib.Core.Bool.{Bool, true, false, cond, _&&_, _||_}
+use mathlib.Core.List.{List, [], _∷_}
+use lib.ListN.{length, take}
+use lib.Dec.{eqb}
 use Rattle.laws.specs.Promise.{Given}
-use Rattle.paper.specs.Numbers.{mostData, frameRoom, getCode}
+use Rattle.paper.specs.Numbers.{mostData, frameRoom, getCode, setCode, colon}
 use Rattle.wire.specs.Frame.{frame}
+use Rattle.wire.specs.Parsing.{Ended, good, refused}
 use Rattle.endian.specs.Numbers.{little}
 use Rattle.stream.specs.Stream.{taken}
 use Rattle.stream.specs.Calls as stream
 use Rattle.stream.specs.Calls.{unfinished}
 use Rattle.stream.specs.declared.Held.{Held}
 use Rattle.stream.specs.declared.Heard.{Heard}
-use Rattle.settings.specs.Columns.{count, idAt, widthAt, factories}
+use Rattle.settings.specs.Columns.{count, idAt, widthAt}
 use Rattle.settings.specs.Rules.{allowedFor}
 use Rattle.tables.specs.Rules.{numberAt, partnerNumber, changed}
 use Rattle.tables.specs.declared.Table.{Table}
@@ -27,7 +27,7 @@ use Rattle.answers.specs.Answers.{withTable, said}
 use Rattle.answers.specs.Requests.{getRequest, setRequest}
 use Rattle.answers.specs.declared.Outcome.{Outcome}
 use Rattle.board.specs.Parts.{boardAllowed}
-use Rattle.board.specs.Calls.{answering, unanswered}
+use Rattle.board.specs.Calls.{storing, answering, unanswered}
 use Rattle.board.specs.Laws.{atRest, comesTo}
 use Rattle.board.specs.declared.Board.{Board}
 use Rattle.board.specs.declared.Answered.{Answered}
@@ -35,8 +35,11 @@ use Rattle.listen.specs.Hearing.{boxHearing}
 use Rattle.reply.specs.Events.{Event, OnStream}
 use Rattle.restore.specs.Order.{dueSets}
 use Rattle.restore.specs.Calls.{bothAllowed}
-use Rattle.follow.specs.Following.{begun}
-use Rattle.follow.specs.Laws.{run, matched}
+use Rattle.follow.specs.Calls as following
+use Rattle.follow.specs.Laws as follow
+use Rattle.follow.specs.Laws.{matched}
+use Rattle.demands.specs.Talk.{Way, plainly, framesAt}
+use Rattle.demands.specs.Demand2.{HearsWritten}
 use Rattle.demands.specs.Demand3.{Decides}
 
 -- demand 2, good Gets and Sets: the reply is the number now held, and the request itself with the number stored
@@ -68,7 +71,32 @@ abbrev pub Counts : (Table → Table → List Event → ℕ) → Type 0
 Counts confirmed =
     (from to : Table) (events : List Event) → bothAllowed from to ≡ true → OnStream events → confirmed from to events ≡ matched (dueSets from to) events
 
--- The shams. An answer whose board has another table.
+-- The shams, each as the paper means it: not one of them, but all that do so. "refuses everything": with any number, whatever it writes and
+-- leaves.
+pub record RefusesAll (answer : Board → List ℕ → ℕ → Given Answered) : Type 0 where
+  pub number : Board → List ℕ → ℕ → ℕ
+  pub refuses : (board : Board) (piece : List ℕ) (room : ℕ) → answer board piece room .answer .outcome ≡ Outcome.Refused (number board piece room)
+
+-- "always answers alike": the same bytes, whatever they are, wherever it has to answer
+pub record AnswersAlike (answer : Board → List ℕ → ℕ → Given Answered) : Type 0 where
+  pub bytes : List ℕ
+  pub writes : (board : Board) (piece : List ℕ) (room : ℕ) → boardAllowed board ≡ true → frameRoom ≤ room → answer board piece room .written ≡ bytes
+
+-- "confirms but stores nothing", and "a never-changing table": whatever it says
+abbrev pub KeepsItsTable : (Board → List ℕ → ℕ → Given Answered) → Type 0
+KeepsItsTable answer = (board : Board) (piece : List ℕ) (room : ℕ) → answer board piece room .answer .board .core .table ≡ board .core .table
+
+-- "handles the first Set truly and fakes the rest": it remembers whether it has handled one, and from then on confirms as the board would
+-- and keeps its table
+pub record Memory : Type 0 where
+  pub board : Board
+  pub handled : Bool
+
+abbrev pub hasSet : List Ended → Bool
+hasSet [] = false
+hasSet (good command bytes ∷ more) = eqb command setCode || hasSet more
+hasSet (refused number ∷ more) = hasSet more
+
 abbrev pub leaving : Given Answered → Table → Given Answered
 leaving given table =
     let a = given .answer in
@@ -77,63 +105,70 @@ leaving given table =
       written = given .written;
     }
 
--- refuses everything
-abbrev pub refusesAll : Board → List ℕ → ℕ → Given Answered
-refusesAll board piece room = unanswered board paper.notAllowed
+abbrev pub faking : Memory → List ℕ → ℕ → Given Answered
+faking m piece room =
+    let given = answering (m .board) piece room in
+    cond (m .handled) (leaving given (m .board .core .table)) given
 
--- always answers alike: whatever it is asked, the capacity is 200
-abbrev pub answersAlike : Board → List ℕ → ℕ → Given Answered
-answersAlike board piece room = comesTo board (board .core) Outcome.Answered (frame getCode (said 0x1000 0 (little 2 200))) piece
-
--- confirms and stores nothing
-abbrev pub storesNothing : Board → List ℕ → ℕ → Given Answered
-storesNothing board piece room = leaving (answering board piece room) (board .core .table)
-
--- handles the first Set truly and fakes the rest: once its table is not the factory's any more, it stays
-abbrev pub firstSetAlone : Board → List ℕ → ℕ → Given Answered
-firstSetAlone board piece room =
-    cond (same (board .core .table .numbers) factories) (answering board piece room) (leaving (answering board piece room) (board .core .table))
-
--- never changes its table: it takes every byte and says nothing
-abbrev pub neverChanges : Board → List ℕ → ℕ → Given Answered
-neverChanges board piece room =
-    record { answer = record { board = board; outcome = Outcome.Nothing; len = zero; taken = length piece }; written = [] }
-
--- invents its taken count: all of the piece, wherever a frame ended
-abbrev pub takesAll : Board → List ℕ → ℕ → Given Answered
-takesAll board piece room =
-    let given = answering board piece room in
+abbrev pub firstSetAlone : Way Memory
+firstSetAlone =
     record {
-      answer = record { board = given .answer .board; outcome = given .answer .outcome; len = given .answer .len; taken = length piece };
+      begins = λ board. record { board = board; handled = false };
+      sees = λ m. m .board;
+      answers = faking;
+      next = λ m piece room.
+          let given = faking m piece room in
+          record { board = given .answer .board; handled = m .handled || hasSet (framesAt (m .board) (take (given .answer .taken) piece)) };
+      keeps = λ m given. record { board = storing (m .board) given .board; handled = m .handled };
+    }
+
+-- "invents its [..] taken count": any count that does not look at the bytes, but at how many there are
+abbrev pub TakesUnseen : (Board → List ℕ → ℕ → Given Answered) → (Board → ℕ → ℕ → ℕ) → Type 0
+TakesUnseen answer count = (board : Board) (piece : List ℕ) (room : ℕ) → answer board piece room .answer .taken ≡ count board (length piece) room
+
+abbrev pub HearsUnseen : (Held → List ℕ → ℕ → Given Heard) → (Held → ℕ → ℕ → ℕ) → Type 0
+HearsUnseen hear count = (held : Held) (piece : List ℕ) (room : ℕ) → hear held piece room .answer .taken ≡ count held (length piece) room
+
+-- "invents its confirmed [..] count": any count that does not look at what the replies are, but at how many events there were; the Sets that
+-- were sent, for one
+abbrev pub unheard : (Table → Table → ℕ → ℕ) → Table → Table → List Event → ℕ
+unheard count from to events = count from to (length events)
+
+-- the slip of leaving an unfinished frame's digits in the next: a colon inside a frame is told, but what was held stays
+abbrev pub beginsAnew : List ℕ → Bool
+beginsAnew [] = false
+beginsAnew (b ∷ piece) = eqb b colon
+
+abbrev pub leavesDigits : Held → List ℕ → ℕ → Given Heard
+leavesDigits held piece room =
+    let given = boxHearing held piece room in
+    record {
+      answer = record { held = cond (held .inside && beginsAnew piece) held (given .answer .held); event = given .answer .event; taken = given .answer .taken };
       written = given .written;
     }
 
-abbrev pub hearsAll : Held → List ℕ → ℕ → Given Heard
-hearsAll held piece room =
-    let given = boxHearing held piece room in
-    record { answer = record { held = given .answer .held; event = given .answer .event; taken = length piece }; written = given .written }
-
--- invents its confirmed count: the Sets that were sent
-abbrev pub sentCount : Table → Table → List Event → ℕ
-sentCount from to events = length (dueSets from to)
-
 -- None of them passes.
 pub record ShamsFall : Type 0 where
-  pub refuses-all-falls : GetsHeld refusesAll → ⊥
-  pub answers-alike-falls : GetsHeld answersAlike → ⊥
-  pub stores-nothing-falls : SetsStored storesNothing → ⊥
-  pub stores-nothing-decides-not : Decides storesNothing → ⊥
+  pub refuses-all-falls : (answer : Board → List ℕ → ℕ → Given Answered) → RefusesAll answer → (GetsHeld answer → ⊥) × (SetsStored answer → ⊥)
+  pub answers-alike-falls : (answer : Board → List ℕ → ℕ → Given Answered) → AnswersAlike answer → (GetsHeld answer → ⊥) × (SetsStored answer → ⊥)
+  pub stores-nothing-falls : (answer : Board → List ℕ → ℕ → Given Answered) → KeepsItsTable answer
+      → (SetsStored answer → ⊥) × (TakesToTheEnd answer → Decides (plainly answer) → ⊥)
   pub first-set-alone-falls : Decides firstSetAlone → ⊥
-  pub never-changes-falls : Decides neverChanges → ⊥
-  pub takes-all-falls : TakesToTheEnd takesAll → ⊥
-  pub hears-all-falls : HearsToTheEnd hearsAll → ⊥
-  pub sent-count-falls : Counts sentCount → ⊥
+  pub takes-unseen-falls : (answer : Board → List ℕ → ℕ → Given Answered) (count : Board → ℕ → ℕ → ℕ) → TakesUnseen answer count → TakesToTheEnd answer → ⊥
+  pub hears-unseen-falls : (hear : Held → List ℕ → ℕ → Given Heard) (count : Held → ℕ → ℕ → ℕ) → HearsUnseen hear count → HearsToTheEnd hear → ⊥
+  pub counts-unheard-falls : (count : Table → Table → ℕ → ℕ) → Counts (unheard count) → ⊥
+  pub digits-left-falls : HearsWritten leavesDigits → ⊥
 
--- The board, the box's stream and the follower do.
+-- A board that refuses every call by some number and takes nothing decides, as was said beside `Decides`; it is a RefusesAll.
+abbrev pub RefusingDecides : Type 0
+RefusingDecides = (number : ℕ) → Decides (plainly (λ board piece room. unanswered board number))
+
+-- The board, the box's stream and the follower pass.
 pub record RealPass : Type 0 where
   pub board-gets : GetsHeld answering
   pub board-sets : SetsStored answering
-  pub board-decides : Decides answering
+  pub board-decides : Decides (plainly answering)
   pub board-takes : TakesToTheEnd answering
   pub box-takes : HearsToTheEnd boxHearing
-  pub follower-counts : Counts (λ from to events. run (begun from to) events .confirmed)
+  pub box-hears : HearsWritten boxHearing
+  pub follower-counts : Counts (λ from to events. follow.calls (following.starting from to) events .confirmed)

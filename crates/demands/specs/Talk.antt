@@ -50,23 +50,43 @@ pub record Talk : Type 0 where
 abbrev pub framesAt : Board → List ℕ → List Ended
 framesAt board bytes = framesFrom (unfinished (board .held)) bytes
 
--- by any way of answering a piece of input with so much room lent
-abbrev pub talkBy : (Board → List ℕ → ℕ → Given Answered) → Board → List ℕ → List Deed → Talk
-talkBy answer board bytes [] = record { board = board; frames = []; said = []; taken = zero }
-talkBy answer board bytes (stores given ∷ more) = talkBy answer (storing board given .board) bytes more
-talkBy answer board bytes (calls count room ∷ more) =
-    let here = answer board (take count bytes) room in
-    let later = talkBy answer (here .answer .board) (drop (here .answer .taken) bytes) more in
+-- A way of answering: states of its own, the one that a started board begins with, the board that is seen in a state, what is answered to a
+-- piece of input with some room lent, and the states after a call and after a store. A sham may keep a memory in them.
+pub record Way (S : Type 0) : Type 0 where
+  pub begins : Board → S
+  pub sees : S → Board
+  pub answers : S → List ℕ → ℕ → Given Answered
+  pub next : S → List ℕ → ℕ → S
+  pub keeps : S → Sample → S
+
+-- with no memory but the board itself
+abbrev pub plainly : (Board → List ℕ → ℕ → Given Answered) → Way Board
+plainly answer =
+    record {
+      begins = λ board. board;
+      sees = λ board. board;
+      answers = answer;
+      next = λ board piece room. answer board piece room .answer .board;
+      keeps = λ board given. storing board given .board;
+    }
+
+-- a conversation by any way of answering
+abbrev pub talkBy : {S : Type 0} → Way S → S → List ℕ → List Deed → Talk
+talkBy way s bytes [] = record { board = way .sees s; frames = []; said = []; taken = zero }
+talkBy way s bytes (stores given ∷ more) = talkBy way (way .keeps s given) bytes more
+talkBy way s bytes (calls count room ∷ more) =
+    let here = way .answers s (take count bytes) room in
+    let later = talkBy way (way .next s (take count bytes) room) (drop (here .answer .taken) bytes) more in
     record {
       board = later .board;
-      frames = framesAt board (take (here .answer .taken) bytes) ++ later .frames;
+      frames = framesAt (way .sees s) (take (here .answer .taken) bytes) ++ later .frames;
       said = saidIn here ++ later .said;
       taken = here .answer .taken + later .taken;
     }
 
 -- and by the board's own call
 abbrev pub talk : Board → List ℕ → List Deed → Talk
-talk = talkBy answering
+talk = talkBy (plainly answering)
 
 -- The same with no calls and no line in it: what is said of a row of frames, one after the other, and what the board is and holds afterwards.
 abbrev pub afterOne : Core → Ended → Core
