@@ -1,5 +1,5 @@
-// The constant table, column by column, in the order of the ids, and one reader for each column. The table of document 01, "Settings":
-// every look-up of an id, a width, an end, a factory number or a partner comes here.
+// The constant table of document 01, "Settings", column by column, in the order of the ids, and a function for each column. Every look-up
+// of an id, a width, an end, a factory number or a partner comes here.
 ghost use Prim.Native.Nat.{_<_};
 ghost use mathlib.Core.Path.{_≡_};
 ghost use Rattle.settings.specs.Columns.{count, idAt, widthAt, lowAt, highAt, zeroAt, partnerAt, roleAt, lows, highs, zeros, roles, placeOf};
@@ -189,7 +189,7 @@ pub(crate) const FACTORIES: [u16; COUNT] = [
     5, // EEFE
 ];
 
-// The other one of its pair, by its id: a new row renumbers nothing. A setting alone has its own.
+// The id of the other one of its pair, or its own for a setting alone. An id and not a place, so that a new row renumbers nothing.
 const PARTNER_IDS: [u16; COUNT] = [
     0x0321, // 0320
     0x0320, // 0321
@@ -248,6 +248,7 @@ const ROLES: [Role; COUNT] = [
     Role::Alone, // EEFE
 ];
 
+// Each of these returns what a column has at a place of the table.
 pub(crate) fn id_of(index: usize) -> u16
     requires { ⌜ index < count ⌝ }
     ensures { λ r. ⌜ r ≡ idAt index ⌝ }
@@ -283,7 +284,7 @@ pub(crate) fn zero_of(index: usize) -> bool
     ZEROS[index]
 }
 
-// The place of the other one of its pair: ids ascend and the two are neighbours, so the larger id is the next place.
+// Returns the place of the other one of its pair. Ids ascend and the two are neighbours, so a larger id is at the next place.
 pub(crate) fn partner_of(index: usize) -> usize
     requires { ⌜ index < count ⌝ }
     ensures { λ r. ⌜ r ≡ partnerAt index ⌝ }
@@ -306,7 +307,7 @@ pub(crate) fn role_of(index: usize) -> Role
     ROLES[index]
 }
 
-// The place of an id, or the number of settings where it is none.
+// Returns the place of an id, or the number of settings where it is none.
 pub(crate) fn place_of(id: u16) -> usize
     ensures { λ r. ⌜ r ≡ placeOf id ⌝ }
 {
@@ -320,7 +321,7 @@ pub(crate) fn place_of(id: u16) -> usize
     i
 }
 
-// Whole columns, for a look at all settings: an array that is named anew is made anew.
+// Each of these returns a whole column, for a loop over all settings: each use of a constant array makes it anew.
 pub(crate) fn lows() -> [u16; COUNT]
     ensures { λ r. ⌜ r ≡ lows ⌝ }
 {
