@@ -3,7 +3,7 @@
 // The last of the numbers by which a frame itself is refused.
 pub(crate) const LAST_OF_FRAME: u8 = 4;
 
-// After five reads of a second each that give nothing, or 8192 bytes that end no frame, the box waits no longer.
+// After five reads of a second each that give nothing, or 8192 bytes since the request, the box waits no longer.
 pub(crate) const MOST_QUIET: usize = 5;
 
 pub(crate) const MOST_NOISE: usize = 8192;
