@@ -49,7 +49,7 @@ fn nothing(state: State) -> List {
     List { state, len: 0 }
 }
 
-// Returns whether two rows have the same serial line. The first such line is told.
+// Returns whether two rows have the same serial line, and tells the first such one.
 pub(crate) fn is_doubled(list: &[u8]) -> bool {
     let mut at = 0;
     while at < list.len() {
