@@ -98,7 +98,7 @@ fn tells(core: Core, response: u8, number: u16, bytes: &[u8]) -> Decided
     sends(core, Outcome::Answered, messages::number(response, number))
 }
 
-// Restarts: readings become 0, settings stay, and nothing is sent; refuses data by 6.
+// Restarts the board: readings become 0, settings stay, and nothing is sent; refuses data by 6.
 fn restarts(mut core: Core, bytes: &[u8]) -> Decided
     ensures { λ r. ⌜ r ≡ decidedOf (answers.restarts core (now (bytes .entry))) ⌝ }
 {

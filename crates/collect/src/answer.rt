@@ -1,4 +1,3 @@
-// What a call answers of a collector.
 ghost use mathlib.Core.Path.{_≡_};
 ghost use Rattle.collect.specs.Calls as spec;
 use crate::Collected;

@@ -15,7 +15,7 @@ fn is_file(fd: i32) -> bool {
     0 <= libc::lseek(fd, 0, libc::SEEK_CUR)
 }
 
-// Returns the ends of what was opened for reading and writing. A file is closed again, before anything is written over it.
+// Returns the ends of a device that was opened. A file is closed again, before anything is written over it.
 fn ends_of(fd: i32) -> Ends {
     let file = 0 <= fd && is_file(fd);
     if file {

@@ -1,4 +1,4 @@
-// Parses each kind of reply from its data, with document 01's codes. Data that do not fit the kind are refused by 6.
+// The kinds of replies, each parsed from its data. Data that do not fit the kind are refused by 6.
 ghost use mathlib.Core.Path.{_≡_};
 ghost use Rattle.reply.specs.Replies.{front, fronted, telling, naming, numbering};
 use crate::Reply;

@@ -248,7 +248,7 @@ const ROLES: [Role; COUNT] = [
     Role::Alone, // EEFE
 ];
 
-// Each of these returns what a column has at a place of the table.
+// Returns the id of the setting at a place.
 pub(crate) fn id_of(index: usize) -> u16
     requires { ⌜ index < count ⌝ }
     ensures { λ r. ⌜ r ≡ idAt index ⌝ }
@@ -256,6 +256,7 @@ pub(crate) fn id_of(index: usize) -> u16
     IDS[index]
 }
 
+// Returns the width in bytes of the setting at a place.
 pub(crate) fn width_of(index: usize) -> usize
     requires { ⌜ index < count ⌝ }
     ensures { λ r. ⌜ r ≡ widthAt index ⌝ }
@@ -263,6 +264,7 @@ pub(crate) fn width_of(index: usize) -> usize
     WIDTHS[index]
 }
 
+// Returns the low end of the range of the setting at a place.
 pub(crate) fn low_of(index: usize) -> u16
     requires { ⌜ index < count ⌝ }
     ensures { λ r. ⌜ r ≡ lowAt index ⌝ }
@@ -270,6 +272,7 @@ pub(crate) fn low_of(index: usize) -> u16
     LOWS[index]
 }
 
+// Returns the high end of the range of the setting at a place.
 pub(crate) fn high_of(index: usize) -> u16
     requires { ⌜ index < count ⌝ }
     ensures { λ r. ⌜ r ≡ highAt index ⌝ }
@@ -277,6 +280,7 @@ pub(crate) fn high_of(index: usize) -> u16
     HIGHS[index]
 }
 
+// Returns whether 0 is allowed besides for the setting at a place.
 pub(crate) fn zero_of(index: usize) -> bool
     requires { ⌜ index < count ⌝ }
     ensures { λ r. ⌜ r ≡ zeroAt index ⌝ }
@@ -300,6 +304,7 @@ pub(crate) fn partner_of(index: usize) -> usize
     index
 }
 
+// Returns the part in its pair of the setting at a place.
 pub(crate) fn role_of(index: usize) -> Role
     requires { ⌜ index < count ⌝ }
     ensures { λ r. ⌜ r ≡ roleAt index ⌝ }
@@ -321,25 +326,28 @@ pub(crate) fn place_of(id: u16) -> usize
     i
 }
 
-// Each of these returns a whole column, for a loop over all settings: each use of a constant array makes it anew.
+// Returns all low ends. Whole columns are for a loop over all settings: each use of a constant array makes it anew.
 pub(crate) fn lows() -> [u16; COUNT]
     ensures { λ r. ⌜ r ≡ lows ⌝ }
 {
     LOWS
 }
 
+// Returns all high ends.
 pub(crate) fn highs() -> [u16; COUNT]
     ensures { λ r. ⌜ r ≡ highs ⌝ }
 {
     HIGHS
 }
 
+// Returns of each setting whether 0 is allowed besides.
 pub(crate) fn zeros() -> [bool; COUNT]
     ensures { λ r. ⌜ r ≡ zeros ⌝ }
 {
     ZEROS
 }
 
+// Returns the part of each setting in its pair.
 pub(crate) fn roles() -> [Role; COUNT]
     ensures { λ r. ⌜ r ≡ roles ⌝ }
 {

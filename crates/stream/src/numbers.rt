@@ -1,4 +1,2 @@
-// How much of an unfinished frame is kept.
-
 // The most characters held. 74 of them mean "over 73", and the refusal is the same however many more there are.
 pub(crate) const MOST_HELD: usize = 74;

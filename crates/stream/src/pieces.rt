@@ -1,4 +1,4 @@
-// What a piece of the stream brings: the end of the unfinished frame, of a frame that is within the piece, or of none.
+// How a piece of the stream is read, inside a frame and outside one, up to the first byte that ends a frame.
 ghost use Prim.Native.Nat.{_≤_};
 ghost use mathlib.Core.Path.{_≡_};
 ghost use mathlib.Core.Bool.{true, _||_};

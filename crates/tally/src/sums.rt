@@ -1,4 +1,4 @@
-// How a trailer comes into the tally: by its follower's own result, and by nothing that the caller says of the Sets.
+// How a trailer is counted: with its follower's own numbers.
 ghost use mathlib.Core.Path.{_≡_};
 ghost use mathlib.Core.Bool.{true};
 ghost use Rattle.tally.specs.Results.{tallyAllowed, plus, restored};

@@ -1,4 +1,4 @@
-// Which identities are allowed: the array has 0 past the serial's length, so that two equal identities are equal bytes.
+// Which identities are allowed. The array is 0 past the serial's length, so that an identity has one form.
 ghost use mathlib.Core.Path.{_≡_};
 ghost use mathlib.Core.Bool.{_&&_};
 ghost use lib.Dec.{leb};

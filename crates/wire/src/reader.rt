@@ -1,4 +1,4 @@
-// What document 01, "Frames", asks of a frame's characters, and the data that they say. lib.rt asks in the order of the refusals.
+// What document 01, "Frames", asks of a frame's characters, and the data that they carry.
 ghost use Prim.Native.Nat.{_+_, _*_, _≤_, _<_, _%_, _/_, _-_};
 ghost use mathlib.Core.Path.{_≡_};
 ghost use mathlib.Core.Bool.{true, false};
