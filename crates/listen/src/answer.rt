@@ -87,7 +87,7 @@ fn reported(listener: Listener, heard: Heard) -> Listened
     }
 }
 
-// Tells that no frame ended: there were no bytes, or they were noise.
+// Tells that no frame ended: there were no bytes, or they count as noise.
 fn unended(listener: Listener, count: usize, heard: Heard) -> Listened
     ensures { λ r. ⌜ r ≡ asHeard.unended listener count heard ⌝ }
 {

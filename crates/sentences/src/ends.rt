@@ -40,7 +40,7 @@ fn put_end(line: Line, standing: Standing, confirmed: usize, due: usize) -> Line
     }
 }
 
-// Returns whether a start and events give the follower. Of any other, the sentence is "refused 12".
+// Returns whether a start and events give the follower. For any other the sentence is "refused 12".
 fn is_allowed(follower: Follower) -> bool
     ensures { λ r. ⌜ r ≡ followerAllowed follower ⌝ }
 {

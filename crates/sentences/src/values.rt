@@ -11,8 +11,8 @@ ghost use Rattle.lines.specs.Lines.{adding};
 ghost use Rattle.sentences.specs.Values.{wordText, strangeText, serialText, amountText, readingText, wordsText};
 use lines::Line;
 
-// How many numbers two bytes and four bytes have: from half of it on, a number is negative. Twice as many for the one reading without a
-// sign, so that no number of two bytes is.
+// How many numbers two bytes and four bytes have: from half of it on, a number is negative. For the one reading without a sign it is twice
+// as many, so that no number of two bytes is negative.
 const ALL_16: usize = 65536;
 
 const ALL_32: usize = 4294967296;

@@ -13,7 +13,7 @@ const NOWHERE: usize = 1000000;
 
 const NUMBER_NOT_ALLOWED: u8 = 10;
 
-// A setting and its partner, which both hold the partner's number in the table: equal numbers agree.
+// A setting beside its partner's number. The two of a pair both hold that number in the table, since equal numbers agree.
 pub struct Case {
     pub table: Table,
     pub place: usize,

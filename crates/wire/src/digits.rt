@@ -1,4 +1,4 @@
-// Hex digits, made and read here alone. Document 01, Frames: "`0`-`9`, `A`-`F` only."
+// Hex digits of frames and rows, made and read here alone. Document 01, Frames: "`0`-`9`, `A`-`F` only."
 ghost use Prim.Native.Nat.{_+_, _*_, _<_};
 ghost use mathlib.Core.Path.{_≡_};
 ghost use Rattle.wire.specs.Digits.{digit, nibble, isDigit};
