@@ -54,7 +54,7 @@ pub(crate) fn silent(core: Core, outcome: Outcome) -> Decided
     }
 }
 
-// Refuses by 6 and decides to send the error frame.
+// Refuses data that do not fit their command, by 6, and decides to send the error frame.
 pub(crate) fn malformed(core: Core) -> Decided
     ensures { λ r. ⌜ r ≡ decidedOf (answers.malformed core) ⌝ }
 {
@@ -66,7 +66,7 @@ pub(crate) fn malformed(core: Core) -> Decided
     }
 }
 
-// Refuses a command that the board does not know, by 5.
+// Refuses a command that the board does not know, by 5, and decides to send its number.
 fn unknown_command(core: Core, command: u8) -> Decided
     ensures { λ r. ⌜ r ≡ decidedOf (answers.unknownCommand core command) ⌝ }
 {
@@ -77,7 +77,7 @@ fn unknown_command(core: Core, command: u8) -> Decided
     )
 }
 
-// Refuses an id in neither table, by 7.
+// Refuses an id that is neither a setting's nor read-only, by 7.
 pub(crate) fn unknown_id(core: Core, command: u8, id: u16) -> Decided
     ensures { λ r. ⌜ r ≡ decidedOf (answers.unknownId core command id) ⌝ }
 {
@@ -88,7 +88,7 @@ pub(crate) fn unknown_id(core: Core, command: u8, id: u16) -> Decided
     )
 }
 
-// Answers Ping, App version and Product id by a response with a number; refuses data by 6.
+// Answers Ping, App version and Product id with a number; refuses data by 6.
 fn tells(core: Core, response: u8, number: u16, bytes: &[u8]) -> Decided
     ensures { λ r. ⌜ r ≡ decidedOf (answers.tells core response number (now (bytes .entry))) ⌝ }
 {
@@ -98,7 +98,7 @@ fn tells(core: Core, response: u8, number: u16, bytes: &[u8]) -> Decided
     sends(core, Outcome::Answered, messages::number(response, number))
 }
 
-// Restarts: readings 0, settings as they are; refuses data by 6.
+// Restarts the board: readings become 0, settings stay, and nothing is sent; refuses data by 6.
 fn restarts(mut core: Core, bytes: &[u8]) -> Decided
     ensures { λ r. ⌜ r ≡ decidedOf (answers.restarts core (now (bytes .entry))) ⌝ }
 {

@@ -42,7 +42,7 @@ fn get_setting(core: Core, setting: Setting) -> Decided
     )
 }
 
-// Answers a Get of any other id: the value of a read-only one, else 7.
+// Answers a Get of any other id: with the value of a read-only one, else by 7.
 fn get_other(core: Core, id: u16) -> Decided
     requires { ⌜ identityAllowed (core .identity) ≡ true ⌝ }
     ensures { λ r. ⌜ r ≡ decidedOf (answers.getsOther core id (readOnly (core .identity) (core .readings) id)) ⌝ }
@@ -63,7 +63,7 @@ fn get_other(core: Core, id: u16) -> Decided
     }
 }
 
-// Answers a Get: an id and flags 0, and no more.
+// Answers a Get: an id and flags 0, and no more. Any other data are refused by 6.
 pub(crate) fn answer(core: Core, bytes: &[u8]) -> Decided
     requires { ⌜ identityAllowed (core .identity) ≡ true ⌝ }
     ensures { λ r. ⌜ r ≡ decidedOf (answers.getAnswer core (now (bytes .entry))) ⌝ }

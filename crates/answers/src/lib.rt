@@ -14,7 +14,7 @@ mod messages;
 mod sets;
 mod values;
 
-// What a board is and holds, whatever its lines have heard: who it is, its settings and its readings.
+// What a board is and holds, whatever its serial line has brought: who it is, its settings and its readings.
 pub struct Core {
     pub identity: Identity,
     pub table: Table,
@@ -37,7 +37,7 @@ pub enum Sends {
     Error,
 }
 
-// A command, and its data at the front of the array, zeros after them.
+// A command, and its data at the front of the array, with zeros after them.
 pub struct Message {
     pub command: u8,
     pub len: usize,

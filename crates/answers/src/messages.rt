@@ -32,7 +32,7 @@ pub(crate) fn one(command: u8, byte: u8) -> Message
     }
 }
 
-// Returns a message of one number: a version or a product.
+// Returns a message of one number: a version, a product or an id.
 pub(crate) fn number(command: u8, n: u16) -> Message
     ensures { λ r. ⌜ r ≡ messageOf command (little 2 n) ⌝ }
 {
@@ -61,7 +61,7 @@ pub(crate) fn bare(command: u8, id: u16, flag: u8) -> Message
     }
 }
 
-// Returns the first three bytes of `front`, and 32 after them.
+// Returns the first three bytes of `front`, and the 32 of `rest` after them.
 fn joined(front: [u8; paper::MOST_DATA], rest: [u8; paper::MOST_SERIAL]) -> [u8; paper::MOST_DATA]
     ensures { λ r. ⌜ r ≡ take 3 front ++ rest ⌝ }
 {

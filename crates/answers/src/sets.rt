@@ -16,7 +16,7 @@ use settings::Setting;
 use tables::Answer;
 use who::Verdict;
 
-// Answers by what the table made of a number; `core` has the table afterwards.
+// Answers by what the table made of a number. `core` has the table afterwards.
 fn stored(core: Core, setting: Setting, number: u16, answer: Answer) -> Decided
     requires { ⌜ Settled setting ⌝ }
     ensures { λ r. ⌜ r ≡ decidedOf (answers.stored core setting number answer) ⌝ }
@@ -44,7 +44,7 @@ fn stored(core: Core, setting: Setting, number: u16, answer: Answer) -> Decided
     }
 }
 
-// Answers a Set of a setting: 9 for another width than its own; else what the table makes of the number.
+// Answers a Set of a setting: 9 for another width than its own, else what the table makes of the number.
 fn set_setting(mut core: Core, setting: Setting, value: &[u8]) -> Decided
     requires { ⌜ Settled setting ⌝ }
     ensures { λ r. ⌜ r ≡ decidedOf (answers.setsSetting core setting (now (value .entry))) ⌝ }
@@ -85,7 +85,7 @@ fn set_other(core: Core, id: u16) -> Decided
     }
 }
 
-// Answers a Set: an id, flags 0 and a value.
+// Answers a Set: an id, flags 0 and a value. Fewer data or other flags are refused by 6.
 pub(crate) fn answer(core: Core, bytes: &[u8]) -> Decided
     requires { ⌜ identityAllowed (core .identity) ≡ true ⌝ }
     ensures { λ r. ⌜ r ≡ decidedOf (answers.setAnswer core (now (bytes .entry))) ⌝ }

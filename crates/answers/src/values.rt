@@ -1,11 +1,10 @@
-// A setting's number as bytes.
 ghost use mathlib.Core.Path.{_≡_};
 ghost use Prim.Native.Nat.{_≤_};
 ghost use Rattle.endian.specs.Numbers.{little};
 ghost use Rattle.who.specs.Calls.{valueOf};
 use who::Value;
 
-// Returns a number in one byte or two, by a setting's width, the low one first.
+// Returns a setting's number in one byte or two, by the setting's width, the low one first.
 pub(crate) fn wide(width: usize, n: u16) -> Value
     requires { ⌜ (1 ≤ width) × (width ≤ 2) ⌝ }
     ensures { λ r. ⌜ r ≡ valueOf (little width n) ⌝ }

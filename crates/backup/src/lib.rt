@@ -12,13 +12,13 @@ use wire::Written;
 mod reader;
 mod writer;
 
-// What the reader answers: accepted, or the number of the refusal and the line, the header being 1 (0 for 17 and 18).
+// What parsing a text answers: accepted, or the number of the refusal and the line, the header being 1 (0 for 17 and 18).
 pub enum Checked {
     Accepted,
     Refused { number: u8, line: usize },
 }
 
-// A text read: its table, or the factory table where it is refused.
+// What a text says: its table, or the factory table where it is refused.
 pub struct Backup {
     pub table: Table,
     pub verdict: Checked,
@@ -26,7 +26,7 @@ pub struct Backup {
 
 pub(crate) const HEADER_LEN: usize = 12;
 
-// The first line of every text.
+// Returns the first line of every text.
 fn header() -> [u8; HEADER_LEN]
     ensures { λ r. ⌜ r ≡ text.header ⌝ }
 {

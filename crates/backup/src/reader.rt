@@ -1,4 +1,3 @@
-// The reader.
 ghost use mathlib.Core.Path.{_≡_};
 ghost use lib.ListN.{length, take};
 ghost use Rattle.laws.specs.Lists.{same};
@@ -15,7 +14,7 @@ use tables::Table;
 // The header is line 1, so the setting at place 0 is in line 2.
 const FIRST_LINE: usize = 2;
 
-// A refusal, with the factory table.
+// Refuses a text, with the factory table.
 pub(crate) fn refused(number: u8, line: usize) -> Backup
     ensures { λ r. ⌜ r ≡ readAs (spec.refused number line) ⌝ }
 {
@@ -25,7 +24,7 @@ pub(crate) fn refused(number: u8, line: usize) -> Backup
     }
 }
 
-// Whether a text has the first line that it must have.
+// Returns whether a text has the first line that it must have.
 pub(crate) fn begins(text: &[u8]) -> bool
     ensures { λ r. ⌜ r ≡ same (take (length spec.header) (now (text .entry))) spec.header ⌝ }
 {
@@ -36,7 +35,7 @@ pub(crate) fn begins(text: &[u8]) -> bool
     check::same(&text[..HEADER_LEN], &header)
 }
 
-// What the end says: no byte may follow, and every pair agrees.
+// Judges the end of a text: no byte may follow, and every pair must agree.
 fn ended(more: usize, held: [u16; COUNT]) -> Backup
     ensures { λ r. ⌜ r ≡ readAs (spec.endSays (record { numbers = held }) more) ⌝ }
 {
@@ -53,7 +52,7 @@ fn ended(more: usize, held: [u16; COUNT]) -> Backup
     }
 }
 
-// The lines after the header, one for each setting.
+// Reads the lines after the header, one for each setting.
 pub(crate) fn read_lines(text: &[u8]) -> Backup
     ensures { λ r. ⌜ r ≡ readAs (spec.linesSay spec.places 2 factory (now (text .entry))) ⌝ }
 {

@@ -1,4 +1,3 @@
-// The writer.
 ghost use Prim.Native.Nat.{_+_, _*_, _≤_, _<_};
 ghost use mathlib.Core.Path.{_≡_};
 ghost use lib.ListN.{length};
@@ -9,7 +8,7 @@ ghost use Rattle.backup.specs.Text.{places, linesFor};
 use settings::COUNT;
 use wire::Written;
 
-// A setting's line at a place, and the place after it.
+// Puts a setting's line at a place, and returns the place after it.
 fn put_line(out: &mut [u8], at: usize, index: usize, n: u16) -> usize
     requires { ⌜ (at + rowRoom ≤ length (now out)) × (index < count) ⌝ }
     ensures { λ r. ⌜ (r ≡ at + length (rowOf (idAt index) n)) × (now (out .exit) ≡ sets (now (out .entry)) at (rowOf (idAt index) n)) × (r ≤ at + rowRoom) ⌝ }
@@ -22,7 +21,7 @@ fn put_line(out: &mut [u8], at: usize, index: usize, n: u16) -> usize
     }
 }
 
-// A line for each setting from a place on, and the place after them.
+// Puts a line for each setting from a place on, and returns the place after them.
 pub(crate) fn put_lines(held: [u16; COUNT], out: &mut [u8], start: usize) -> usize
     requires { ⌜ start + rowRoom * count ≤ length (now out) ⌝ }
     ensures { λ r. ⌜ (r ≡ start + length (linesFor places (record { numbers = held }))) × (now (out .exit) ≡ sets (now (out .entry)) start (linesFor places (record { numbers = held }))) × (r ≤ length (now (out .entry))) ⌝ }

@@ -1,5 +1,5 @@
-// The stream and the board as plain C calls: all bytes are handed over at once, cut as the caller says, and state stays inside the call.
-// Each takes anything, and its promise fixes its answer and every lent byte (specs/Calls.antt).
+// The stream and the board as plain C calls: the caller hands over all bytes at once and says how they are cut, and the state stays inside
+// the call. Each takes anything, and its promise fixes its answer and every lent byte (specs/Calls.antt).
 ghost use Prim.Native.Nat.{ℕ, min};
 ghost use mathlib.Core.Path.{_≡_};
 ghost use lib.ListN.{length};
@@ -13,8 +13,8 @@ use board::Sample;
 use stream::Event;
 use stream::Held;
 
-// Reads `bytes` from outside a frame in as many calls as there are sizes, each handed at most that many of the bytes not taken yet; `into`
-// is lent to every call. Returns the number of frames read well.
+// Reads `bytes` from outside a frame, with one call for each size: the call is handed at most that many of the bytes not taken yet, and
+// `into` is lent to every call. Returns the number of frames that were not refused.
 #[no_mangle]
 pub extern "C" fn reedsatchel_bench_stream(bytes: &[u8], sizes: &[u32], into: &mut [u8]) -> u64
     ensures { λ r. ⌜ Streamed (streaming (heldOf outside) (now (bytes .entry)) (now (sizes .entry)) (length (now (into .entry)))) (now (into .entry)) r (now (into .exit)) ⌝ }
@@ -36,8 +36,8 @@ pub extern "C" fn reedsatchel_bench_stream(bytes: &[u8], sizes: &[u32], into: &m
     count
 }
 
-// Hands `bytes` in the same way to a factory board of this identity and these readings; its replies stand end to end at the front of
-// `out`, each call being lent what is left of it. Returns their length together.
+// Hands `bytes` in the same way to a factory board of this identity and these readings. Its replies are put end to end at the front of
+// `out`, of which each call is lent what is left. Returns the length of all replies together.
 #[no_mangle]
 pub extern "C" fn reedsatchel_bench_board(
     product: u16,
@@ -65,7 +65,7 @@ pub extern "C" fn reedsatchel_bench_board(
     run(board, bytes, sizes, out) as u64
 }
 
-// Makes one call on a board for each size, its replies end to end.
+// Makes one call on a board for each size, with the replies end to end, and returns their length.
 fn run(board: Board, bytes: &[u8], sizes: &[u32], out: &mut [u8]) -> usize
     ensures { λ r. ⌜ Gives ℕ (whole (running board (now (bytes .entry)) (now (sizes .entry)) (length (now (out .entry))))) (now (out .entry)) r (now (out .exit)) ⌝ }
 {
@@ -93,7 +93,7 @@ fn least(size: u32, left: usize) -> usize
     if n < left { n } else { left }
 }
 
-// Returns 1 for a frame that was read well, else 0.
+// Returns 1 for a frame that was not refused, else 0.
 fn good_in(event: Event) -> u64
     ensures { λ r. ⌜ r ≡ goodIn event ⌝ }
 {

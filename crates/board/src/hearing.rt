@@ -18,7 +18,7 @@ use stream::Event;
 use stream::Held;
 use wire::Written;
 
-// Writes the error frame at the buffer's front.
+// Writes the error frame at the buffer's front, and returns its length.
 fn put_error(out: &mut [u8]) -> usize
     requires { ⌜ 75 ≤ length (now out) ⌝ }
     ensures { λ r. ⌜ Gives ℕ (whole errorFrame) (now (out .entry)) r (now (out .exit)) ⌝ }
@@ -26,8 +26,8 @@ fn put_error(out: &mut [u8]) -> usize
     bytes::copy(b":4AAAAFD\n", out)
 }
 
-// Writes what the board sends where the line refuses: the error frame for a frame (1 to 4), and nothing for a held frame that is not
-// allowed.
+// Writes what the board sends where the stream refuses: the error frame for a frame (1 to 4), and nothing for an unfinished frame that is
+// not allowed.
 fn put_fault(number: u8, out: &mut [u8]) -> usize
     requires { ⌜ 75 ≤ length (now out) ⌝ }
     ensures { λ r. ⌜ Gives ℕ (whole (faultBytes number)) (now (out .entry)) r (now (out .exit)) ⌝ }
@@ -38,7 +38,7 @@ fn put_fault(number: u8, out: &mut [u8]) -> usize
     put_error(out)
 }
 
-// Writes the frame of a reply at the buffer's front.
+// Writes the frame of a reply at the buffer's front, and returns its length.
 fn put_reply(reply: Message, out: &mut [u8]) -> usize
     requires { ⌜ (75 ≤ length (now out)) × (reply .command ≤ 15) × (reply .len ≤ 35) ⌝ }
     ensures { λ r. ⌜ Gives ℕ (sentBy Sends.Frame reply) (now (out .entry)) r (now (out .exit)) ⌝ }
@@ -64,7 +64,7 @@ fn put(sends: Sends, reply: Message, out: &mut [u8]) -> usize
     }
 }
 
-// Answers a whole frame, on a line that now holds `held`.
+// Answers a whole frame. `held` is the unfinished frame after it.
 fn framed(
     core: Core,
     held: Held,
@@ -89,8 +89,8 @@ fn framed(
     }
 }
 
-// Hears a piece of input at a board whose identity and settings are allowed. 12 of its held frame is the line's own: it hands that frame
-// back as it was, and has taken nothing.
+// Hears a piece of input at a board whose identity and settings are allowed. An unfinished frame that is not allowed is not asked about
+// here: the stream refuses it by 12, hands it back as it was, and takes nothing.
 pub(crate) fn heard(board: Board, piece: &[u8], out: &mut [u8]) -> Answered
     requires { ⌜ (75 ≤ length (now out)) × (coreAllowed (board .core) ≡ true) ⌝ }
     ensures { λ r. ⌜ Gives Answered (heardIfHeld board (now (piece .entry))) (now (out .entry)) r (now (out .exit)) ⌝ }

@@ -1,5 +1,5 @@
-// A board: what it is and holds, and the unfinished frame of its line. It decides, every setting, every time. Every call takes anything, and its promise fixes its answer and every
-// lent byte (specs/Calls.antt).
+// A board: what it is and holds, and the unfinished frame of its serial line. The board itself judges every Set of every setting. Every
+// call takes anything, and its promise fixes its answer and every lent byte (specs/Calls.antt).
 ghost use mathlib.Core.Path.{_≡_};
 ghost use lib.ListN.{length};
 ghost use Rattle.laws.specs.Promise.{Gives};
@@ -19,7 +19,7 @@ mod hearing;
 mod measured;
 mod numbers;
 
-// Five readings as they are handed in, wider than their widths: the board stores them all or none.
+// Five readings as they are handed in, in more bits than a board stores: it stores them all or none.
 pub struct Sample {
     pub voltage: i64,
     pub current: i64,
@@ -28,13 +28,13 @@ pub struct Sample {
     pub charge: i64,
 }
 
-// A board: what it is and holds, and the unfinished frame of its line.
+// A board: what it is and holds, and the unfinished frame of its serial line.
 pub struct Board {
     pub core: Core,
     pub held: Held,
 }
 
-// A board, and what became of the request that gave it.
+// A board, and whether what was asked of it was accepted.
 pub struct Handed {
     pub board: Board,
     pub verdict: Verdict,
@@ -49,7 +49,7 @@ pub struct Answered {
 }
 
 impl Board {
-    // Starts a board with an identity and a table: readings 0 and no frame. 12 for a serial that is too long or has a byte outside
+    // Starts a board with an identity and a table: readings 0 and no frame. Refuses 12 for a serial that is too long or has a byte outside
     // 0x20..0x7E, or a table that is not allowed; then product and version 0, an empty serial and the factory table.
     pub fn start(product: u16, version: u16, serial: &[u8], table: Table) -> Handed
         ensures { λ r. ⌜ r ≡ starting product version (now (serial .entry)) table ⌝ }
@@ -76,7 +76,7 @@ impl Board {
         Board::start(product, version, serial, Table::factory())
     }
 
-    // Stores five readings, or none: 12 for a board that is not allowed, or a number that does not fit its width.
+    // Stores five readings, or none: refuses 12 for a board that is not allowed, or a number that does not fit its width.
     pub fn store(self, given: Sample) -> Handed
         ensures { λ r. ⌜ r ≡ storing self given ⌝ }
     {
@@ -95,8 +95,8 @@ impl Board {
         }
     }
 
-    // Takes a piece of input up to the first byte that ends a frame, and answers that frame at the front of `reply`. 11 under 75 bytes of
-    // room, then 12 for a board that is not allowed; then nothing is taken or written.
+    // Takes a piece of input up to the first byte that ends a frame, and answers that frame at the front of `reply`. Refuses 11 under 75
+    // bytes of room, then 12 for a board that is not allowed; then nothing is taken or written.
     pub fn answer(self, piece: &[u8], reply: &mut [u8]) -> Answered
         ensures { λ r. ⌜ Gives Answered (answering self (now (piece .entry)) (length (now (reply .entry)))) (now (reply .entry)) r (now (reply .exit)) ⌝ }
     {
@@ -134,7 +134,7 @@ fn fresh(identity: Identity, table: Table) -> Board
     }
 }
 
-// Refuses a start: product and version 0, an empty serial and the factory table.
+// Refuses a start by 12: product and version 0, an empty serial and the factory table.
 fn refused_start() -> Handed
     ensures { λ r. ⌜ r ≡ refusedStart ⌝ }
 {
@@ -146,7 +146,7 @@ fn refused_start() -> Handed
     }
 }
 
-// Refuses a call: the board as it was, counts and lengths 0.
+// Refuses a call: the board is as it was, nothing is taken, and there is no reply.
 fn unanswered(board: Board, number: u8) -> Answered
     ensures { λ r. ⌜ r ≡ unanswered board number .answer ⌝ }
 {

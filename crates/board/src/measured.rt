@@ -6,7 +6,7 @@ use crate::Sample;
 use crate::numbers;
 use who::Readings;
 
-// Returns whether a number is within two ends.
+// Returns whether a number is from low to high, both included.
 fn is_within(low: i64, x: i64, high: i64) -> bool
     ensures { λ r. ⌜ r ≡ within low high x ⌝ }
 {
@@ -24,7 +24,7 @@ pub(crate) fn fit(given: Sample) -> bool
         & is_within(0, given.charge, numbers::MOST_CHARGE)
 }
 
-// Returns a number that fits signed 16, signed 32 or unsigned 16, at that width.
+// Returns a number that fits signed 16, at that width.
 fn as_16(x: i64) -> i16
     requires { ⌜ within (negsuc 0x7FFF) (pos 0x7FFF) x ≡ true ⌝ }
     ensures { λ r. ⌜ r ≡ x ⌝ }
@@ -32,6 +32,7 @@ fn as_16(x: i64) -> i16
     x as i16
 }
 
+// Returns a number that fits signed 32, at that width.
 fn as_32(x: i64) -> i32
     requires { ⌜ within (negsuc 0x7FFFFFFF) (pos 0x7FFFFFFF) x ≡ true ⌝ }
     ensures { λ r. ⌜ r ≡ x ⌝ }
@@ -39,6 +40,7 @@ fn as_32(x: i64) -> i32
     x as i32
 }
 
+// Returns a number that fits unsigned 16, at that width.
 fn as_charge(x: i64) -> u16
     requires { ⌜ within (pos 0) (pos 0xFFFF) x ≡ true ⌝ }
     ensures { λ r. ⌜ r ≡ natAbs x ⌝ }

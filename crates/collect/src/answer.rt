@@ -1,4 +1,3 @@
-// What a call answers of a collector.
 ghost use mathlib.Core.Path.{_≡_};
 ghost use Rattle.collect.specs.Calls as spec;
 use crate::Collected;
@@ -8,7 +7,7 @@ use crate::state;
 use settings::COUNT;
 use tables::Table;
 
-// How far it is, with this many settings answered.
+// Returns how far a collector is, with this many settings answered.
 fn stage_of(len: usize, stopped: bool) -> Stage
     ensures { λ r. ⌜ r ≡ spec.stageOf len stopped ⌝ }
 {
@@ -22,7 +21,7 @@ fn stage_of(len: usize, stopped: bool) -> Stage
     Stage::Waiting(due)
 }
 
-// The table, given only when every setting was answered.
+// Returns the table, or the factory table unless every setting was answered.
 fn table_of(len: usize, numbers: [u16; COUNT]) -> Table
     ensures { λ r. ⌜ r ≡ spec.tableOf len numbers ⌝ }
 {
@@ -32,7 +31,7 @@ fn table_of(len: usize, numbers: [u16; COUNT]) -> Table
     Table { numbers }
 }
 
-// The answer of an allowed collector.
+// Returns the answer of an allowed collector.
 pub(crate) fn good(collector: Collector) -> Collected
     ensures { λ r. ⌜ r ≡ spec.good collector ⌝ }
 {
@@ -46,7 +45,7 @@ pub(crate) fn good(collector: Collector) -> Collected
     }
 }
 
-// A collector that is not allowed comes back as it was.
+// Refuses a collector that is not allowed by 12: it is as it was, and nothing is counted.
 pub(crate) fn stray(collector: Collector) -> Collected
     ensures { λ r. ⌜ r ≡ spec.stray collector ⌝ }
 {
@@ -58,7 +57,7 @@ pub(crate) fn stray(collector: Collector) -> Collected
     }
 }
 
-// The answer of any collector, as it is.
+// Returns the answer of any collector, as it is.
 pub(crate) fn told(collector: Collector) -> Collected
     ensures { λ r. ⌜ r ≡ spec.told collector ⌝ }
 {

@@ -9,14 +9,14 @@ use crate::place;
 use reply::Heeded;
 use settings::COUNT;
 
-// The number is taken, the collector stops, or it keeps waiting.
+// What a frame does: its number is taken, the collector stops, or it waits on.
 pub(crate) enum Intake {
     Takes(u16),
     Stops,
     Waits,
 }
 
-// The value of a good reply with the due id: it stops on another width or a number that does not fit.
+// Returns what the value of a good reply with the due id does: it stops on another width or a number that does not fit.
 fn of_value(numbers: [u16; COUNT], index: usize, bytes: &[u8]) -> Intake
     requires { ⌜ index < count ⌝ }
     ensures { λ r. ⌜ r ≡ spec.valued numbers index (drop 3 (now (bytes .entry))) ⌝ }
@@ -32,7 +32,7 @@ fn of_value(numbers: [u16; COUNT], index: usize, bytes: &[u8]) -> Intake
     Intake::Takes(number)
 }
 
-// A frame, as an answer to the Get of the setting that is due.
+// Returns what a frame does, as an answer to the Get of the setting that is due.
 pub(crate) fn of_frame(numbers: [u16; COUNT], index: usize, command: u8, bytes: &[u8]) -> Intake
     requires { ⌜ index < count ⌝ }
     ensures { λ r. ⌜ r ≡ spec.intakeOf numbers index (heard command (now (bytes .entry))) ⌝ }

@@ -1,6 +1,6 @@
-// Reading a board (ours; document 01's follower is the model): a collector that asks a Get for each setting in order, takes the numbers that
-// the board answers, and gives the table only when every setting was answered. Every call takes anything, and its promise fixes its answer
-// (specs/Calls.antt).
+// A board's settings by Gets (ours; document 01's follower is the model): a collector asks for each setting in order, takes the numbers
+// that the board answers, and gives the table only when every setting was answered. Every call takes anything, and its promise fixes its
+// answer (specs/Calls.antt).
 ghost use mathlib.Core.Path.{_≡_};
 ghost use Rattle.reply.specs.Events.{heard, refusedFrame, noAnswer};
 ghost use Rattle.collect.specs.Calls.{starting, told, collecting};
@@ -38,22 +38,22 @@ pub struct Collected {
 }
 
 impl Collector {
-    // A collector that asks for the first setting.
+    // Returns a collector that asks for the first setting.
     pub fn start() -> Collected
         ensures { λ r. ⌜ r ≡ starting ⌝ }
     {
         answer::good(state::begun())
     }
 
-    // What is told of a collector, with nothing heard. Refuses 12 for one that no start and events give.
+    // Returns how far a collector is, with nothing heard. Refuses 12 for one that no start and events give.
     pub fn told(self) -> Collected
         ensures { λ r. ⌜ r ≡ told self ⌝ }
     {
         answer::told(self)
     }
 
-    // A frame was read, of this command and these data. Only a good Get reply with the due id, in its width and with a number that fits is
-    // taken. Refuses 12 alike.
+    // Takes a frame of this command and these data. Only the number of a good Get reply with the due id, in its width and with a number
+    // that fits, is taken. Refuses 12 for a collector that no start and events give.
     pub fn reply(self, command: u8, bytes: &[u8]) -> Collected
         ensures { λ r. ⌜ r ≡ collecting self (heard command (now (bytes .entry))) ⌝ }
     {
@@ -63,14 +63,14 @@ impl Collector {
         answer::good(state::after_frame(self, command, bytes))
     }
 
-    // The stream refused a frame, which keeps waiting. Refuses 12 alike.
+    // Takes a frame that the stream refused, on which the collector waits on. Refuses 12 for one that no start and events give.
     pub fn refused_frame(self) -> Collected
         ensures { λ r. ⌜ r ≡ collecting self refusedFrame ⌝ }
     {
         answer::told(self)
     }
 
-    // No answer came, which stops. Refuses 12 alike.
+    // Notes that no answer came, which stops a collector that waits. Refuses 12 for one that no start and events give.
     pub fn no_answer(self) -> Collected
         ensures { λ r. ⌜ r ≡ collecting self noAnswer ⌝ }
     {

@@ -10,7 +10,7 @@ use crate::intake::Intake;
 use crate::place;
 use settings::COUNT;
 
-// The start: nothing is answered.
+// Returns the start: nothing is answered.
 pub(crate) fn begun() -> Collector
     ensures { λ r. ⌜ r ≡ spec.begun ⌝ }
 {
@@ -21,7 +21,7 @@ pub(crate) fn begun() -> Collector
     }
 }
 
-// No more settings are answered than there are, and fewer where it stopped.
+// Returns whether no more settings are answered than there are, and fewer where it stopped.
 fn is_within(len: usize, stopped: bool) -> bool
     ensures { λ r. ⌜ r ≡ spec.within len stopped ⌝ }
 {
@@ -31,7 +31,7 @@ fn is_within(len: usize, stopped: bool) -> bool
     len <= COUNT
 }
 
-// Every number answered fits those before it.
+// Returns whether every number answered fits those before it.
 fn all_fit(numbers: [u16; COUNT], len: usize) -> bool
     requires { ⌜ len ≤ count ⌝ }
     ensures { λ r. ⌜ r ≡ spec.allFit numbers len ⌝ }
@@ -45,7 +45,7 @@ fn all_fit(numbers: [u16; COUNT], len: usize) -> bool
     all
 }
 
-// Past the numbers answered is 0, so that a state has one form.
+// Returns whether all numbers past those answered are 0, so that a state has one form.
 fn none_after(numbers: [u16; COUNT], len: usize) -> bool
     requires { ⌜ len ≤ count ⌝ }
     ensures { λ r. ⌜ r ≡ spec.noneAfter numbers len ⌝ }
@@ -59,7 +59,7 @@ fn none_after(numbers: [u16; COUNT], len: usize) -> bool
     all
 }
 
-// Whether a start and events give the collector.
+// Returns whether a start and events give the collector.
 pub(crate) fn is_allowed(collector: Collector) -> bool
     ensures { λ r. ⌜ r ≡ spec.allowed collector ⌝ }
 {
@@ -71,14 +71,14 @@ pub(crate) fn is_allowed(collector: Collector) -> bool
     all_fit(numbers, len) & none_after(numbers, len)
 }
 
-// Whether a setting is due.
+// Returns whether a setting is due.
 fn is_waiting(collector: Collector) -> bool
     ensures { λ r. ⌜ r ≡ spec.isWaiting collector ⌝ }
 {
     !collector.stopped & (collector.len < COUNT)
 }
 
-// One more number answered.
+// Returns a collector with one more number answered.
 fn took(collector: Collector, number: u16) -> Collector
     requires { ⌜ collector .len < count ⌝ }
     ensures { λ r. ⌜ r ≡ spec.took collector number ⌝ }
@@ -93,7 +93,7 @@ fn took(collector: Collector, number: u16) -> Collector
     }
 }
 
-// The due setting stays named.
+// Returns a collector that has stopped. Its count stays, so that the setting that was due can be named.
 fn halted(collector: Collector) -> Collector
     ensures { λ r. ⌜ r ≡ spec.halted collector ⌝ }
 {
@@ -105,7 +105,7 @@ fn halted(collector: Collector) -> Collector
     }
 }
 
-// A collector that waited, after the answer to its Get.
+// Returns a collector that waited, after the answer to its Get.
 fn moved(collector: Collector, intake: Intake) -> Collector
     requires { ⌜ collector .len < count ⌝ }
     ensures { λ r. ⌜ r ≡ spec.moved collector intake ⌝ }
@@ -117,7 +117,7 @@ fn moved(collector: Collector, intake: Intake) -> Collector
     }
 }
 
-// A collector after a frame; ended stays ended.
+// Returns a collector after a frame. An ended one stays as it was.
 pub(crate) fn after_frame(collector: Collector, command: u8, bytes: &[u8]) -> Collector
     ensures { λ r. ⌜ r ≡ spec.advanced collector (heard command (now (bytes .entry))) ⌝ }
 {
@@ -131,7 +131,7 @@ pub(crate) fn after_frame(collector: Collector, command: u8, bytes: &[u8]) -> Co
     )
 }
 
-// A collector to whose Get no answer came; ended stays ended.
+// Returns a collector to whose Get no answer came. An ended one stays as it was.
 pub(crate) fn after_silence(collector: Collector) -> Collector
     ensures { λ r. ⌜ r ≡ spec.advanced collector noAnswer ⌝ }
 {

@@ -4,7 +4,7 @@ ghost use mathlib.Core.Path.{_≡_};
 ghost use lib.ListN.{getD, take};
 ghost use Rattle.endian.specs.Numbers.{little, fromLittle, complement, signed};
 
-// From the half on a number in two's complement is negative, counted back from the largest.
+// The first number of two's complement that is negative, and the largest, from which the negative ones are counted back.
 const HALF_16: u16 = 32768;
 
 const LARGEST_16: u16 = 65535;
@@ -57,7 +57,7 @@ pub fn bytes_32(n: u32) -> [u8; 4]
     ]
 }
 
-// Returns the whole number that 16 bits stand for. A negative one is the complement of its distance to -1.
+// Returns the whole number whose two's complement in 16 bits is `n`. A negative one is the bitwise complement of its distance to -1.
 pub fn signed_16(n: u16) -> i16
     ensures { λ r. ⌜ r ≡ signed 2 n ⌝ }
 {
@@ -67,7 +67,7 @@ pub fn signed_16(n: u16) -> i16
     !((LARGEST_16 - n) as i16)
 }
 
-// Returns the whole number that 32 bits stand for.
+// Returns the whole number whose two's complement in 32 bits is `n`.
 pub fn signed_32(n: u32) -> i32
     ensures { λ r. ⌜ r ≡ signed 4 n ⌝ }
 {
@@ -77,7 +77,7 @@ pub fn signed_32(n: u32) -> i32
     !((LARGEST_32 - n) as i32)
 }
 
-// Returns the 16 bits of a whole number.
+// Returns the two's complement of a whole number, in 16 bits.
 pub fn complement_16(x: i16) -> u16
     ensures { λ r. ⌜ r ≡ complement 2 x ⌝ }
 {
@@ -87,7 +87,7 @@ pub fn complement_16(x: i16) -> u16
     x as u16
 }
 
-// Returns the 32 bits of a whole number.
+// Returns the two's complement of a whole number, in 32 bits.
 pub fn complement_32(x: i32) -> u32
     ensures { λ r. ⌜ r ≡ complement 4 x ⌝ }
 {

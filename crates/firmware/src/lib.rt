@@ -1,5 +1,5 @@
-// Calls for the board's C firmware, on numbers and byte slices: a frame read whole, a frame written, and the nearest allowed number. Each
-// is the call below it with the answer packed in one integer (specs/Calls.antt), and takes anything.
+// Calls for the board's C firmware, on numbers and byte slices: a frame written, a whole frame parsed, and the nearest allowed number. Each
+// is the call of `wire` or `settings` with the answer packed in one integer (specs/Calls.antt), and takes anything.
 ghost use mathlib.Core.Path.{_≡_};
 ghost use Prim.Native.Nat.{ℕ};
 ghost use lib.ListN.{length};
@@ -11,14 +11,14 @@ use settings::Number;
 use wire::Read;
 use wire::Written;
 
-// A refusal's number is in the high half of the integer, an answer in the low half.
+// A refusal's number is in the high half of the integer, and an answer in the low half.
 const HALF: u32 = 65536;
 
 // A command is above the count of its data bytes.
 const COMMAND: u32 = 256;
 
-// Writes the frame of a command and its data to the front of `out`; the answer is the frame's length. Refuses 11 under 75 bytes of room,
-// then 12 for a nibble over 15 or over 35 data bytes; then nothing is written.
+// Writes the frame of a command and its data to the front of `out`, and returns the frame's length. Refuses 11 under 75 bytes of room, then
+// 12 for a command over 15 or over 35 data bytes; then nothing is written.
 #[no_mangle]
 pub extern "C" fn reedsatchel_write_frame(command: u8, bytes: &[u8], out: &mut [u8]) -> u32
     ensures { λ r. ⌜ Gives ℕ (packed writtenPacked (writing command (now (bytes .entry)) (length (now (out .entry))))) (now (out .entry)) r (now (out .exit)) ⌝ }
@@ -30,8 +30,9 @@ pub extern "C" fn reedsatchel_write_frame(command: u8, bytes: &[u8], out: &mut [
     }
 }
 
-// Reads one whole frame, from its colon to its newline, and puts its data at the front of `into`; the answer is 256 times the command and
-// the count of data bytes. Refuses 11 under 35 bytes of room, then 2 for a slice not so enclosed, then 1 to 4 on the characters between.
+// Reads one whole frame, from its colon to its newline, puts its data at the front of `into`, and returns 256 times the command plus the
+// count of data bytes. Refuses 11 under 35 bytes of room, then 2 for a slice that a colon and a newline do not enclose, then 1 to 4 for the
+// characters between.
 #[no_mangle]
 pub extern "C" fn reedsatchel_read_frame(frame: &[u8], into: &mut [u8]) -> u32
     ensures { λ r. ⌜ Gives ℕ (packed readPacked (parsing (now (frame .entry)) (length (now (into .entry))))) (now (into .entry)) r (now (into .exit)) ⌝ }
@@ -43,8 +44,8 @@ pub extern "C" fn reedsatchel_read_frame(frame: &[u8], into: &mut [u8]) -> u32
     }
 }
 
-// The nearest allowed number for a setting, given its partner's number (unused without a partner). Refuses 7 for an id that is no setting,
-// then 12 for a partner outside its own range.
+// Returns the nearest allowed number for a setting, given its partner's number (unused without a partner). Refuses 7 for an id that is no
+// setting, then 12 for a partner's number outside its own range.
 #[no_mangle]
 pub extern "C" fn reedsatchel_nearest(id: u16, wished: u16, partner: u16) -> u32
     ensures { λ r. ⌜ r ≡ numberPacked (nearing id wished partner) ⌝ }
@@ -56,7 +57,7 @@ pub extern "C" fn reedsatchel_nearest(id: u16, wished: u16, partner: u16) -> u32
     }
 }
 
-// A refusal: its number in the high half.
+// Returns a refusal, with its number in the high half.
 fn refused(number: u8) -> u32
     ensures { λ r. ⌜ r ≡ refusalPacked number ⌝ }
 {

@@ -7,14 +7,15 @@ ghost use Rattle.follow.specs.declared.effect.Effect.{Effect};
 use reply::Heeded;
 use requests::Wanted;
 
-// A Set reply with the due id, flag 00 and the due number confirms; one with the due id and anything else stops; all else waits.
+// What a frame does: a Set reply with the due id, flag 00 and the due number confirms; one with the due id and anything else stops; all
+// else waits.
 pub(crate) enum Effect {
     Confirms,
     Stops,
     Waits,
 }
 
-// Whether a value is the due number in its width.
+// Returns whether a value is the due number in its width.
 fn is_carried(wanted: Wanted, value: &[u8]) -> bool
     requires { ⌜ Narrow wanted ⌝ }
     ensures { λ r. ⌜ r ≡ carries wanted (now (value .entry)) ⌝ }
@@ -25,7 +26,7 @@ fn is_carried(wanted: Wanted, value: &[u8]) -> bool
     endian::read_16(value) == wanted.number
 }
 
-// The value of a good reply to the Set that is due.
+// Returns what the value of a good reply to the due Set does.
 fn on_value(wanted: Wanted, value: &[u8]) -> Effect
     requires { ⌜ Narrow wanted ⌝ }
     ensures { λ r. ⌜ r ≡ cond (carries wanted (now (value .entry))) Effect.Confirms Effect.Stops ⌝ }
@@ -36,7 +37,7 @@ fn on_value(wanted: Wanted, value: &[u8]) -> Effect
     Effect::Stops
 }
 
-// A frame, as an answer to the Set that is due.
+// Returns what a frame does, as an answer to the Set that is due.
 pub(crate) fn on_reply(wanted: Wanted, command: u8, bytes: &[u8]) -> Effect
     requires { ⌜ Narrow wanted ⌝ }
     ensures { λ r. ⌜ r ≡ onReply wanted command (now (bytes .entry)) ⌝ }

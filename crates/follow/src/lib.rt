@@ -19,8 +19,8 @@ pub struct Follower {
     pub stopped: bool,
 }
 
-// How far a restore is: a request is due, a Set; the tables were equal; all Sets are confirmed; it stopped at a Set; or document 01's number of the
-// refusal.
+// How far a restore is: a request is due, always a Set; the tables were equal; all Sets are confirmed; it stopped at a Set; or document
+// 01's number of the refusal.
 pub enum Standing {
     Waiting(Request),
     Equal,
@@ -49,14 +49,14 @@ impl Follower {
         })
     }
 
-    // What is told of a follower, with nothing heard. Refuses 12 for one that no start and events give.
+    // Returns how far a follower is, with nothing heard. Refuses 12 for one that no start and events give.
     pub fn told(self) -> Followed
         ensures { λ r. ⌜ r ≡ told self ⌝ }
     {
         state::told(self)
     }
 
-    // A frame as it was read from the stream: its command and its data. Refuses 12 alike.
+    // Takes a frame of the stream: its command and its data. Refuses 12 for a follower that no start and events give.
     pub fn reply(self, command: u8, bytes: &[u8]) -> Followed
         ensures { λ r. ⌜ r ≡ following self (heard command (now (bytes .entry))) ⌝ }
     {
@@ -66,14 +66,15 @@ impl Follower {
         state::answered(state::hearing(self, command, bytes))
     }
 
-    // A frame that the stream refused: it says nothing of the Set that is due.
+    // Takes a frame that the stream refused: it says nothing of the Set that is due. Refuses 12 for a follower that no start and events
+    // give.
     pub fn refused_frame(self) -> Followed
         ensures { λ r. ⌜ r ≡ following self refusedFrame ⌝ }
     {
         state::told(self)
     }
 
-    // The board gave no answer in time, which stops a follower that waits.
+    // Notes that the board gave no answer in time, which stops a follower that waits. Refuses 12 for one that no start and events give.
     pub fn no_answer(self) -> Followed
         ensures { λ r. ⌜ r ≡ following self noAnswer ⌝ }
     {

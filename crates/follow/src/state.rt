@@ -18,7 +18,7 @@ use requests::Wanted;
 use restore::Due;
 use tables::Table;
 
-// Whether this many Sets can have been confirmed: none, or there is a last one of them.
+// Returns whether this many Sets can have been confirmed: none, or the list has a last one of them.
 fn is_reached(from: Table, to: Table, confirmed: usize) -> bool
     ensures { λ r. ⌜ r ≡ reached from to confirmed ⌝ }
 {
@@ -33,7 +33,7 @@ fn is_reached(from: Table, to: Table, confirmed: usize) -> bool
     }
 }
 
-// Whether a start and events give this follower: more Sets are due, or all are confirmed and it has not stopped.
+// Returns whether a start and events give this follower: more Sets are due, or all are confirmed and it has not stopped.
 pub(crate) fn is_allowed(follower: Follower) -> bool
     ensures { λ r. ⌜ r ≡ followerAllowed follower ⌝ }
 {
@@ -47,7 +47,7 @@ pub(crate) fn is_allowed(follower: Follower) -> bool
     }
 }
 
-// A Set is due, or was when the follower stopped.
+// Returns how far a follower is to whom a Set is due, or was when it stopped.
 fn with_due(stopped: bool, due: Wanted) -> Standing
     ensures { λ r. ⌜ r ≡ cond stopped (Standing.Stopped due) (Standing.Waiting (Request.Set due)) ⌝ }
 {
@@ -57,7 +57,7 @@ fn with_due(stopped: bool, due: Wanted) -> Standing
     Standing::Waiting(Request::Set(due))
 }
 
-// None is due: there was none, or all are confirmed.
+// Returns how far a follower is to whom no Set is due: there never was one, or all are confirmed.
 fn with_none(confirmed: usize) -> Standing
     ensures { λ r. ⌜ r ≡ cond (eqb confirmed 0) Standing.Equal Standing.Done ⌝ }
 {
@@ -67,7 +67,7 @@ fn with_none(confirmed: usize) -> Standing
     Standing::Done
 }
 
-// How far a follower is.
+// Returns how far a follower is.
 fn standing_of(follower: Follower) -> Standing
     ensures { λ r. ⌜ r ≡ standing follower ⌝ }
 {
@@ -79,7 +79,7 @@ fn standing_of(follower: Follower) -> Standing
     }
 }
 
-// A follower of the same two tables, with another count or stopped.
+// Returns a follower of the same two tables, with this count and this stop.
 fn with(follower: Follower, confirmed: usize, stopped: bool) -> Follower
     ensures { λ r. ⌜ r ≡ record { from = follower .from; to = follower .to; confirmed = confirmed; stopped = stopped } ⌝ }
 {
@@ -93,7 +93,7 @@ fn with(follower: Follower, confirmed: usize, stopped: bool) -> Follower
     }
 }
 
-// A follower that waited, after the effect of an event.
+// Returns a follower that waited, after the effect of an event.
 fn moved_by(follower: Follower, effect: Effect) -> Follower
     requires { ⌜ followerAllowed follower ≡ true ⌝ }
     ensures { λ r. ⌜ r ≡ moved follower effect ⌝ }
@@ -105,7 +105,7 @@ fn moved_by(follower: Follower, effect: Effect) -> Follower
     }
 }
 
-// A frame heard while a request is due.
+// Returns a follower after a frame that came while a request was due.
 fn replied(follower: Follower, request: Request, command: u8, bytes: &[u8]) -> Follower
     requires { ⌜ (followerAllowed follower ≡ true) × Sent request ⌝ }
     ensures { λ r. ⌜ r ≡ moved follower (effectOf request (heard command (now (bytes .entry)))) ⌝ }
@@ -116,7 +116,7 @@ fn replied(follower: Follower, request: Request, command: u8, bytes: &[u8]) -> F
     }
 }
 
-// A frame heard: it has its effect on one that waits, and an ended one stays.
+// Returns a follower after a frame. It has its effect on one that waits; an ended one stays as it was.
 pub(crate) fn hearing(follower: Follower, command: u8, bytes: &[u8]) -> Follower
     requires { ⌜ followerAllowed follower ≡ true ⌝ }
     ensures { λ r. ⌜ r ≡ advanced follower (heard command (now (bytes .entry))) ⌝ }
@@ -131,7 +131,7 @@ pub(crate) fn hearing(follower: Follower, command: u8, bytes: &[u8]) -> Follower
     }
 }
 
-// No answer: one that waits stops, an ended one stays.
+// Returns a follower after no answer came. One that waits stops; an ended one stays as it was.
 pub(crate) fn unheard(follower: Follower) -> Follower
     requires { ⌜ followerAllowed follower ≡ true ⌝ }
     ensures { λ r. ⌜ r ≡ advanced follower noAnswer ⌝ }
@@ -146,7 +146,7 @@ pub(crate) fn unheard(follower: Follower) -> Follower
     }
 }
 
-// The answer of a follower that is allowed.
+// Returns the answer of an allowed follower.
 pub(crate) fn answered(follower: Follower) -> Followed
     ensures { λ r. ⌜ r ≡ calls.answered follower ⌝ }
 {
@@ -157,7 +157,7 @@ pub(crate) fn answered(follower: Follower) -> Followed
     }
 }
 
-// 12: the follower as it was, and no count.
+// Refuses a follower by 12: it is as it was, and nothing is counted.
 pub(crate) fn refused(follower: Follower) -> Followed
     ensures { λ r. ⌜ r ≡ calls.unanswered follower ⌝ }
 {
@@ -168,7 +168,7 @@ pub(crate) fn refused(follower: Follower) -> Followed
     }
 }
 
-// The answer of any follower, as it is.
+// Returns the answer of any follower, as it is.
 pub(crate) fn told(follower: Follower) -> Followed
     ensures { λ r. ⌜ r ≡ calls.told follower ⌝ }
 {

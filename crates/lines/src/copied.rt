@@ -1,4 +1,4 @@
-// Characters copied into a line.
+// The one place where characters are copied into a line. It tidies first, so that any line a caller makes up is safe.
 ghost use Prim.Native.Nat.{min};
 ghost use mathlib.Core.Path.{_≡_};
 ghost use Rattle.lines.specs.Lines.{lineOf, textOf, adding};
@@ -12,7 +12,7 @@ fn least(a: usize, b: usize) -> usize
     if a < b { a } else { b }
 }
 
-// Returns a line's own characters alone: whatever the array has past them is 0 afterwards.
+// Returns a line with its own characters alone: whatever the array has past them is 0 afterwards.
 fn tidied(line: Line) -> Line
     ensures { λ r. ⌜ r ≡ lineOf (textOf line) ⌝ }
 {
@@ -23,7 +23,7 @@ fn tidied(line: Line) -> Line
     Line { len, chars }
 }
 
-// Puts after the characters of a tidy line as many of the text as there is room for.
+// Puts as many characters of the text as there is room for after those of a tidy line.
 fn joined(line: Line, text: &[u8]) -> Line
     requires { ⌜ line ≡ lineOf (textOf line) ⌝ }
     ensures { λ r. ⌜ r ≡ adding line (now (text .entry)) ⌝ }

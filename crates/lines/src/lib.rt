@@ -8,10 +8,10 @@ ghost use Rattle.lines.specs.Numbers.{decimal, pointed};
 mod copied;
 mod numbers;
 
-// The most characters of a line; what a text has past them is cut.
+// The most characters of a line. What a text has past them is cut off.
 pub const MOST: usize = 160;
 
-// The characters of a line; 0 past them.
+// The characters of a line, and 0 past them.
 pub struct Line {
     pub len: usize,
     pub chars: [u8; MOST],
@@ -35,14 +35,14 @@ impl Line {
         copied::put(self, text)
     }
 
-    // Returns the line with a number after it, decimal without leading zeros.
+    // Returns the line with a number after it, in decimal digits without leading zeros.
     pub fn put_number(self, n: usize) -> Line
         ensures { λ r. ⌜ r ≡ adding self (decimal n) ⌝ }
     {
         numbers::put_digits(self, n, numbers::MOST_DIGITS - 1)
     }
 
-    // Returns the line with a whole number of steps after it, in the unit: 0 to 3 decimals, and more are taken for 3.
+    // Returns the line with a whole number of steps after it, in the unit that the steps divide: 0 to 3 decimals, and more count as 3.
     pub fn put_pointed(self, n: usize, decimals: u8) -> Line
         ensures { λ r. ⌜ r ≡ adding self (pointed n decimals) ⌝ }
     {

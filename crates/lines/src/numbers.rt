@@ -5,7 +5,7 @@ ghost use Rattle.lines.specs.Lines.{adding};
 ghost use Rattle.lines.specs.Numbers.{lastDigit, decimalFrom, steps, fraction};
 use crate::Line;
 
-// No number here has more decimal digits.
+// The most decimal digits that a number of 64 bits has.
 pub(crate) const MOST_DIGITS: usize = 20;
 
 // Returns the line with the last decimal digit of a number after it.
@@ -28,7 +28,7 @@ pub(crate) fn put_digits(line: Line, n: usize, more: usize) -> Line
     put_digit(put_digits(line, n / 10, more - 1), n)
 }
 
-// Returns how many steps a unit has.
+// Returns how many steps a unit of this many decimals has.
 pub(crate) fn steps_of(decimals: u8) -> usize
     ensures { λ r. ⌜ r ≡ steps decimals ⌝ }
 {
@@ -44,7 +44,7 @@ pub(crate) fn steps_of(decimals: u8) -> usize
     1000
 }
 
-// Returns the line with the point and the digits after it, of a unit that has decimals.
+// Returns the line with a point after it and the digits after the point, of a unit that has decimals.
 pub(crate) fn put_fraction(line: Line, n: usize, decimals: u8) -> Line
     requires { ⌜ decimals ≢ 0 ⌝ }
     ensures { λ r. ⌜ r ≡ adding line (fraction decimals n) ⌝ }

@@ -1,4 +1,4 @@
-// What a call on the stream tells the box.
+// What the stream's answer tells the box, and when the box waits no longer.
 ghost use mathlib.Core.Path.{_≡_};
 ghost use Rattle.listen.specs.Calls as calls;
 ghost use Rattle.listen.specs.AsHeard as asHeard;
@@ -10,7 +10,7 @@ use crate::numbers;
 use stream::Event;
 use stream::Heard;
 
-// The number of a refusal: the listener as it was, and nothing taken.
+// Refuses a call: the listener is as it was, and nothing is taken.
 pub(crate) fn refused(listener: Listener, number: u8) -> Listened
     ensures { λ r. ⌜ r ≡ calls.refusing listener number ⌝ }
 {
@@ -21,7 +21,7 @@ pub(crate) fn refused(listener: Listener, number: u8) -> Listened
     }
 }
 
-// A read that gave nothing: whether the box waits on.
+// Returns whether the box waits on after a read that gave nothing.
 fn after_silence(quiet: usize) -> Told
     ensures { λ r. ⌜ r ≡ calls.afterSilence quiet ⌝ }
 {
@@ -31,7 +31,7 @@ fn after_silence(quiet: usize) -> Told
     Told::Nothing
 }
 
-// Bytes that ended no frame: whether the box waits on.
+// Returns whether the box waits on after bytes that ended no frame.
 fn after_noise(noise: usize) -> Told
     ensures { λ r. ⌜ r ≡ calls.afterNoise noise ⌝ }
 {
@@ -41,7 +41,7 @@ fn after_noise(noise: usize) -> Told
     Told::Nothing
 }
 
-// What the stream's event tells.
+// Returns what the stream's event tells.
 fn told_by(noise: usize, event: Event) -> Told
     ensures { λ r. ⌜ r ≡ calls.toldBy noise event ⌝ }
 {
@@ -52,7 +52,7 @@ fn told_by(noise: usize, event: Event) -> Told
     }
 }
 
-// A read that gave nothing.
+// Counts a read that gave nothing, and tells whether the box waits on.
 fn silent(listener: Listener) -> Listened
     ensures { λ r. ⌜ r ≡ calls.silent listener ⌝ }
 {
@@ -69,7 +69,7 @@ fn silent(listener: Listener) -> Listened
     }
 }
 
-// A read that gave bytes, and what the stream made of them.
+// Counts the bytes of a read, and tells what the stream made of them.
 fn reported(listener: Listener, heard: Heard) -> Listened
     ensures { λ r. ⌜ r ≡ calls.reported listener heard ⌝ }
 {
@@ -87,7 +87,7 @@ fn reported(listener: Listener, heard: Heard) -> Listened
     }
 }
 
-// No frame ended: there were no bytes, or they were noise.
+// Tells that no frame ended: there were no bytes, or they count as noise.
 fn unended(listener: Listener, count: usize, heard: Heard) -> Listened
     ensures { λ r. ⌜ r ≡ asHeard.unended listener count heard ⌝ }
 {
@@ -97,7 +97,7 @@ fn unended(listener: Listener, count: usize, heard: Heard) -> Listened
     reported(listener, heard)
 }
 
-// A refusal: the call's, or a frame's.
+// Tells a refusal: the call's own, or a frame's.
 fn unsound(listener: Listener, number: u8, heard: Heard) -> Listened
     ensures { λ r. ⌜ r ≡ asHeard.unsound listener number heard ⌝ }
 {
@@ -107,7 +107,7 @@ fn unsound(listener: Listener, number: u8, heard: Heard) -> Listened
     reported(listener, heard)
 }
 
-// What the stream's answer to this many bytes comes to.
+// Tells what the stream's answer to this many bytes comes to.
 pub(crate) fn settled(listener: Listener, count: usize, heard: Heard) -> Listened
     ensures { λ r. ⌜ r ≡ asHeard.settled listener count heard ⌝ }
 {

@@ -1,18 +1,18 @@
-// The two counts of the box's patience.
+// The two counts of the box's patience: neither goes past its end, so none can overflow.
 ghost use mathlib.Core.Path.{_≡_};
 ghost use mathlib.Core.Bool.{_&&_};
 ghost use lib.Dec.{leb};
 ghost use Rattle.listen.specs.Calls.{mostQuiet, mostNoise, quieter, louder};
 use crate::numbers;
 
-// Whether both counts are within their ends.
+// Returns whether both counts are within their ends.
 pub(crate) fn are_within(quiet: usize, noise: usize) -> bool
     ensures { λ r. ⌜ r ≡ (leb quiet mostQuiet && leb noise mostNoise) ⌝ }
 {
     (quiet <= numbers::MOST_QUIET) & (noise <= numbers::MOST_NOISE)
 }
 
-// One more read that gave nothing.
+// Returns the count after one more read that gave nothing.
 pub(crate) fn quieter(quiet: usize) -> usize
     ensures { λ r. ⌜ r ≡ quieter quiet ⌝ }
 {
@@ -22,7 +22,7 @@ pub(crate) fn quieter(quiet: usize) -> usize
     quiet + 1
 }
 
-// This many more bytes heard.
+// Returns the count after this many more bytes.
 pub(crate) fn louder(noise: usize, taken: usize) -> usize
     ensures { λ r. ⌜ r ≡ louder noise taken ⌝ }
 {

@@ -1,6 +1,5 @@
-// The box's ear: the stream from a board, merged with the patience of a box that waits for an answer. A read of the serial line gives
-// bytes, or nothing after a second of silence. Every call takes anything, and its promise fixes its answer and every lent byte
-// (specs/Calls.antt).
+// The stream from a board, together with the patience of a box that waits for an answer. A read of the serial line gives bytes, or nothing
+// after a second of silence. Every call takes anything, and its promise fixes its answer and every lent byte (specs/Calls.antt).
 ghost use mathlib.Core.Path.{_≡_};
 ghost use lib.ListN.{length};
 ghost use Rattle.laws.specs.Promise.{Gives};
@@ -20,7 +19,7 @@ pub struct Listener {
 }
 
 // What a read tells: to wait on; a frame, its data at the front of the lent buffer; a frame that document 01 refuses, 1 to 4; that the
-// board gave no answer; or the number under which the call itself is refused, 11 or 12.
+// board gave no answer; or the number of the refusal of the call itself, 11 or 12.
 pub enum Told {
     Nothing,
     Frame { command: u8, len: usize },
@@ -37,7 +36,7 @@ pub struct Listened {
 }
 
 impl Listener {
-    // Outside a frame, with nothing counted.
+    // Returns a listener outside a frame, with nothing counted.
     pub fn start() -> Listener
         ensures { λ r. ⌜ r ≡ starting ⌝ }
     {
@@ -49,7 +48,7 @@ impl Listener {
         }
     }
 
-    // A request was sent: both counts begin anew. The unfinished frame stays, since its bytes are on their way.
+    // Notes that a request was sent: both counts begin anew. The unfinished frame stays, since the rest of it is on its way.
     pub fn asked(mut self) -> Listener
         ensures { λ r. ⌜ r ≡ asking self ⌝ }
     {
@@ -58,8 +57,8 @@ impl Listener {
         self
     }
 
-    // The bytes of one read, or what an earlier call did not take of them; none if the read gave none. Refuses 11 under 35 bytes of room,
-    // then 12 for a held frame that no bytes leave or a count past its end.
+    // Takes the bytes of one read, or what an earlier call did not take of them; none if the read gave none. Refuses 11 under 35 bytes of
+    // room, then 12 for an unfinished frame that no bytes leave or a count past its end.
     pub fn read(self, piece: &[u8], into: &mut [u8]) -> Listened
         ensures { λ r. ⌜ Gives Listened (listening self (now (piece .entry)) (length (now (into .entry)))) (now (into .entry)) r (now (into .exit)) ⌝ }
     {

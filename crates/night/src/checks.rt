@@ -1,4 +1,4 @@
-// `night check FILE`, and what is wrong in a file.
+// `night check FILE`, and the words for what is wrong in a file.
 use crate::file;
 use crate::words;
 use backup::Checked;
@@ -17,7 +17,7 @@ pub(crate) fn run() {
     tell(libc::STDOUT_FILENO, verdict);
 }
 
-// What the verdict on a text is, and why.
+// Says the verdict on a text, and the reason for a refusal.
 pub(crate) fn tell(report: i32, verdict: Checked) {
     words::add(report, sentences::checked(verdict));
     match verdict {
@@ -29,7 +29,7 @@ pub(crate) fn tell(report: i32, verdict: Checked) {
     words::end(report);
 }
 
-// Why a text is refused.
+// Puts the reason for a refusal.
 fn put_why(line: Line, number: u8) -> Line {
     match number {
         13 => line.put(b"the first line is not settings, a tab and ")

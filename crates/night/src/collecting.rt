@@ -1,4 +1,4 @@
-// The collector in a talk: a board's settings read by Gets, one after the other.
+// The collector in a talk: a board's settings asked for by Gets, one after the other.
 use crate::names;
 use crate::serial::Ends;
 use crate::talk;
@@ -11,7 +11,7 @@ use lines::Line;
 use listen::Told;
 use requests::Request;
 
-// The setting that the collector asks for.
+// Returns the request that the collector waits for, or nothing where it has ended.
 pub(crate) fn due(collected: Collected) -> Turn {
     let stage = collected.stage;
     match stage {
@@ -22,17 +22,18 @@ pub(crate) fn due(collected: Collected) -> Turn {
     }
 }
 
+// Returns how many settings were answered.
 pub(crate) fn answered(collected: Collected) -> usize {
     collected.answered
 }
 
-// A frame, of which the data are the front of a buffer.
+// Hands a frame to the collector. Its data are the front of a buffer.
 fn framed(collector: Collector, command: u8, data: &[u8], len: usize) -> Collected {
     let n = words::front(len, data);
     collector.reply(command, &data[..n])
 }
 
-// What was told, as the collector hears it.
+// Hands what was told to the collector.
 pub(crate) fn told_to(collected: Collected, told: Told, data: &[u8]) -> Collected {
     let collector = collected.collector;
     match told {
@@ -54,13 +55,13 @@ pub(crate) fn show(report: i32, before: Collected, after: Collected) {
     }
 }
 
-// Reads all settings of the board; each is shown as it comes, where that is wished.
+// Reads all settings of the board, and shows each as it comes where that is wished.
 pub(crate) fn settings_of(ends: Ends, shown: bool) -> Collected {
     let read = talk::whole(ends, talk::collecting(), shown);
     read.collected
 }
 
-// Says how far the reading has come, in the collector's own words, and where it stopped.
+// Says how many settings were read, in the collector's own words, and at which it stopped.
 pub(crate) fn tell_end(report: i32, collected: Collected) {
     let collector = collected.collector;
     let stage = collected.stage;

@@ -1,8 +1,8 @@
-// What comes in on a line, byte by byte, until the listener tells something.
+// The serial line read byte by byte, until the listener tells something.
 use listen::Listener;
 use listen::Told;
 
-// The listener's patience ends after some thousand bytes and reads: there are never this many turns.
+// The listener's patience ends after some thousand bytes and reads, so there are never this many turns.
 const MOST_TURNS: u32 = 1000000;
 
 // What was told, and the data of the frame, if it was one.
@@ -12,7 +12,7 @@ pub(crate) struct News {
     pub(crate) data: [u8; paper::MOST_DATA],
 }
 
-// One read of one byte, so that nothing is ever left over. A read that gives nothing is a second of silence, or the end.
+// Reads one byte, so that nothing is ever left over. A read that gives nothing is a second of silence, or the end of the input.
 fn once(input: i32, listener: Listener) -> News {
     let mut byte = [0u8; 1];
     let got = libc::read(input, &mut byte);
@@ -28,7 +28,7 @@ fn once(input: i32, listener: Listener) -> News {
     }
 }
 
-// Whether the box waits on.
+// Returns whether the box waits on.
 fn is_nothing(news: News) -> bool {
     let told = news.told;
     match told {
@@ -52,7 +52,7 @@ pub(crate) fn next(input: i32, listener: Listener) -> News {
     news
 }
 
-// The front of a frame's data.
+// Returns how many data bytes a frame has, and 0 for anything else.
 pub(crate) fn len_of(told: Told) -> usize {
     match told {
         Told::Nothing => 0,

@@ -1,4 +1,4 @@
-// Files: a backup text read, and one kept.
+// Backup files: a text read, and a text kept so that a failure or a power cut leaves the old file or the new one, and nothing between.
 ghost use Rattle.io.specs.Counts.{Counts};
 use crate::words;
 use backup::Backup;
@@ -7,10 +7,10 @@ use sentences::Kept;
 use tables::Table;
 use wire::Written;
 
-// What a temporary file's name has after the file's own.
+// How long the mark is that a temporary file's name has after the file's own.
 const MARK: usize = 7;
 
-// Owner and others read, the owner writes.
+// The mode of a kept file: owner and others read, the owner writes.
 const MODE: u32 = 0o644;
 
 // A text, and whether there was a file to read it from.
@@ -19,7 +19,7 @@ pub(crate) struct Text {
     pub(crate) backup: Backup,
 }
 
-// Whether a file was read to its end, or as far as there was room: at the end a read gives nothing, and does not fail.
+// Returns whether a file was read to its end, or as far as there was room: at the end a read gives nothing, and does not fail.
 pub(crate) fn is_read(fd: i32, len: usize, room: usize) -> bool {
     if len == room {
         return true;
@@ -28,7 +28,7 @@ pub(crate) fn is_read(fd: i32, len: usize, room: usize) -> bool {
     libc::read(fd, &mut byte) == 0
 }
 
-// The text of an open file. One that fills the buffer is longer than any that is good, and is refused for it.
+// Reads the text of an open file. One that fills the buffer is longer than any good text, and is refused for that.
 fn text_of(fd: i32) -> Text {
     let mut text = io::buffer();
     let len = io::read_full(fd, &mut text);
@@ -38,7 +38,7 @@ fn text_of(fd: i32) -> Text {
     }
 }
 
-// Reads a backup text; where there is none to read, it says so.
+// Reads a backup text. Where the file cannot be opened or read, it says so.
 pub(crate) fn read(path: &[u8]) -> Text {
     let fd = os::open_read(path);
     if fd < 0 {
@@ -57,7 +57,7 @@ pub(crate) fn read(path: &[u8]) -> Text {
     text
 }
 
-// Whether a text is good.
+// Returns whether a text is good.
 pub(crate) fn is_good(verdict: Checked) -> bool {
     match verdict {
         Checked::Accepted => true,
@@ -65,7 +65,7 @@ pub(crate) fn is_good(verdict: Checked) -> bool {
     }
 }
 
-// Copies a path and the mark of a temporary name after it; their length together, or 0 where there is no room.
+// Copies a path and the mark of a temporary name after it, and returns their length together, or 0 where there is no room.
 fn temporary(path: &[u8], name: &mut [u8]) -> usize {
     if name.len() < MARK {
         return 0;
@@ -78,7 +78,7 @@ fn temporary(path: &[u8], name: &mut [u8]) -> usize {
     path.len() + MARK
 }
 
-// Writes a text to a new file and sees that it is on the disk.
+// Writes a text to a new file and makes sure that it is on the disk; false where any of that failed.
 fn write(fd: i32, text: &[u8]) -> bool {
     if !io::write_all(fd, text) {
         return false;
@@ -89,7 +89,7 @@ fn write(fd: i32, text: &[u8]) -> bool {
     0 <= libc::fsync(fd)
 }
 
-// How much of a path names its folder: up to its last slash, or nothing.
+// Returns how much of a path names its folder: up to its last slash, or nothing.
 fn folder_of(path: &[u8]) -> usize
     ensures { λ r. ⌜ Counts r (now (path .entry)) ⌝ }
 {
@@ -100,7 +100,7 @@ fn folder_of(path: &[u8]) -> usize
     words::front(len, path)
 }
 
-// Sees that the names in a folder are on the disk.
+// Makes sure that the names in a folder are on the disk; false where that failed.
 fn sync_folder(path: &[u8]) -> bool {
     let fd = os::open_read(path);
     if fd < 0 {
@@ -111,7 +111,7 @@ fn sync_folder(path: &[u8]) -> bool {
     synced
 }
 
-// The same for the folder that a file is in.
+// Makes sure of the names in the folder that a file is in.
 fn sync_around(path: &[u8]) -> bool {
     let len = folder_of(path);
     if len == 0 {
@@ -120,7 +120,7 @@ fn sync_around(path: &[u8]) -> bool {
     sync_folder(&path[..len])
 }
 
-// A file that has its new name: it is kept for good once its folder is on the disk.
+// Returns what became of a file that has its new name: it is kept for good once its folder is on the disk.
 fn renamed(path: &[u8]) -> Kept {
     if sync_around(path) {
         return Kept::Whole;
@@ -129,7 +129,7 @@ fn renamed(path: &[u8]) -> Kept {
     Kept::Unsure
 }
 
-// Writes a text to a temporary file beside `path`, and only when it is whole gives it that name: what had it stays till then.
+// Writes a text to a temporary file beside `path`, and gives it that name only when it is whole. Until then the old file has the name.
 fn replace(path: &[u8], text: &[u8]) -> Kept {
     let mut name = io::buffer();
     let len = temporary(path, &mut name);
@@ -137,7 +137,7 @@ fn replace(path: &[u8], text: &[u8]) -> Kept {
     replace_by(&mut name[..n], path, text)
 }
 
-// The same, with the name of the temporary file to be.
+// Writes a text in the same way, with the pattern of the temporary file's name.
 fn replace_by(name: &mut [u8], path: &[u8], text: &[u8]) -> Kept {
     let fd = os::create_temp(name);
     if fd < 0 {
@@ -164,7 +164,7 @@ pub(crate) fn keep(path: &[u8], table: Table) -> Kept {
     }
 }
 
-// The front of a buffer as a file.
+// Keeps the front of a buffer as a file.
 fn replace_front(path: &[u8], text: &[u8], len: usize) -> Kept {
     let n = words::front(len, text);
     replace(path, &text[..n])

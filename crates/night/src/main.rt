@@ -1,16 +1,16 @@
 // The night box: reads a board's settings into a file, checks such a file, and puts it back on the board. What it decides, counts and writes
-// is the work of proved libraries; here bytes are moved between the line, the files and the report.
+// is the work of proved libraries; here bytes are moved between the serial line, the files and the report.
 //
 //     night save LINE FILE      reads all settings and writes FILE once all were answered
 //     night check FILE          says whether FILE is good, or what is wrong in it and where
 //     night restore LINE FILE   puts FILE back, one Set at a time, and says done only for what the board confirmed
-//     night show LINE           who the board is, and its five readings
+//     night show LINE           shows who the board is, and its five readings
 //     night yard LIST           restores each trailer of LIST in turn
-//     night lines LIST          the name and the line of each trailer of LIST, for a script that sets the lines
+//     night lines LIST          prints the name and the serial line of each trailer of LIST, for a script that sets the serial lines
 //
-// A row of LIST has a name, a line and a file, blanks or tabs between; an empty row and one that begins with # are passed over.
+// A row of LIST has a name, a serial line and a file, blanks or tabs between; an empty row and one that begins with # are skipped.
 //
-// LINE is a device, or - for standard input and output; the report then goes to standard error.
+// LINE is a serial device, or - for standard input and output; the report then goes to standard error.
 mod checks;
 mod collecting;
 mod ear;

@@ -52,7 +52,7 @@ const UNITS: [Unit; COUNT] = [
     Unit::Plain, // EEFE
 ];
 
-// Behind the point.
+// How many digits a number has after the point.
 const DECIMALS: [u8; COUNT] = [
     1, // 0320
     1, // 0321
@@ -82,20 +82,20 @@ const DECIMALS: [u8; COUNT] = [
     0, // EEFE
 ];
 
-// All names, each as wide as the column.
+// Returns all names, each as wide as the column.
 fn all() -> [u8; ALL]
     ensures { λ r. ⌜ 572 ≡ length r ⌝ }
 {
     *b"low voltage alarm     low voltage clear     high voltage alarm    high voltage clear    low SOC alarm         low SOC clear         low temperature alarm low temperature clear high temperature alarmhigh temperature clearbacklight always on   battery capacity      charged voltage       tail current          detection time        charge efficiency     Peukert coefficient   current threshold     time-to-go delta      discharge floor       discharge floor clear scroll speed          temperature unit      shunt amps            alarm buzzer          backlight intensity   "
 }
 
-// A byte in two hex digits.
+// Puts a byte in two hex digits.
 pub(crate) fn put_byte(line: Line, byte: u8) -> Line {
     let pair = wire::pair_of(byte);
     line.put(&[pair.high, pair.low])
 }
 
-// The id of the setting at a place.
+// Puts the id of the setting at a place.
 fn put_id(line: Line, index: usize) -> Line {
     let found = settings::at(index);
     match found {
@@ -107,7 +107,7 @@ fn put_id(line: Line, index: usize) -> Line {
     }
 }
 
-// The name of the setting at a place, as wide as the column or without the blanks at its end.
+// Puts the name of the setting at a place, as wide as the column or without the blanks at its end.
 fn put_name(line: Line, index: usize, wide: bool) -> Line {
     if COUNT <= index {
         return line;
@@ -118,6 +118,7 @@ fn put_name(line: Line, index: usize, wide: bool) -> Line {
     put_cell(line, &all[from..to], wide)
 }
 
+// Puts a name, with or without the blanks at its end.
 fn put_cell(line: Line, cell: &[u8], wide: bool) -> Line {
     if wide {
         return line.put(cell);
@@ -126,7 +127,7 @@ fn put_cell(line: Line, cell: &[u8], wide: bool) -> Line {
     line.put(&cell[..len])
 }
 
-// A unit after its number.
+// Puts a unit after its number.
 fn put_unit(line: Line, unit: Unit) -> Line {
     match unit {
         Unit::Plain => line,
@@ -139,7 +140,7 @@ fn put_unit(line: Line, unit: Unit) -> Line {
     }
 }
 
-// `12.0 V`: a number of steps in the setting's unit.
+// Puts a number of steps in the setting's unit: `12.0 V`.
 pub(crate) fn put_amount(line: Line, index: usize, number: u16) -> Line {
     if COUNT <= index {
         return line;
@@ -148,12 +149,12 @@ pub(crate) fn put_amount(line: Line, index: usize, number: u16) -> Line {
     put_unit(counted, UNITS[index])
 }
 
-// `0320 low voltage alarm`
+// Puts an id and a name: `0320 low voltage alarm`.
 pub(crate) fn put_title(line: Line, index: usize) -> Line {
     put_name(put_id(line, index).put(b" "), index, false)
 }
 
-// `0320 low voltage alarm      12.0 V`, the numbers in a column.
+// Puts an id, a name and a number, the numbers in a column: `0320 low voltage alarm      12.0 V`.
 pub(crate) fn put_row(line: Line, index: usize, number: u16) -> Line {
     let named = put_name(put_id(line, index).put(b" "), index, true);
     put_amount(named.put(b" "), index, number)

@@ -9,7 +9,7 @@ use crate::words;
 use collect::Stage;
 use tables::Table;
 
-// Opens the line first: where the two words are swapped, the device is not read as a file.
+// Opens the serial line first: where the two arguments are swapped, the device is not read as a file.
 pub(crate) fn run() {
     let ends = serial::first();
     if !ends.open {
@@ -19,7 +19,7 @@ pub(crate) fn run() {
     serial::close(ends);
 }
 
-// Reads the file, reads the board, shows the list, sends it and follows it.
+// Reads the file and, if it is good, restores it.
 fn put_back(ends: Ends) {
     let mut path = io::buffer();
     let len = os::arg(words::SECOND, &mut path);
@@ -38,7 +38,7 @@ fn put_back(ends: Ends) {
     }
 }
 
-// Reads the board, and goes on if all its settings were answered.
+// Reads the board's settings, and goes on if all were answered.
 fn restore(ends: Ends, to: Table) {
     words::say(ends.report, b"reading the board");
     let collected = collecting::settings_of(ends, false);

@@ -17,7 +17,7 @@ use requests::Wanted;
 use restore::Due;
 use tables::Table;
 
-// The request that is due.
+// Returns the request that is due, or nothing where the follower has ended.
 pub(crate) fn due(followed: Followed) -> Turn {
     let standing = followed.standing;
     match standing {
@@ -29,17 +29,18 @@ pub(crate) fn due(followed: Followed) -> Turn {
     }
 }
 
+// Returns how many Sets the board has confirmed.
 pub(crate) fn answered(followed: Followed) -> usize {
     followed.confirmed
 }
 
-// A frame, of which the data are the front of a buffer.
+// Hands a frame to the follower. Its data are the front of a buffer.
 fn framed(follower: Follower, command: u8, data: &[u8], len: usize) -> Followed {
     let n = words::front(len, data);
     follower.reply(command, &data[..n])
 }
 
-// What was told, as the follower hears it.
+// Hands what was told to the follower.
 pub(crate) fn told_to(followed: Followed, told: Told, data: &[u8]) -> Followed {
     let follower = followed.follower;
     match told {
@@ -51,7 +52,7 @@ pub(crate) fn told_to(followed: Followed, told: Told, data: &[u8]) -> Followed {
     }
 }
 
-// Shows the Set that was just confirmed, and by the follower's own count how many are.
+// Shows the Set that was just confirmed and, by the follower's own count, how many are.
 pub(crate) fn show(report: i32, before: Followed, after: Followed) {
     let standing = before.standing;
     let follower = after.follower;
@@ -69,7 +70,7 @@ pub(crate) fn show(report: i32, before: Followed, after: Followed) {
     );
 }
 
-// Shows one Set of the list, with the number now held.
+// Shows one Set of the list, with the number that the board holds now.
 fn plan(report: i32, from: Table, wanted: Wanted) {
     let setting = wanted.setting;
     let numbers = from.numbers;
@@ -101,12 +102,12 @@ pub(crate) fn show_list(report: i32, from: Table, to: Table) {
     }
 }
 
-// Turns the board's table `from` into `to`; what is confirmed is shown, where that is wished.
+// Turns the board's table `from` into `to`, and shows what is confirmed where that is wished.
 pub(crate) fn follow(ends: Ends, from: Table, to: Table, shown: bool) -> Talk {
     talk::whole(ends, talk::restoring(from, to), shown)
 }
 
-// Says how a restore ended, in the follower's own words: done only where it says so. Where it stopped, what the board said is told besides.
+// Says how a restore ended, in the follower's own words: done only where it says so. Where it stopped, it adds what the board said.
 pub(crate) fn tell_end(report: i32, restored: Talk) {
     let followed = restored.followed;
     let follower = followed.follower;
@@ -119,7 +120,7 @@ pub(crate) fn tell_end(report: i32, restored: Talk) {
     words::end(report);
 }
 
-// What the board said, which is the front of a buffer.
+// Says at which Set a restore stopped, and what the board said, which is the front of a buffer.
 fn tell_stop(report: i32, wanted: Wanted, data: [u8; paper::MOST_DATA], len: usize) {
     let n = words::front(len, &data);
     words::add(report, said::put_stop(Line::start(), wanted, &data[..n]));

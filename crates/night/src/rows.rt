@@ -1,5 +1,5 @@
-// The list of a yard: a row for each trailer with its name, its line and its file, blanks or tabs between. A file's name may have blanks. An
-// empty row and one that begins with # are passed over.
+// The list of a yard: a row for each trailer with its name, its serial line and its file, blanks or tabs between. A file's name may have
+// blanks. An empty row and one that begins with # are skipped.
 ghost use Prim.Native.Nat.{_≤_};
 ghost use lib.ListN.{length};
 use crate::file;
@@ -7,7 +7,7 @@ use crate::words;
 
 const OUT: i32 = libc::STDOUT_FILENO;
 
-// What became of a list that was to be read: all of it is there, it cannot be read, or it has more bytes than there is room for.
+// What became of a list: all of it is there, it cannot be read, or it has more bytes than there is room for.
 pub(crate) enum State {
     Whole,
     Unread,
@@ -20,7 +20,7 @@ pub(crate) struct List {
     pub(crate) len: usize,
 }
 
-// Reads the list of the first word into a buffer.
+// Reads the list that the first argument names into a buffer.
 pub(crate) fn read(into: &mut [u8]) -> List {
     let mut path = io::buffer();
     let len = os::arg(words::FIRST, &mut path);
@@ -44,11 +44,12 @@ pub(crate) fn read(into: &mut [u8]) -> List {
     }
 }
 
+// Returns a list of which nothing is used.
 fn nothing(state: State) -> List {
     List { state, len: 0 }
 }
 
-// Whether two rows have one line; the first such line is told.
+// Returns whether two rows have the same serial line, and tells the first such one.
 pub(crate) fn is_doubled(list: &[u8]) -> bool {
     let mut at = 0;
     while at < list.len() {
@@ -61,7 +62,7 @@ pub(crate) fn is_doubled(list: &[u8]) -> bool {
     false
 }
 
-// Whether an earlier row has this row's line, which is told.
+// Returns whether an earlier row has this row's serial line, and tells which.
 fn is_again(before: &[u8], row: &[u8]) -> bool {
     let path = line_of(row);
     let end = next(row, path, true);
@@ -76,7 +77,7 @@ fn is_again(before: &[u8], row: &[u8]) -> bool {
     true
 }
 
-// Whether a row has this line.
+// Returns whether a row of the list has this serial line.
 fn is_in(list: &[u8], line: &[u8]) -> bool {
     let mut at = 0;
     while at < list.len() {
@@ -89,14 +90,14 @@ fn is_in(list: &[u8], line: &[u8]) -> bool {
     false
 }
 
-// Whether this is the row's line.
+// Returns whether this is the row's serial line.
 fn has_line(row: &[u8], line: &[u8]) -> bool {
     let path = line_of(row);
     let end = next(row, path, true);
     check::same(&row[path..end], line)
 }
 
-// Where the line of a row begins: at its end for one that has none or no file, and for one that is passed over.
+// Returns where the serial line of a row begins: at the row's end for one that has none or no file, and for one that is skipped.
 fn line_of(row: &[u8]) -> usize
     ensures { λ r. ⌜ r ≤ length (now (row .entry)) ⌝ }
 {
@@ -112,7 +113,7 @@ fn line_of(row: &[u8]) -> usize
     path
 }
 
-// The first place from `from` on that is no blank, or that is one, as wished; or the end.
+// Returns the first place from `from` on that is a blank, or that is none, as wished; or the end.
 pub(crate) fn next(row: &[u8], from: usize, blank: bool) -> usize
     requires { ⌜ from ≤ length (now row) ⌝ }
     ensures { λ r. ⌜ (from ≤ r) × (r ≤ length (now (row .entry))) ⌝ }
@@ -127,8 +128,8 @@ pub(crate) fn next(row: &[u8], from: usize, blank: bool) -> usize
     at
 }
 
-// `night lines LIST`: the name and the line of each trailer, so that a script that sets the lines need not read the list itself. Of a list
-// that cannot be read there are none; `night yard` tells why.
+// Tells the name and the serial line of each trailer (`night lines LIST`), so that a script that sets the serial lines need not read the
+// list itself. Of a list that cannot be read it tells none; `night yard` tells why.
 pub(crate) fn tell_lines() {
     let mut list = io::large_buffer();
     let read = read(&mut list);
@@ -136,6 +137,7 @@ pub(crate) fn tell_lines() {
     tell_all(&list[..n]);
 }
 
+// Tells the name and the serial line of each row.
 fn tell_all(list: &[u8]) {
     let mut at = 0;
     while at < list.len() {
@@ -145,7 +147,7 @@ fn tell_all(list: &[u8]) {
     }
 }
 
-// The name and the line of a row that has both and a file.
+// Tells the name and the serial line of a row that has both and a file.
 fn tell_line(row: &[u8]) {
     let path = line_of(row);
     if path == row.len() {

@@ -3,7 +3,7 @@ use crate::names;
 use lines::Line;
 use requests::Wanted;
 
-// Puts what the number is that comes with a flag.
+// Puts what the number is that comes with a flag: the nearest allowed one, or any.
 fn put_word(line: Line, flag: u8) -> Line {
     if flag == paper::PARAMETER_FLAG {
         return line.put(b", nearest ");
@@ -20,7 +20,8 @@ fn put_number(line: Line, index: usize, value: &[u8]) -> Line {
     line
 }
 
-// The value that comes with a flag: its number where it has the setting's own width, else how wide it is, and nothing where there is none.
+// Puts the value that comes with a flag: its number where it has the setting's own width, else how wide it is, and nothing where there is
+// none.
 fn put_value(line: Line, index: usize, width: usize, flag: u8, value: &[u8]) -> Line {
     if value.len() == 0 {
         return line;
@@ -31,7 +32,7 @@ fn put_value(line: Line, index: usize, width: usize, flag: u8, value: &[u8]) -> 
     line.put(b", a value of width ").put_number(value.len())
 }
 
-// The flag of the reply, and its value; there is no reply under three bytes.
+// Puts the flag of the reply, and its value. Under three bytes there is no reply.
 fn put_said(line: Line, index: usize, width: usize, said: &[u8]) -> Line {
     if said.len() < paper::FRONT {
         return line.put(b"no answer");
@@ -41,7 +42,7 @@ fn put_said(line: Line, index: usize, width: usize, said: &[u8]) -> Line {
     put_value(told, index, width, flag, &said[paper::FRONT..])
 }
 
-// `; at 1000 battery capacity: board said flag 04, nearest 1 Ah`
+// Puts where a restore stopped and why: `; at 1000 battery capacity: board said flag 04, nearest 1 Ah`.
 pub(crate) fn put_stop(line: Line, wanted: Wanted, said: &[u8]) -> Line {
     let setting = wanted.setting;
     let title = names::put_title(line.put(b"; at "), setting.index);

@@ -21,7 +21,7 @@ pub(crate) fn run() {
     kept(ends.report, collected);
 }
 
-// Without a line nothing was read.
+// Says that nothing is saved, since without a serial line nothing was read.
 fn unsaved(report: i32) {
     let collected = Collector::start();
     tell(report, collected, Kept::Not, b"");
@@ -43,7 +43,8 @@ fn kept(report: i32, collected: Collected) {
     }
 }
 
-// Whether the settings are saved, which the collector and what became of the file decide together; then the file's name, if it was written.
+// Says whether the settings are saved, which the collector and what became of the file decide together; then the file's name, if it was
+// written.
 fn tell(report: i32, collected: Collected, kept: Kept, path: &[u8]) {
     let collector = collected.collector;
     words::add(report, sentences::saved(collector, kept));
@@ -55,7 +56,7 @@ fn tell(report: i32, collected: Collected, kept: Kept, path: &[u8]) {
     words::end(report);
 }
 
-// The file's name, after a word.
+// Adds the file's name, after a word.
 fn named(report: i32, word: &[u8], path: &[u8]) {
     io::write_all(report, word);
     io::write_all(report, path);

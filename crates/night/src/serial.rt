@@ -10,12 +10,12 @@ pub(crate) struct Ends {
     pub(crate) report: i32,
 }
 
-// Whether what was opened has a place to stand at, as a file has and a serial line has not.
+// Returns whether what was opened is a file: it has a position, and a serial line has none.
 fn is_file(fd: i32) -> bool {
     0 <= libc::lseek(fd, 0, libc::SEEK_CUR)
 }
 
-// What was opened for reading and writing; a file is closed again, before anything is written over it.
+// Returns the ends of a device that was opened. A file is closed again, before anything is written over it.
 fn ends_of(fd: i32) -> Ends {
     let file = 0 <= fd && is_file(fd);
     if file {
@@ -30,7 +30,7 @@ fn ends_of(fd: i32) -> Ends {
     }
 }
 
-// Opens a line: a device that is read and written, or - for standard input and output.
+// Opens a serial line: a device that is read and written, or - for standard input and output.
 pub(crate) fn open(path: &[u8]) -> Ends {
     if check::same(path, b"-") {
         return Ends {
@@ -48,7 +48,7 @@ pub(crate) fn open(path: &[u8]) -> Ends {
     ends_of(fd)
 }
 
-// Says that a line could not be had, and what follows from it.
+// Says that a serial line could not be opened, and that nothing was sent.
 fn complain(ends: Ends, path: &[u8]) {
     if ends.file {
         io::write_all(ends.report, path);
@@ -58,7 +58,7 @@ fn complain(ends: Ends, path: &[u8]) {
     }
 }
 
-// Opens the line of the first word, and complains where it cannot be had.
+// Opens the serial line that the first argument names, and says so where it cannot be opened.
 pub(crate) fn first() -> Ends {
     let mut path = io::buffer();
     let len = os::arg(words::FIRST, &mut path);
@@ -69,7 +69,7 @@ pub(crate) fn first() -> Ends {
     ends
 }
 
-// Closes a device; standard input and output stay.
+// Closes a device; standard input and output stay open.
 pub(crate) fn close(ends: Ends) {
     if ends.input != libc::STDIN_FILENO {
         libc::close(ends.input);

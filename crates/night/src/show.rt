@@ -3,7 +3,7 @@ use crate::serial;
 use crate::talk;
 use crate::words;
 
-// Who the board is, and its readings. By the last line a show that broke off can be told from one that ended.
+// Shows who the board is, and its readings. The last line tells a show that ended from one that broke off.
 pub(crate) fn run() {
     let ends = serial::first();
     if !ends.open {

@@ -1,5 +1,6 @@
-// A talk with a board over a line: requests go out one at a time, and what comes back is told to the machine that asks. Three machines ask:
-// the collector reads the settings, the follower follows a restore, the viewer looks at the read-only values. One talk serves all three.
+// A talk with a board over a serial line: requests go out one at a time, and what comes back is told to the machine that asks. Three
+// machines ask: the collector reads the settings, the follower follows a restore, the viewer looks at the read-only values. One talk serves
+// all three.
 use crate::collecting;
 use crate::ear;
 use crate::ear::News;
@@ -19,7 +20,7 @@ use view::Viewed;
 use view::Viewer;
 use wire::Written;
 
-// This many frames that say nothing of what was asked are no answer.
+// After this many frames that say nothing of what was asked, the board counts as having given no answer.
 const MOST_EVENTS: u32 = 1000;
 
 // Which machine asks.
@@ -48,6 +49,7 @@ pub(crate) enum Turn {
     Nothing,
 }
 
+// Returns a talk in which nothing was sent yet.
 fn begun(asker: Asker, followed: Followed) -> Talk {
     Talk {
         asker,
@@ -61,27 +63,27 @@ fn begun(asker: Asker, followed: Followed) -> Talk {
     }
 }
 
-// A follower with nothing to do.
+// Returns a follower with nothing to do.
 fn at_rest() -> Followed {
     Follower::start(Table::factory(), Table::factory())
 }
 
-// Reads all settings.
+// Returns a talk that reads all settings.
 pub(crate) fn collecting() -> Talk {
     begun(Asker::Collector, at_rest())
 }
 
-// Turns the board's table `from` into `to`.
+// Returns a talk that turns the board's table `from` into `to`.
 pub(crate) fn restoring(from: Table, to: Table) -> Talk {
     begun(Asker::Follower, Follower::start(from, to))
 }
 
-// Looks at the read-only values.
+// Returns a talk that looks at the read-only values.
 pub(crate) fn viewing() -> Talk {
     begun(Asker::Viewer, at_rest())
 }
 
-// What the machine that asks wants to be sent.
+// Returns what the machine that asks wants to be sent.
 fn due(talk: Talk) -> Turn {
     let asker = talk.asker;
     match asker {
@@ -91,7 +93,7 @@ fn due(talk: Talk) -> Turn {
     }
 }
 
-// How many of its requests were answered as it needs.
+// Returns how many requests were answered in the way that the machine needs.
 fn answered(talk: Talk) -> usize {
     let asker = talk.asker;
     match asker {
@@ -101,7 +103,7 @@ fn answered(talk: Talk) -> usize {
     }
 }
 
-// Whether something is still to be sent, or answered.
+// Returns whether something is still to be sent, or answered.
 fn is_due(turn: Turn) -> bool {
     match turn {
         Turn::Ask(_) => true,
@@ -109,12 +111,12 @@ fn is_due(turn: Turn) -> bool {
     }
 }
 
-// Whether the request after `before` answered ones is still open.
+// Returns whether the request after `before` answered ones is still open.
 fn waits(talk: Talk, before: usize) -> bool {
     is_due(due(talk)) & (answered(talk) == before)
 }
 
-// The frame that was written goes out.
+// Sends the frame that was written.
 fn put(output: i32, frame: &[u8], written: Written) {
     match written {
         Written::Len(len) => {
@@ -142,7 +144,7 @@ fn send(output: i32, turn: Turn) -> bool {
     }
 }
 
-// The talk after some news, with the three machines as they are then.
+// Returns the talk after some news, with the three machines as they are then.
 fn moved(talk: Talk, news: News, collected: Collected, followed: Followed, viewed: Viewed) -> Talk {
     let asker = talk.asker;
     let listener = news.listener;
@@ -160,7 +162,7 @@ fn moved(talk: Talk, news: News, collected: Collected, followed: Followed, viewe
     }
 }
 
-// Whether the listener has given up.
+// Returns whether the listener has given up.
 fn is_silence(told: Told) -> bool {
     match told {
         Told::Nothing => false,
@@ -171,7 +173,7 @@ fn is_silence(told: Told) -> bool {
     }
 }
 
-// News is told to the machine that asks, and to no other.
+// Tells news to the machine that asks, and to no other.
 fn heard(talk: Talk, news: News) -> Talk {
     let asker = talk.asker;
     let told = news.told;
@@ -195,13 +197,13 @@ fn heard(talk: Talk, news: News) -> Talk {
     }
 }
 
-// The next event on the line.
+// Hears the next event on the serial line.
 fn event(input: i32, talk: Talk) -> Talk {
     let listener = talk.listener;
     heard(talk, ear::next(input, listener))
 }
 
-// A request was sent: the listener counts anew.
+// Notes that a request was sent: the listener counts anew.
 fn asked(talk: Talk) -> Talk {
     let asker = talk.asker;
     let listener = talk.listener;
@@ -233,7 +235,7 @@ fn answer(input: i32, talk: Talk) -> Talk {
     talk
 }
 
-// A board that talks of other things without end has given no answer.
+// Ends the wait for a board that talks of other things without end: it has given no answer.
 fn patient(talk: Talk, before: usize) -> Talk {
     if !waits(talk, before) {
         return talk;
@@ -263,7 +265,7 @@ fn show(report: i32, before: Talk, after: Talk) {
     }
 }
 
-// Sends what is due, hears what becomes of it, and shows that where it is wished; nothing where the talk has ended.
+// Sends what is due, hears what becomes of it, and shows that where it is wished; does nothing where the talk has ended.
 fn further(ends: Ends, talk: Talk, shown: bool) -> Talk {
     if !send(ends.output, due(talk)) {
         return talk;
@@ -275,7 +277,7 @@ fn further(ends: Ends, talk: Talk, shown: bool) -> Talk {
     next
 }
 
-// The talk to its end: no machine asks more than once for each setting.
+// Leads the talk to its end. No machine asks more than once for each setting, so there are no more turns than settings.
 pub(crate) fn whole(ends: Ends, talk: Talk, shown: bool) -> Talk {
     let mut talk = talk;
     let mut turns = settings::COUNT;

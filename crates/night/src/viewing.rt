@@ -7,7 +7,7 @@ use view::Next;
 use view::Viewed;
 use view::Viewer;
 
-// The value that the viewer asks for; nothing from a board that is silent.
+// Returns the request for the value that is due; nothing for a board that is silent.
 pub(crate) fn due(viewed: Viewed, silent: bool) -> Turn {
     if silent {
         return Turn::Nothing;
@@ -20,18 +20,19 @@ pub(crate) fn due(viewed: Viewed, silent: bool) -> Turn {
     }
 }
 
+// Returns how many values were answered.
 pub(crate) fn answered(viewed: Viewed) -> usize {
     let viewer = viewed.viewer;
     viewer.answered
 }
 
-// A frame, of which the data are the front of a buffer.
+// Hands a frame to the viewer. Its data are the front of a buffer.
 fn framed(viewer: Viewer, command: u8, data: &[u8], len: usize) -> Viewed {
     let n = words::front(len, data);
     viewer.reply(command, &data[..n])
 }
 
-// What was told: only a frame says something to the viewer.
+// Hands what was told to the viewer, to which only a frame says something.
 pub(crate) fn told_to(viewed: Viewed, told: Told, data: &[u8]) -> Viewed {
     let viewer = viewed.viewer;
     match told {
@@ -43,7 +44,7 @@ pub(crate) fn told_to(viewed: Viewed, told: Told, data: &[u8]) -> Viewed {
     }
 }
 
-// Shows the value that was just answered, by the viewer before that and the data of the frame; only a Get reply answers a viewer.
+// Shows the value that was just answered, by the viewer as it was before and the data of the frame. Only a Get reply answers a viewer.
 pub(crate) fn show(report: i32, before: Viewed, data: [u8; paper::MOST_DATA], len: usize) {
     let viewer = before.viewer;
     let n = words::front(len, &data);

@@ -1,8 +1,8 @@
-// The program's words, and what it says.
+// The program's arguments, and how it writes its report.
 ghost use Rattle.io.specs.Counts.{Counts};
 use lines::Line;
 
-// Their places.
+// The places of the arguments, and how long the command may be.
 pub(crate) const COMMAND: usize = 1;
 
 pub(crate) const FIRST: usize = 2;
@@ -11,7 +11,7 @@ pub(crate) const SECOND: usize = 3;
 
 pub(crate) const MOST_COMMAND: usize = 16;
 
-// What there is to do.
+// What the program can do.
 pub(crate) enum Command {
     Save,
     Check,
@@ -22,7 +22,7 @@ pub(crate) enum Command {
     Unknown,
 }
 
-// The command of a word, where it has the words that it needs after it.
+// Returns the command of a word, where it has as many arguments as it needs.
 pub(crate) fn asked_for(word: &[u8], count: usize) -> Command {
     if count == 4 && check::same(word, b"save") {
         return Command::Save;
@@ -45,7 +45,7 @@ pub(crate) fn asked_for(word: &[u8], count: usize) -> Command {
     Command::Unknown
 }
 
-// How the program is used.
+// Says how the program is used.
 pub(crate) fn usage() {
     say(
         libc::STDERR_FILENO,
@@ -53,30 +53,30 @@ pub(crate) fn usage() {
     );
 }
 
-// A line of fixed text.
+// Writes a line of fixed text.
 pub(crate) fn say(report: i32, text: &[u8]) {
     io::write_all(report, text);
     end(report);
 }
 
-// A line of the report.
+// Writes a line of the report.
 pub(crate) fn tell(report: i32, line: Line) {
     add(report, line);
     end(report);
 }
 
-// A part of a line.
+// Writes a part of a line.
 pub(crate) fn add(report: i32, line: Line) {
     let chars = line.chars;
     put(report, &chars, line.len);
 }
 
-// The end of a line.
+// Ends a line.
 pub(crate) fn end(report: i32) {
     io::write_all(report, b"\n");
 }
 
-// How much of a buffer is meant: `len` bytes at its front, or all of it where it has less.
+// Returns how much of a buffer is meant: `len` bytes at its front, or all of it where it has less.
 pub(crate) fn front(len: usize, of: &[u8]) -> usize
     ensures { λ r. ⌜ Counts r (now (of .entry)) ⌝ }
 {
@@ -89,18 +89,18 @@ pub(crate) fn put(fd: i32, text: &[u8], len: usize) -> bool {
     io::write_all(fd, &text[..n])
 }
 
-// The name that a line begins with.
+// Writes the name that a line begins with.
 pub(crate) fn name(report: i32, name: &[u8]) {
     io::write_all(report, name);
     io::write_all(report, b": ");
 }
 
-// What separates words.
+// Returns whether a character separates words.
 pub(crate) fn is_blank(c: u8) -> bool {
     c == b' ' || c == b'\t' || c == b'\r' || c == b'\n'
 }
 
-// How much of a text comes before the blanks at its end.
+// Returns how much of a text comes before the blanks at its end.
 pub(crate) fn filled(text: &[u8]) -> usize
     ensures { λ r. ⌜ Counts r (now (text .entry)) ⌝ }
 {

@@ -1,4 +1,4 @@
-// `night yard LIST`: each trailer in turn, a line each, and the sums at the end.
+// `night yard LIST`: each trailer in turn, one line of the report for each, and the sums at the end.
 use crate::checks;
 use crate::collecting;
 use crate::file;
@@ -17,7 +17,7 @@ use who::Verdict;
 
 const OUT: i32 = libc::STDOUT_FILENO;
 
-// Begins only with a list that was read whole. Without it a yard has no rows that could be told.
+// Begins only with a list that was read whole: a trailer past what was read would be left out without a word.
 pub(crate) fn run() {
     let mut list = io::large_buffer();
     let read = rows::read(&mut list);
@@ -30,7 +30,8 @@ pub(crate) fn run() {
     }
 }
 
-// Restores all trailers of the list, and tells the sums. Two rows of one line would be two restores of one board.
+// Restores all trailers of the list, and tells the sums. Two rows with the same serial line would be two restores of one board, so it
+// begins none.
 fn work(list: &[u8]) {
     if rows::is_doubled(list) {
         return;
@@ -39,7 +40,7 @@ fn work(list: &[u8]) {
     words::tell(OUT, sentences::summed(tally));
 }
 
-// The trailers of a list, a row each. Every row but the first has its newline in front, where a blank is passed over.
+// Restores the trailers of a list, a row each. Every row but the first begins with the newline before it, which is skipped as a blank.
 fn all(list: &[u8]) -> Tally {
     let mut tally = Tally::nothing();
     let mut at = 0;
@@ -51,13 +52,14 @@ fn all(list: &[u8]) -> Tally {
     tally
 }
 
-// A row without the blanks at its end.
+// Restores the trailer of a row, without the blanks at the row's end.
 fn row(tally: Tally, row: &[u8]) -> Tally {
     let len = words::filled(row);
     listed(tally, &row[..len])
 }
 
-// A row: name, line and file, blanks between, of which the file may have some too. An empty one and one that begins with # are passed over.
+// Restores the trailer of a row: name, serial line and file, blanks between; the file's name may have some too. An empty row and one that
+// begins with # are skipped.
 fn listed(tally: Tally, row: &[u8]) -> Tally {
     let name = rows::next(row, 0, false);
     if row.len() <= name {
@@ -85,14 +87,14 @@ fn listed(tally: Tally, row: &[u8]) -> Tally {
     )
 }
 
-// A trailer that is not begun, and why.
+// Says that a trailer is not begun and why, and counts it.
 fn not_begun(tally: Tally, name: &[u8], why: &[u8]) -> Tally {
     words::name(OUT, name);
     words::say(OUT, why);
     sums_with(name, tally.not_begun())
 }
 
-// The sums with a trailer; one that they refuse is told, so that none is lost without a word.
+// Returns the sums with a trailer. One that they refuse is told, so that none is lost without a word.
 fn sums_with(name: &[u8], counted: Counted) -> Tally {
     let verdict = counted.verdict;
     match verdict {
@@ -105,7 +107,7 @@ fn sums_with(name: &[u8], counted: Counted) -> Tally {
     counted.tally
 }
 
-// One trailer. Its line is opened first: where line and file are swapped, the device is not read as a file.
+// Restores one trailer. Its serial line is opened first: where the serial line and the file are swapped, the device is not read as a file.
 fn trailer(tally: Tally, name: &[u8], path: &[u8], kept: &[u8]) -> Tally {
     if check::same(path, b"-") {
         return not_begun(tally, name, b"not begun: in a yard a line is a device");
@@ -122,7 +124,7 @@ fn trailer(tally: Tally, name: &[u8], path: &[u8], kept: &[u8]) -> Tally {
     after
 }
 
-// A trailer with its line: its file is read, then its board.
+// Reads the file of a trailer whose serial line is open, and restores it if it is good.
 fn begun(tally: Tally, name: &[u8], ends: Ends, kept: &[u8]) -> Tally {
     let text = file::read(kept);
     if !text.is {
@@ -139,7 +141,7 @@ fn begun(tally: Tally, name: &[u8], ends: Ends, kept: &[u8]) -> Tally {
     restore(tally, name, ends, table)
 }
 
-// Reads the board, and restores it if all its settings were answered.
+// Reads the board's settings, and restores it if all were answered.
 fn restore(tally: Tally, name: &[u8], ends: Ends, to: Table) -> Tally {
     let collected = collecting::settings_of(ends, false);
     let stage = collected.stage;
@@ -151,7 +153,7 @@ fn restore(tally: Tally, name: &[u8], ends: Ends, to: Table) -> Tally {
     }
 }
 
-// A board that did not give all its settings.
+// Tells of a board that did not give all its settings, and counts it as silent.
 fn silent(tally: Tally, name: &[u8], collected: Collected) -> Tally {
     words::name(OUT, name);
     collecting::tell_end(OUT, collected);

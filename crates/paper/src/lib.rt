@@ -1,7 +1,7 @@
 // The numbers that document 01 fixes for more than one crate: refusals, frames, codes, flags and read-only ids. specs/Numbers.antt has the
 // same names with the paper's words beside them, and every call that gives or compares one promises it by that name.
 
-// The numbers of refusal.
+// The numbers of refusal, in document 01's order.
 pub const TOO_LONG: u8 = 1;
 
 pub const NO_DIGIT: u8 = 2;
@@ -38,7 +38,7 @@ pub const PAIR_DISAGREES: u8 = 17;
 
 pub const MORE_BYTES: u8 = 18;
 
-// Frames: the bytes around one, the sum that it comes to, and what fits.
+// Frames: the bytes that begin and end one, the total that its bytes come to, and how much fits.
 pub const COLON: u8 = b':';
 
 pub const NEWLINE: u8 = b'\n';
@@ -68,7 +68,7 @@ pub const SET_CODE: u8 = 8;
 
 pub const ASYNC_CODE: u8 = 0xA;
 
-// Its responses; Get and Set answer with their own codes.
+// The codes of its responses; Get and Set answer with their own codes.
 pub const DONE_CODE: u8 = 1;
 
 pub const UNKNOWN_CODE: u8 = 3;
@@ -108,7 +108,7 @@ pub const CONSUMED_ID: u16 = 0xEEFF;
 
 pub const CHARGE_ID: u16 = 0x0FFF;
 
-// The most bytes of a serial.
+// The most bytes that a serial has.
 pub const MOST_SERIAL: usize = 32;
 
 // The room that a backup text needs.

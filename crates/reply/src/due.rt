@@ -1,4 +1,4 @@
-// What a reply says to the request that is due.
+// What a reply says to the request that is due. Only a status of the due id counts; on anything else the box waits on.
 ghost use mathlib.Core.Path.{_≡_};
 ghost use mathlib.Core.Bool.{cond};
 ghost use lib.Dec.{eqb};
@@ -8,7 +8,7 @@ use crate::Heeded;
 use crate::Reply;
 use crate::Status;
 
-// Flag 00, or another.
+// Returns what a status of the due id says: flag 00 is good, another is not.
 fn of_status(status: Status) -> Heeded
     ensures { λ r. ⌜ r ≡ flagged status ⌝ }
 {
@@ -20,7 +20,7 @@ fn of_status(status: Status) -> Heeded
     }
 }
 
-// A status of the id that is due, or of another.
+// Returns what a status says: nothing where its id is not the one that is due.
 fn of_id(due: u16, id: u16, status: Status) -> Heeded
     ensures { λ r. ⌜ r ≡ cond (eqb id due) (flagged status) Heeded.Waits ⌝ }
 {
@@ -30,7 +30,7 @@ fn of_id(due: u16, id: u16, status: Status) -> Heeded
     Heeded::Waits
 }
 
-// A reply of any kind: only those with an id can be about the one that is due.
+// Returns what a reply of any kind says. Only those with an id can be about the one that is due.
 pub(crate) fn of_kind(due: u16, reply: Reply) -> Heeded
     ensures { λ r. ⌜ r ≡ about due reply ⌝ }
 {

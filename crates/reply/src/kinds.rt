@@ -1,4 +1,4 @@
-// The kinds of replies, each from its data: 6 for data that do not fit the kind.
+// The kinds of replies, each parsed from its data. Data that do not fit the kind are refused by 6.
 ghost use mathlib.Core.Path.{_≡_};
 ghost use Rattle.reply.specs.Replies.{front, fronted, telling, naming, numbering};
 use crate::Reply;
@@ -11,7 +11,7 @@ pub(crate) enum Front {
     Wrong,
 }
 
-// An id, and the status that a byte of flags is.
+// Returns an id, with the status that a byte of flags is.
 fn with_flags(id: u16, flags: u8) -> Front
     ensures { λ r. ⌜ r ≡ fronted id flags ⌝ }
 {
@@ -36,7 +36,7 @@ fn with_flags(id: u16, flags: u8) -> Front
     }
 }
 
-// The front of the data.
+// Returns what the first three bytes of the data say.
 fn front_of(bytes: &[u8]) -> Front
     ensures { λ r. ⌜ r ≡ front (now (bytes .entry)) ⌝ }
 {
@@ -47,14 +47,14 @@ fn front_of(bytes: &[u8]) -> Front
     with_flags(endian::read_16(bytes), flags)
 }
 
-// Data that do not fit their kind.
+// Refuses data that do not fit their kind.
 fn malformed() -> Reply
     ensures { λ r. ⌜ r ≡ Reply.Refused 6 ⌝ }
 {
     Reply::Refused(paper::MALFORMED)
 }
 
-// 3: the command that the board does not know.
+// Parses a reply of code 3: the command that the board does not know.
 pub(crate) fn unknown(bytes: &[u8]) -> Reply
     ensures { λ r. ⌜ r ≡ naming (now (bytes .entry)) ⌝ }
 {
@@ -64,7 +64,7 @@ pub(crate) fn unknown(bytes: &[u8]) -> Reply
     Reply::Unknown { command: bytes[0] }
 }
 
-// 4: the board could not read what was sent to it.
+// Parses a reply of code 4: the board could not parse what was sent to it.
 pub(crate) fn error(bytes: &[u8]) -> Reply
     ensures { λ r. ⌜ r ≡ numbering Reply.Error (now (bytes .entry)) ⌝ }
 {
@@ -76,7 +76,7 @@ pub(crate) fn error(bytes: &[u8]) -> Reply
     }
 }
 
-// 5: the board is there, and has this version.
+// Parses a reply of code 5: the board is there, and has this version.
 pub(crate) fn ping(bytes: &[u8]) -> Reply
     ensures { λ r. ⌜ r ≡ numbering Reply.Ping (now (bytes .entry)) ⌝ }
 {
@@ -88,7 +88,7 @@ pub(crate) fn ping(bytes: &[u8]) -> Reply
     }
 }
 
-// 7: the answer to a Get.
+// Parses a reply of code 7: the answer to a Get.
 pub(crate) fn get(bytes: &[u8]) -> Reply
     ensures { λ r. ⌜ r ≡ telling Reply.Get (now (bytes .entry)) ⌝ }
 {
@@ -98,7 +98,7 @@ pub(crate) fn get(bytes: &[u8]) -> Reply
     }
 }
 
-// 8: the answer to a Set.
+// Parses a reply of code 8: the answer to a Set.
 pub(crate) fn set(bytes: &[u8]) -> Reply
     ensures { λ r. ⌜ r ≡ telling Reply.Set (now (bytes .entry)) ⌝ }
 {
@@ -108,7 +108,7 @@ pub(crate) fn set(bytes: &[u8]) -> Reply
     }
 }
 
-// A: a value that the board sends unasked.
+// Parses a reply of code A: a value that the board sends unasked.
 pub(crate) fn told(bytes: &[u8]) -> Reply
     ensures { λ r. ⌜ r ≡ telling Reply.Async (now (bytes .entry)) ⌝ }
 {

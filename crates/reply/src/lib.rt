@@ -1,5 +1,5 @@
-// What the box makes of a frame that it has read: the kind of reply, what it says to the request that is due, and a reading in its unit.
-// Every call takes anything, and its promise fixes its answer (specs/Calls.antt).
+// What the box makes of a frame: the kind of reply, what it says to the request that is due, and a reading in its unit. Every call takes
+// anything, and its promise fixes its answer (specs/Calls.antt).
 ghost use mathlib.Core.Path.{_≡_};
 ghost use Rattle.reply.specs.Calls.{parsing, heeding, showing};
 
@@ -16,7 +16,7 @@ pub enum Status {
     ParameterError,
 }
 
-// A reply, a kind for each code: 1, 3, 4, 5, 7, 8, A; or document 01's number of the refusal. The value of the last three kinds is the
+// A reply, with a kind for each code: 1, 3, 4, 5, 7, 8, A; or document 01's number of the refusal. The value of the last three kinds is the
 // rest of the data, after the first three bytes; the payload of the first is all of it.
 pub enum Reply {
     Done,
@@ -29,8 +29,8 @@ pub enum Reply {
     Refused(u8),
 }
 
-// What a frame says to the request that is due: nothing, so that the box waits on; that all is good; or a status other than that. The value
-// of the last two is the rest of the data, after the first three bytes.
+// What a frame says to the request that is due: nothing, so that the box waits on; that all is good; or another status. The value of the
+// last two is the rest of the data, after the first three bytes.
 pub enum Heeded {
     Waits,
     Good,
@@ -46,7 +46,7 @@ pub enum Shown {
     Refused(u8),
 }
 
-// The reply that a frame of this command and these data is: 5 for a code that no reply has, then 6 for data that do not fit it.
+// Returns the reply that a frame of this command and these data is: 5 for a code that no reply has, then 6 for data that do not fit it.
 pub fn read(command: u8, bytes: &[u8]) -> Reply
     ensures { λ r. ⌜ r ≡ parsing command (now (bytes .entry)) ⌝ }
 {
@@ -62,8 +62,8 @@ pub fn read(command: u8, bytes: &[u8]) -> Reply
     }
 }
 
-// What a frame of this command and these data says to the request of a code and an id that is due: a reply of that code and that id has a
-// status, and everything else waits.
+// Returns what a frame of this command and these data says to the request that is due, given by its code and its id. A reply of that code
+// and that id has a status; on everything else the box waits on.
 pub fn heed(code: u8, id: u16, command: u8, bytes: &[u8]) -> Heeded
     ensures { λ r. ⌜ r ≡ heeding code id command (now (bytes .entry)) ⌝ }
 {
@@ -73,7 +73,7 @@ pub fn heed(code: u8, id: u16, command: u8, bytes: &[u8]) -> Heeded
     due::of_kind(id, read(command, bytes))
 }
 
-// The reading that a value of this id is: 7 for an id that is no reading, then 9 for a wrong width.
+// Returns the reading that a value of this id is: 7 for an id that is no reading, then 9 for a wrong width.
 pub fn show(id: u16, value: &[u8]) -> Shown
     ensures { λ r. ⌜ r ≡ showing id (now (value .entry)) ⌝ }
 {

@@ -6,14 +6,14 @@ ghost use Rattle.reply.specs.Units.{over, inVolts, inAmperes, inFineAmpe
 use crate::Shown;
 use crate::numbers;
 
-// A value of another width than its id has.
+// Refuses a value of another width than its id has.
 fn wrong_width() -> Shown
     ensures { λ r. ⌜ r ≡ Shown.Refused 9 ⌝ }
 {
     Shown::Refused(paper::WRONG_WIDTH)
 }
 
-// The whole number of two bytes with a sign, divided once.
+// Returns the whole number of two bytes with a sign, divided once.
 fn over_16(value: &[u8], steps: u16) -> f64
     requires { ⌜ length (now value) ≡ 2 ⌝ }
     ensures { λ r. ⌜ r ≡ over (signed 2 (fromLittle (now (value .entry)))) steps ⌝ }
@@ -22,7 +22,7 @@ fn over_16(value: &[u8], steps: u16) -> f64
     (number as f64) / (steps as f64)
 }
 
-// The same of four bytes.
+// Returns the whole number of four bytes with a sign, divided once.
 fn over_32(value: &[u8], steps: u16) -> f64
     requires { ⌜ length (now value) ≡ 4 ⌝ }
     ensures { λ r. ⌜ r ≡ over (signed 4 (fromLittle (now (value .entry)))) steps ⌝ }
@@ -31,7 +31,7 @@ fn over_32(value: &[u8], steps: u16) -> f64
     (number as f64) / (steps as f64)
 }
 
-// ED8D: signed 16, in steps of 0.01 V.
+// Returns the reading of ED8D: signed 16, in steps of 0.01 V.
 pub(crate) fn volts(value: &[u8]) -> Shown
     ensures { λ r. ⌜ r ≡ inVolts (now (value .entry)) ⌝ }
 {
@@ -41,7 +41,7 @@ pub(crate) fn volts(value: &[u8]) -> Shown
     Shown::Volts(over_16(value, numbers::STEPS_OF_VOLT))
 }
 
-// ED8F: signed 16, in steps of 0.1 A.
+// Returns the reading of ED8F: signed 16, in steps of 0.1 A.
 pub(crate) fn amperes(value: &[u8]) -> Shown
     ensures { λ r. ⌜ r ≡ inAmperes (now (value .entry)) ⌝ }
 {
@@ -51,7 +51,7 @@ pub(crate) fn amperes(value: &[u8]) -> Shown
     Shown::Amperes(over_16(value, numbers::STEPS_OF_AMPERE))
 }
 
-// ED8C: signed 32, in steps of 0.001 A.
+// Returns the reading of ED8C: signed 32, in steps of 0.001 A.
 pub(crate) fn fine_amperes(value: &[u8]) -> Shown
     ensures { λ r. ⌜ r ≡ inFineAmperes (now (value .entry)) ⌝ }
 {
@@ -61,7 +61,7 @@ pub(crate) fn fine_amperes(value: &[u8]) -> Shown
     Shown::Amperes(over_32(value, numbers::FINE_STEPS_OF_AMPERE))
 }
 
-// EEFF: signed 32, in steps of 0.1 Ah.
+// Returns the reading of EEFF: signed 32, in steps of 0.1 Ah.
 pub(crate) fn amp_hours(value: &[u8]) -> Shown
     ensures { λ r. ⌜ r ≡ inAmpHours (now (value .entry)) ⌝ }
 {
@@ -71,7 +71,7 @@ pub(crate) fn amp_hours(value: &[u8]) -> Shown
     Shown::AmpHours(over_32(value, numbers::STEPS_OF_AMP_HOUR))
 }
 
-// 0FFF: in steps of 0.01 %, the one reading without a sign.
+// Returns the reading of 0FFF: in steps of 0.01 %, the one reading without a sign.
 pub(crate) fn percent(value: &[u8]) -> Shown
     ensures { λ r. ⌜ r ≡ inPercent (now (value .entry)) ⌝ }
 {

@@ -35,7 +35,7 @@ pub fn write(request: Request, out: &mut [u8]) -> Written
     }
 }
 
-// Returns the place of a setting, and one past the table where its place and its id do not belong together.
+// Returns the place of a setting, and a place past the table where its place and its id do not belong together.
 fn place_of(setting: Setting) -> usize
     ensures { λ r. ⌜ r ≡ placeIn setting ⌝ }
 {
@@ -55,8 +55,8 @@ pub fn get(id: u16, out: &mut [u8]) -> Written
     wire::write_frame(paper::GET_CODE, &bytes, out)
 }
 
-// Writes a Set of the setting at a place to the front of `out`. Refuses 11 under 75 bytes of room, then 12 for a place past the table or
-// a number that the setting's width does not hold.
+// Writes a Set of the setting at a place to the front of `out`. Refuses 11 under 75 bytes of room, then 12 for a place past the table or a
+// number that the setting's width does not hold.
 pub fn set(index: usize, number: u16, out: &mut [u8]) -> Written
     ensures { λ r. ⌜ Gives Written (setWritten index number (length (now (out .entry)))) (now (out .entry)) r (now (out .exit)) ⌝ }
 {
@@ -69,7 +69,7 @@ pub fn set(index: usize, number: u16, out: &mut [u8]) -> Written
     }
 }
 
-// Whether a width of one or two bytes holds a number.
+// Returns whether a width of one or two bytes holds a number.
 fn holds(width: usize, number: u16) -> bool
     requires { ⌜ (1 ≤ width) × (width ≤ 2) ⌝ }
     ensures { λ r. ⌜ r ≡ ltb number (256 ^ width) ⌝ }
@@ -77,7 +77,7 @@ fn holds(width: usize, number: u16) -> bool
     (width == 2) | (number < 256)
 }
 
-// A Set of an id to a number in one or two bytes, where there is room for every frame.
+// Writes a Set of an id to a number in one or two bytes, where there is room for every frame.
 fn set_of(id: u16, width: usize, number: u16, out: &mut [u8]) -> Written
     requires { ⌜ (1 ≤ width) × (width ≤ 2) × (frameRoom ≤ length (now out)) ⌝ }
     ensures { λ r. ⌜ Gives Written (setOf id width number) (now (out .entry)) r (now (out .exit)) ⌝ }

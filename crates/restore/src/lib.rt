@@ -12,7 +12,7 @@ mod numbers;
 mod order;
 mod writer;
 
-// The Set that is due after this many; nothing after the last; or document 01's number of the refusal.
+// The Set that is due; nothing after the last; or document 01's number of the refusal.
 pub enum Due {
     Set(Wanted),
     Nothing,
@@ -31,8 +31,8 @@ pub enum Listed {
     Refused(u8),
 }
 
-// Writes the Sets that turn the table `from` into `to`, frame after frame, to the front of `out`. Refuses 11 under 15 bytes of room for each setting, then
-// 12 for a table that is not allowed; then nothing is written.
+// Writes the Sets that turn the table `from` into `to`, frame after frame, to the front of `out`. Refuses 11 under 15 bytes of room for
+// each setting, then 12 for a table that is not allowed; then nothing is written.
 pub fn list(from: Table, to: Table, out: &mut [u8]) -> Listed
     ensures { λ r. ⌜ Gives Listed (listing from to (length (now (out .entry)))) (now (out .entry)) r (now (out .exit)) ⌝ }
 {
@@ -48,7 +48,7 @@ pub fn list(from: Table, to: Table, out: &mut [u8]) -> Listed
     Listed::List { len, sets }
 }
 
-// How many Sets turn the table `from` into `to`. Refuses 12 for a table that is not allowed.
+// Returns how many Sets turn the table `from` into `to`. Refuses 12 for a table that is not allowed.
 pub fn sets_due(from: Table, to: Table) -> Sets
     ensures { λ r. ⌜ r ≡ setsDue from to ⌝ }
 {
@@ -58,7 +58,7 @@ pub fn sets_due(from: Table, to: Table) -> Sets
     Sets::Due(order::row_of(from, to).len)
 }
 
-// The Set that is due once this many before it are done: nothing after the last. Refuses 12 for a table that is not allowed.
+// Returns the Set that is due once this many before it are done: nothing after the last. Refuses 12 for a table that is not allowed.
 pub fn due_after(from: Table, to: Table, done: usize) -> Due
     ensures { λ r. ⌜ r ≡ dueIn from to done ⌝ }
 {

@@ -1,5 +1,5 @@
-// The order of the Sets: ascending id, but where both of a pair differ and the lower's new number does not agree with the higher's present
-// one, the higher goes first.
+// The order of the Sets: ascending id; but where both of a pair differ and the lower id's new number does not agree with the higher's
+// present one, the higher goes first.
 ghost use Prim.Native.Nat.{_<_};
 ghost use mathlib.Core.Path.{_≡_};
 ghost use mathlib.Core.Bool.{true, cond};
@@ -18,14 +18,14 @@ pub(crate) struct Row {
     pub(crate) indices: [usize; COUNT],
 }
 
-// Whether both tables are allowed.
+// Returns whether both tables are allowed.
 pub(crate) fn both_allowed(from: Table, to: Table) -> bool
     ensures { λ r. ⌜ r ≡ bothAllowed from to ⌝ }
 {
     from.is_allowed() & to.is_allowed()
 }
 
-// A setting with the number that is wanted for it.
+// Returns a setting with the number that is wanted for it.
 pub(crate) fn wanted_at(to: Table, index: usize) -> Wanted
     requires { ⌜ index < count ⌝ }
     ensures { λ r. ⌜ r ≡ wanted to index ⌝ }
@@ -37,7 +37,7 @@ pub(crate) fn wanted_at(to: Table, index: usize) -> Wanted
     }
 }
 
-// Whether a setting differs.
+// Returns whether a setting differs between the two tables.
 fn is_other(from: Table, to: Table, index: usize) -> bool
     requires { ⌜ index < count ⌝ }
     ensures { λ r. ⌜ r ≡ differs from to index ⌝ }
@@ -47,14 +47,14 @@ fn is_other(from: Table, to: Table, index: usize) -> bool
     held[index] != numbers[index]
 }
 
-// 1 for what holds, else 0.
+// Returns 1 for what holds, else 0.
 fn one_if(test: bool) -> usize
     ensures { λ r. ⌜ r ≡ cond test 1 0 ⌝ }
 {
     if test { 1 } else { 0 }
 }
 
-// Of a pair: both differ, and the lower's new number does not agree with the higher's present one.
+// Returns whether the higher id of a pair goes first: both differ, and the lower's new number does not agree with the higher's present one.
 fn is_turned(from: Table, to: Table, lower: usize, higher: usize) -> bool
     requires { ⌜ (allowed to ≡ true) × (lower < count) × (higher < count) ⌝ }
     ensures { λ r. ⌜ r ≡ higherFirst from to lower higher ⌝ }
@@ -65,7 +65,7 @@ fn is_turned(from: Table, to: Table, lower: usize, higher: usize) -> bool
         & (is_other(from, to, higher) & !settings::allows(lower, numbers[lower], held[higher]))
 }
 
-// The same of the pair that a setting is in.
+// Returns whether the two of the pair that a setting is in change places. A setting alone is its own partner, and stays.
 fn is_exchanged(from: Table, to: Table, place: usize, partner: usize) -> bool
     requires { ⌜ (allowed to ≡ true) × (place < count) × (partner ≡ partnerAt place) ⌝ }
     ensures { λ r. ⌜ r ≡ exchanged from to place ⌝ }
@@ -76,7 +76,7 @@ fn is_exchanged(from: Table, to: Table, place: usize, partner: usize) -> bool
     is_turned(from, to, partner, place)
 }
 
-// The setting that has its turn at a place.
+// Returns the setting that has its turn at a place.
 fn turn_of(from: Table, to: Table, place: usize) -> usize
     requires { ⌜ (allowed to ≡ true) × (place < count) ⌝ }
     ensures { λ r. ⌜ r ≡ placed from to place ⌝ }
@@ -88,7 +88,7 @@ fn turn_of(from: Table, to: Table, place: usize) -> usize
     place
 }
 
-// All differing settings in their order: each is put down where the next one goes, and stays if it differs.
+// Returns all differing settings in their order. Each setting is written where the next one goes, and counted only if it differs.
 pub(crate) fn row_of(from: Table, to: Table) -> Row
     requires { ⌜ allowed to ≡ true ⌝ }
     ensures { λ r. ⌜ Holds r (order from to) ⌝ }

@@ -1,4 +1,3 @@
-// The list's frames, written one after another.
 ghost use Prim.Native.Nat.{_+_, _≤_, _<_, _^_};
 ghost use mathlib.Core.Path.{_≡_};
 ghost use mathlib.Core.Bool.{true};
@@ -16,7 +15,7 @@ use crate::order::Row;
 use tables::Table;
 use wire::Written;
 
-// Writes some bytes from a place on.
+// Puts some bytes from a place on.
 fn put_bytes(out: &mut [u8], at: usize, bytes: &[u8])
     requires { ⌜ at + length (now bytes) ≤ length (now out) ⌝ }
     ensures { λ r. ⌜ now (out .exit) ≡ sets (now (out .entry)) at (now (bytes .entry)) ⌝ }
@@ -24,8 +23,8 @@ fn put_bytes(out: &mut [u8], at: usize, bytes: &[u8])
     bytes::copy(bytes, &mut out[at..]);
 }
 
-// A Set at a place of the buffer, and the place after it. The frame writer wants room for the longest frame, which is not left after the
-// last Set of a full list, so the Set is written apart.
+// Puts a Set at a place of the buffer, and returns the place after it. The frame writer wants room for the longest frame, which the buffer
+// may not have left, so the Set is written elsewhere and copied.
 fn put_set(out: &mut [u8], at: usize, index: usize, number: u16) -> usize
     requires { ⌜ (at + 15 ≤ length (now out)) × (index < count) × (number < 256 ^ widthAt index) ⌝ }
     ensures { λ r. ⌜ (r ≡ at + length (setRequest index number)) × (now (out .exit) ≡ sets (now (out .entry)) at (setRequest index number)) ⌝ }
@@ -41,7 +40,7 @@ fn put_set(out: &mut [u8], at: usize, index: usize, number: u16) -> usize
     }
 }
 
-// A Set for each setting of a row, and the length of them all.
+// Puts a Set for each setting of a row, and returns the length of them all.
 pub(crate) fn put_sets(row: Row, to: Table, out: &mut [u8]) -> usize
     requires { ⌜ (listRoom ≤ length (now out)) × (allowed to ≡ true) × (row .len ≤ count) × (every (λ k. ltb k count) (take (row .len) (row .indices)) ≡ true) ⌝ }
     ensures { λ r. ⌜ (r ≡ length (framesFor (setsOf row to))) × (now (out .exit) ≡ overlaid (framesFor (setsOf row to)) (now (out .entry))) ⌝ }

@@ -1,4 +1,4 @@
-// Decimal numbers, as they are read.
+// The decimal numbers that a row may have: one to five digits, with no leading zero.
 ghost use mathlib.Core.Path.{_≡_};
 ghost use mathlib.Core.Bool.{true};
 ghost use Rattle.laws.specs.Lists.{every};
@@ -11,14 +11,14 @@ const NINE: u8 = b'9';
 
 const MOST_DIGITS: usize = 5;
 
-// A decimal digit.
+// Returns whether a character is a decimal digit.
 fn is_decimal(c: u8) -> bool
     ensures { λ r. ⌜ r ≡ isDigit c ⌝ }
 {
     (ZERO <= c) & (c <= NINE)
 }
 
-// Every character is a decimal digit.
+// Returns whether every character is a decimal digit.
 fn all_decimal(digits: &[u8]) -> bool
     ensures { λ r. ⌜ r ≡ every isDigit (now (digits .entry)) ⌝ }
 {
@@ -31,7 +31,7 @@ fn all_decimal(digits: &[u8]) -> bool
     all
 }
 
-// One to five decimal digits with no leading zero but a lone 0.
+// Returns whether these are one to five decimal digits with no leading zero but a lone 0.
 pub(crate) fn is_number(digits: &[u8]) -> bool
     ensures { λ r. ⌜ r ≡ isNumber (now (digits .entry)) ⌝ }
 {
@@ -50,7 +50,7 @@ pub(crate) fn is_number(digits: &[u8]) -> bool
     digits[0] != ZERO
 }
 
-// The number of up to five decimal digits.
+// Returns the number of up to five decimal digits.
 pub(crate) fn value_of(digits: &[u8]) -> usize
     requires { ⌜ isNumber (now digits) ≡ true ⌝ }
     ensures { λ r. ⌜ r ≡ valueOf (now (digits .entry)) ⌝ }

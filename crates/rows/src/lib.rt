@@ -1,5 +1,5 @@
-// A row of text: an id in four digits, a tab, a decimal number and a newline; written, read, and judged for the setting that is due. Every
-// call takes anything, and its promise fixes its answer and every lent byte (specs/Calls.antt).
+// A row of text: an id in four digits, a tab, a decimal number and a newline; written, parsed, and judged for the setting that is due.
+// Every call takes anything, and its promise fixes its answer and every lent byte (specs/Calls.antt).
 ghost use mathlib.Core.Path.{_≡_};
 ghost use lib.ListN.{length};
 ghost use Rattle.laws.specs.Promise.{Gives};
@@ -17,7 +17,7 @@ pub const ROW_ROOM: usize = 11;
 
 pub(crate) const TAB: u8 = b'\t';
 
-// What the reader answers: the id, the number and how many bytes the row takes, or the number of the refusal.
+// What parsing a row answers: the id, the number and how many bytes the row takes, or the number of the refusal.
 pub enum Row {
     Is { id: u16, number: usize, len: usize },
     Refused(u8),
@@ -42,7 +42,7 @@ pub fn write(id: u16, number: u16, out: &mut [u8]) -> Written
     Written::Len(bytes::copy(&chars[..len], out))
 }
 
-// Reads the row at the front of a text: 14 for a line that is not so built, or a text that has ended.
+// Reads the row at the front of a text: 14 for a line of another form, or a text that ends before a newline.
 pub fn read(text: &[u8]) -> Row
     ensures { λ r. ⌜ r ≡ parsing (now (text .entry)) ⌝ }
 {

@@ -1,4 +1,3 @@
-// The reader.
 ghost use Prim.Native.Nat.{suc, _+_, _*_, _<_};
 ghost use mathlib.Core.Path.{_≡_};
 ghost use mathlib.Core.Bool.{true};
@@ -14,14 +13,14 @@ use crate::Row;
 use crate::TAB;
 use crate::decimals;
 
-// An id has four digits and its number comes after the tab; the shortest number has one digit.
+// An id has four digits, its number comes after the tab, and the shortest number has one digit.
 const ID_LEN: usize = 4;
 
 const NUMBER_AT: usize = 5;
 
 const LEAST: usize = 6;
 
-// The length of the first line, without its newline.
+// Returns the length of the first line, without its newline.
 pub(crate) fn line_len(text: &[u8]) -> usize
     ensures { λ r. ⌜ r ≡ lineLength (now (text .entry)) ⌝ }
 {
@@ -35,7 +34,7 @@ pub(crate) fn line_len(text: &[u8]) -> usize
     i
 }
 
-// A line so built: four digits, a tab and a number.
+// Returns whether a line is a row: four digits, a tab and a number.
 pub(crate) fn is_row(line: &[u8]) -> bool
     ensures { λ r. ⌜ r ≡ isRow (now (line .entry)) ⌝ }
 {
@@ -67,7 +66,7 @@ fn id_of(a: u8, b: u8, c: u8, d: u8) -> u16
     byte_of(a, b) as u16 * 256 + byte_of(c, d) as u16
 }
 
-// What a line so built says.
+// Returns what a line that is a row says. Its length counts the newline too.
 pub(crate) fn row_in(line: &[u8]) -> Row
     requires { ⌜ isRow (now line) ≡ true ⌝ }
     ensures { λ r. ⌜ r ≡ Row.Is (idIn (now (line .entry))) (numberIn (now (line .entry))) (suc (length (now (line .entry)))) ⌝ }
@@ -79,7 +78,7 @@ pub(crate) fn row_in(line: &[u8]) -> Row
     }
 }
 
-// A number in the own range of the setting at a place.
+// Returns whether a number is in the own range of the setting at a place. Five digits can say more than 16 bits hold.
 fn is_fit(index: usize, number: usize) -> bool
     requires { ⌜ index < count ⌝ }
     ensures { λ r. ⌜ r ≡ inRange index number ⌝ }
@@ -90,7 +89,7 @@ fn is_fit(index: usize, number: usize) -> bool
     settings::in_range(index, number as u16)
 }
 
-// A row that is read, judged for the setting at a place.
+// Judges a row for the setting at a place.
 pub(crate) fn judged(index: usize, id: u16, number: usize, len: usize) -> Judged
     requires { ⌜ index < count ⌝ }
     ensures { λ r. ⌜ r ≡ judgedAs index (Row.Is id number len) ⌝ }

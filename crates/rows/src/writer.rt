@@ -1,4 +1,3 @@
-// The writer.
 ghost use mathlib.Core.Path.{_≡_};
 ghost use mathlib.Core.List.{[], _∷_, _++_};
 ghost use Rattle.lines.specs.Lines.{lineOf};
@@ -6,7 +5,7 @@ ghost use Rattle.rows.specs.Row.{tab, idDigits, rowOf};
 use crate::TAB;
 use lines::Line;
 
-// An id in four digits and the tab after it.
+// Returns an id in four digits and the tab after it.
 fn front_of(id: u16) -> [u8; 5]
     ensures { λ r. ⌜ r ≡ idDigits id ++ tab ∷ [] ⌝ }
 {
@@ -15,14 +14,14 @@ fn front_of(id: u16) -> [u8; 5]
     [high.high, high.low, low.high, low.low, TAB]
 }
 
-// A number of 16 bits among the larger ones.
+// Returns a number of 16 bits at the width of `put_number`.
 fn number_of(n: u16) -> usize
     ensures { λ r. ⌜ r ≡ n ⌝ }
 {
     n as usize
 }
 
-// The row as a line.
+// Returns the row as a line.
 pub(crate) fn row_of(id: u16, number: u16) -> Line
     ensures { λ r. ⌜ r ≡ lineOf (rowOf id number) ⌝ }
 {

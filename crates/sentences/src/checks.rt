@@ -1,4 +1,3 @@
-// A backup that was checked, in words.
 ghost use mathlib.Core.Path.{_≡_};
 ghost use Rattle.lines.specs.Lines.{adding};
 ghost use Rattle.sentences.specs.Texts.{refusalText, goodText, checkedText};
@@ -7,7 +6,7 @@ use backup::Checked;
 use lines::Line;
 use settings::COUNT;
 
-// Puts the number of a refusal, and the row of the text that it is about where there is one.
+// Puts the number of a refusal and, unless `row` is 0, the line of the text that it is about.
 fn put_refusal(line: Line, number: u8, row: usize) -> Line
     ensures { λ r. ⌜ r ≡ adding line (refusalText number row) ⌝ }
 {
@@ -18,7 +17,7 @@ fn put_refusal(line: Line, number: u8, row: usize) -> Line
     parts::put_between(refused, b", line ", row, b"")
 }
 
-// Puts a good backup.
+// Puts that a backup is good, with this many settings.
 fn put_good(line: Line, count: usize) -> Line
     ensures { λ r. ⌜ r ≡ adding line (goodText count) ⌝ }
 {
@@ -30,7 +29,7 @@ fn put_good(line: Line, count: usize) -> Line
     )
 }
 
-// Puts a verdict.
+// Puts what became of a backup that was checked.
 pub(crate) fn put_verdict(line: Line, verdict: Checked) -> Line
     ensures { λ r. ⌜ r ≡ adding line (checkedText verdict) ⌝ }
 {

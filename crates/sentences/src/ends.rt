@@ -1,4 +1,3 @@
-// The end of a restore in words.
 ghost use Prim.Native.Nat.{_-_};
 ghost use mathlib.Core.Path.{_≡_};
 ghost use mathlib.Core.Bool.{true};
@@ -18,7 +17,7 @@ fn left_of(confirmed: usize, due: usize) -> usize
     if confirmed < due { due - confirmed } else { 0 }
 }
 
-// Puts a restore that stopped.
+// Puts how far a restore came that stopped.
 fn put_stopped(line: Line, confirmed: usize, due: usize) -> Line
     ensures { λ r. ⌜ r ≡ adding line (stoppedText confirmed due) ⌝ }
 {
@@ -41,7 +40,7 @@ fn put_end(line: Line, standing: Standing, confirmed: usize, due: usize) -> Line
     }
 }
 
-// Whether a start and events give the follower: any other is told as refused.
+// Returns whether a start and events give the follower. For any other the sentence is "refused 12".
 fn is_allowed(follower: Follower) -> bool
     ensures { λ r. ⌜ r ≡ followerAllowed follower ⌝ }
 {
@@ -68,7 +67,7 @@ fn due_of(follower: Follower) -> usize
     }
 }
 
-// Puts how many of them the board has confirmed, by the follower's own count.
+// Puts how many Sets of its list the board has confirmed, by the follower's own count.
 pub(crate) fn put_confirmed(line: Line, follower: Follower) -> Line
     ensures { λ r. ⌜ r ≡ adding line (progressText follower) ⌝ }
 {
@@ -79,7 +78,7 @@ pub(crate) fn put_confirmed(line: Line, follower: Follower) -> Line
     parts::put_of(line, b"", follower.confirmed, due, b" confirmed")
 }
 
-// How a restore ended, by the follower's own word.
+// Puts how a restore ended, by the follower's own account.
 pub(crate) fn put_follower(line: Line, follower: Follower) -> Line
     ensures { λ r. ⌜ r ≡ adding line (followedText follower) ⌝ }
 {

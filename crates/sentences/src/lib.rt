@@ -1,6 +1,7 @@
-// The sentences that claim something: how a restore and a yard's night ended, how far a board was read, what became of a file, and what a
-// board's values are. Each takes the machine that followed it whole; one that no calls give is told as refused 12, but for `seen`, which
-// then says nothing. Every call takes anything, and its promise fixes its answer (specs/Texts.antt, specs/Values.antt).
+// The sentences that claim something: how a restore and a yard's night ended, how many settings of a board were read, what became of a
+// file, and what a board's values are. Each takes whole the machine whose work it tells; for one that no calls give the sentence is
+// "refused 12", but `seen` then says nothing. Every call takes anything, and its promise fixes its answer (specs/Texts.antt,
+// specs/Values.antt).
 ghost use mathlib.Core.Path.{_≡_};
 ghost use Rattle.lines.specs.Lines.{lineOf};
 ghost use Rattle.sentences.specs.Texts.{followedText, progressText, collectedText, savedText, checkedText, summedText};
@@ -20,43 +21,43 @@ mod reads;
 mod sums;
 mod values;
 
-// What became of the file that was to hold a board's settings, by the caller's word: it is as it was; it has the new text, but a power cut
-// may undo that; or it has the new text on the disk.
+// What became of the file for a board's settings, as the caller says: it is as it was; it has the new text, but a power cut may undo that;
+// or it has the new text on the disk.
 pub enum Kept {
     Not,
     Unsure,
     Whole,
 }
 
-// Returns how a restore ended, and how many of its Sets the board has confirmed.
+// Returns the sentence for how a restore ended, with how many of its Sets the board has confirmed.
 pub fn followed(follower: Follower) -> Line
     ensures { λ r. ⌜ r ≡ lineOf (followedText follower) ⌝ }
 {
     ends::put_follower(Line::start(), follower)
 }
 
-// Returns how many Sets of a restore are confirmed, by the follower's own count.
+// Returns the sentence for how many Sets of a restore are confirmed, by the follower's own count.
 pub fn progress(follower: Follower) -> Line
     ensures { λ r. ⌜ r ≡ lineOf (progressText follower) ⌝ }
 {
     ends::put_confirmed(Line::start(), follower)
 }
 
-// Returns how far a board was read: how many settings, and whether all.
+// Returns the sentence for how many settings of a board were read, and whether all.
 pub fn collected(collector: Collector) -> Line
     ensures { λ r. ⌜ r ≡ lineOf (collectedText collector) ⌝ }
 {
     reads::put_collector(Line::start(), collector)
 }
 
-// Returns whether the settings that were read are saved: only where every one was read.
+// Returns the sentence for whether the settings that were read are saved: only where every one was read.
 pub fn saved(collector: Collector, kept: Kept) -> Line
     ensures { λ r. ⌜ r ≡ lineOf (savedText collector kept) ⌝ }
 {
     reads::put_saved(Line::start(), collector, kept)
 }
 
-// Returns what a backup is: good, or the number of its refusal and the line.
+// Returns the sentence for a backup: good, or the number of its refusal and the line.
 pub fn checked(verdict: Checked) -> Line
     ensures { λ r. ⌜ r ≡ lineOf (checkedText verdict) ⌝ }
 {
@@ -70,7 +71,7 @@ pub fn summed(tally: Tally) -> Line
     sums::put_sums(Line::start(), tally)
 }
 
-// Returns what a frame that comes to a viewer says of the value that is due, in its unit; an empty line where it says nothing of it.
+// Returns what a frame says to a viewer of the value that is due, in its unit; an empty line where it says nothing of it.
 pub fn seen(viewer: Viewer, command: u8, bytes: &[u8]) -> Line
     ensures { λ r. ⌜ r ≡ lineOf (seenText viewer command (now (bytes .entry))) ⌝ }
 {
@@ -83,7 +84,7 @@ pub fn seen(viewer: Viewer, command: u8, bytes: &[u8]) -> Line
     }
 }
 
-// Returns how many values were shown, by the viewer's own count.
+// Returns the sentence for how many values were shown, by the viewer's own count.
 pub fn shown(viewer: Viewer) -> Line
     ensures { λ r. ⌜ r ≡ lineOf (shownText viewer) ⌝ }
 {

@@ -1,4 +1,3 @@
-// The parts that the sentences are made of.
 ghost use mathlib.Core.Path.{_≡_};
 ghost use Rattle.paper.specs.Numbers as paper;
 ghost use Rattle.lines.specs.Lines.{adding};
@@ -20,21 +19,21 @@ pub(crate) fn put_of(line: Line, before: &[u8], done: usize, due: usize, after: 
     counted.put(b" of ").put_number(due).put(after)
 }
 
-// Returns a refusal's number among the larger ones.
+// Returns a refusal's number at the width of `put_number`.
 fn number_of(n: u8) -> usize
     ensures { λ r. ⌜ r ≡ n ⌝ }
 {
     n as usize
 }
 
-// Puts a refusal by its number.
+// Puts the number of a refusal.
 pub(crate) fn put_refused(line: Line, number: u8) -> Line
     ensures { λ r. ⌜ r ≡ adding line (refusedText number) ⌝ }
 {
     put_between(line, b"refused ", number_of(number), b"")
 }
 
-// Puts a state that no calls of its machine give.
+// Puts the refusal of a state that no calls of its machine give.
 pub(crate) fn put_stray(line: Line) -> Line
     ensures { λ r. ⌜ r ≡ adding line (refusedText paper.notAllowed) ⌝ }
 {

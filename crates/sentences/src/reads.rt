@@ -1,4 +1,4 @@
-// A board that was read, and the file of its settings, in words.
+// A board whose settings were read, and the file for them.
 ghost use mathlib.Core.Path.{_≡_};
 ghost use Rattle.lines.specs.Lines.{adding};
 ghost use Rattle.sentences.specs.Texts.{readText, keptText, unreadText, fileText, collectedText, savedText};
@@ -9,7 +9,7 @@ use collect::Stage;
 use lines::Line;
 use settings::COUNT;
 
-// Puts how far a collector is.
+// Puts how many settings were read, by how far a collector is.
 fn put_read(line: Line, stage: Stage, answered: usize, due: usize) -> Line
     ensures { λ r. ⌜ r ≡ adding line (readText stage answered due) ⌝ }
 {
@@ -21,7 +21,7 @@ fn put_read(line: Line, stage: Stage, answered: usize, due: usize) -> Line
     }
 }
 
-// How the reading of a board ended, by the collector's own word and count.
+// Puts how far a collector came, by its own account and count.
 pub(crate) fn put_collector(line: Line, collector: Collector) -> Line
     ensures { λ r. ⌜ r ≡ adding line (collectedText collector) ⌝ }
 {
@@ -30,7 +30,7 @@ pub(crate) fn put_collector(line: Line, collector: Collector) -> Line
     put_read(line, stage, collected.answered, COUNT)
 }
 
-// Puts what became of a file.
+// Puts what became of a file with this many settings.
 fn put_kept(line: Line, kept: Kept, count: usize) -> Line
     ensures { λ r. ⌜ r ≡ adding line (keptText kept count) ⌝ }
 {
@@ -48,7 +48,7 @@ fn put_unread(line: Line) -> Line
     line.put(b"not saved: not every setting was read")
 }
 
-// Puts a file by how far the collector came: it can be saved only where every setting was read.
+// Puts what became of a file, by how far the collector came: it can be saved only where every setting was read.
 fn put_file(line: Line, stage: Stage, answered: usize, kept: Kept) -> Line
     ensures { λ r. ⌜ r ≡ adding line (fileText stage answered kept) ⌝ }
 {

@@ -1,4 +1,3 @@
-// The sums of a yard in words.
 ghost use mathlib.Core.Path.{_≡_};
 ghost use Rattle.lines.specs.Lines.{adding};
 ghost use Rattle.sentences.specs.Texts.{countsText, summedText};
@@ -24,7 +23,7 @@ fn put_counts(line: Line, tally: Tally) -> Line
     )
 }
 
-// Puts the sums of a tally that is allowed.
+// Puts the sums of a tally, or its refusal where it is not allowed.
 pub(crate) fn put_sums(line: Line, tally: Tally) -> Line
     ensures { λ r. ⌜ r ≡ adding line (summedText tally) ⌝ }
 {

@@ -1,4 +1,4 @@
-// A board's read-only values in words.
+// The words and units of a board's read-only values. Which values are understood is in `view`.
 ghost use Prim.Native.Nat.{_*_, _-_, _≤_, _<_, suc};
 ghost use mathlib.Core.Path.{_≡_};
 ghost use mathlib.Core.Bool.{true, cond};
@@ -11,7 +11,8 @@ ghost use Rattle.lines.specs.Lines.{adding};
 ghost use Rattle.sentences.specs.Values.{wordText, strangeText, serialText, amountText, readingText, wordsText};
 use lines::Line;
 
-// How many numbers there are in two bytes and in four, for two's complement; and twice as many, of which no number of two bytes is negative.
+// How many numbers two bytes and four bytes have: from half of it on, a number is negative. For the one reading without a sign it is twice
+// as many, so that no number of two bytes is negative.
 const ALL_16: usize = 65536;
 
 const ALL_32: usize = 4294967296;
@@ -29,7 +30,7 @@ fn put_word(line: Line, before: &[u8], high: u8, low: u8, after: &[u8]) -> Line
         .put(after)
 }
 
-// Puts an id whose answer is not understood.
+// Puts that the answer of an id is not understood.
 pub(crate) fn put_strange(line: Line, id: u16) -> Line
     ensures { λ r. ⌜ r ≡ adding line (strangeText id) ⌝ }
 {
@@ -42,7 +43,7 @@ pub(crate) fn put_strange(line: Line, id: u16) -> Line
     )
 }
 
-// 010A: the serial ends at the first zero byte.
+// Puts the value of 010A: the serial, which ends at the first zero byte.
 fn put_serial(line: Line, value: &[u8]) -> Line
     ensures { λ r. ⌜ r ≡ adding line (serialText (now (value .entry))) ⌝ }
 {
@@ -50,7 +51,7 @@ fn put_serial(line: Line, value: &[u8]) -> Line
     line.put(b"serial ").put(&value[..end])
 }
 
-// Puts a number of steps between words; from half of `all` on it is negative, counted back from there.
+// Puts a number of steps between words. From half of `all` on it is negative, counted back from `all`.
 fn put_amount(line: Line, before: &[u8], all: usize, n: usize, decimals: u8, after: &[u8]) -> Line
     requires { ⌜ (n < all) × (all ≤ 4294967296) ⌝ }
     ensures { λ r. ⌜ r ≡ adding line (amountText (now (before .entry)) (cond (ltb (2 * n) all) (pos n) (negsuc (all - suc n))) decimals (now (after .entry))) ⌝ }
@@ -62,7 +63,7 @@ fn put_amount(line: Line, before: &[u8], all: usize, n: usize, decimals: u8, aft
     begun.put(b"-").put_pointed(all - n, decimals).put(after)
 }
 
-// Puts two bytes as a number with a sign, between words.
+// Puts a number of two bytes with a sign, between words.
 fn put_narrow(line: Line, before: &[u8], value: &[u8], decimals: u8, after: &[u8]) -> Line
     requires { ⌜ length (now value) ≡ 2 ⌝ }
     ensures { λ r. ⌜ r ≡ adding line (amountText (now (before .entry)) (signed 2 (fromLittle (now (value .entry)))) decimals (now (after .entry))) ⌝ }
@@ -77,7 +78,7 @@ fn put_narrow(line: Line, before: &[u8], value: &[u8], decimals: u8, after: &[u8
     )
 }
 
-// The same of four bytes.
+// Puts a number of four bytes with a sign, between words.
 fn put_wide(line: Line, before: &[u8], value: &[u8], decimals: u8, after: &[u8]) -> Line
     requires { ⌜ length (now value) ≡ 4 ⌝ }
     ensures { λ r. ⌜ r ≡ adding line (amountText (now (before .entry)) (signed 4 (fromLittle (now (value .entry)))) decimals (now (after .entry))) ⌝ }
@@ -113,7 +114,7 @@ fn put_reading(line: Line, id: u16, value: &[u8]) -> Line
     put_amount(line, b"charge ", UNSIGNED_16, steps, 2, b" %")
 }
 
-// Puts a value that is understood, by its id. A product and a version have their low bytes first.
+// Puts a value that is understood, by its id. A product and a version have their low byte first, and are printed high byte first.
 pub(crate) fn put_words(line: Line, id: u16, value: &[u8]) -> Line
     requires { ⌜ isUnderstood id (now value) ≡ true ⌝ }
     ensures { λ r. ⌜ r ≡ adding line (wordsText id (now (value .entry))) ⌝ }

@@ -1,5 +1,5 @@
-// The constant table, column by column, in the order of the ids, and one reader for each column. The table of document 01, "Settings":
-// every look-up of an id, a width, an end, a factory number or a partner comes here.
+// The constant table of document 01, "Settings", column by column, in the order of the ids, and a function for each column. Every look-up
+// of an id, a width, an end, a factory number or a partner comes here.
 ghost use Prim.Native.Nat.{_<_};
 ghost use mathlib.Core.Path.{_≡_};
 ghost use Rattle.settings.specs.Columns.{count, idAt, widthAt, lowAt, highAt, zeroAt, partnerAt, roleAt, lows, highs, zeros, roles, placeOf};
@@ -189,7 +189,7 @@ pub(crate) const FACTORIES: [u16; COUNT] = [
     5, // EEFE
 ];
 
-// The other one of its pair, by its id: a new row renumbers nothing. A setting alone has its own.
+// The id of the other one of its pair, or its own for a setting alone. An id and not a place, so that a new row renumbers nothing.
 const PARTNER_IDS: [u16; COUNT] = [
     0x0321, // 0320
     0x0320, // 0321
@@ -248,6 +248,7 @@ const ROLES: [Role; COUNT] = [
     Role::Alone, // EEFE
 ];
 
+// Returns the id of the setting at a place.
 pub(crate) fn id_of(index: usize) -> u16
     requires { ⌜ index < count ⌝ }
     ensures { λ r. ⌜ r ≡ idAt index ⌝ }
@@ -255,6 +256,7 @@ pub(crate) fn id_of(index: usize) -> u16
     IDS[index]
 }
 
+// Returns the width in bytes of the setting at a place.
 pub(crate) fn width_of(index: usize) -> usize
     requires { ⌜ index < count ⌝ }
     ensures { λ r. ⌜ r ≡ widthAt index ⌝ }
@@ -262,6 +264,7 @@ pub(crate) fn width_of(index: usize) -> usize
     WIDTHS[index]
 }
 
+// Returns the low end of the range of the setting at a place.
 pub(crate) fn low_of(index: usize) -> u16
     requires { ⌜ index < count ⌝ }
     ensures { λ r. ⌜ r ≡ lowAt index ⌝ }
@@ -269,6 +272,7 @@ pub(crate) fn low_of(index: usize) -> u16
     LOWS[index]
 }
 
+// Returns the high end of the range of the setting at a place.
 pub(crate) fn high_of(index: usize) -> u16
     requires { ⌜ index < count ⌝ }
     ensures { λ r. ⌜ r ≡ highAt index ⌝ }
@@ -276,6 +280,7 @@ pub(crate) fn high_of(index: usize) -> u16
     HIGHS[index]
 }
 
+// Returns whether 0 is allowed besides for the setting at a place.
 pub(crate) fn zero_of(index: usize) -> bool
     requires { ⌜ index < count ⌝ }
     ensures { λ r. ⌜ r ≡ zeroAt index ⌝ }
@@ -283,7 +288,7 @@ pub(crate) fn zero_of(index: usize) -> bool
     ZEROS[index]
 }
 
-// The place of the other one of its pair: ids ascend and the two are neighbours, so the larger id is the next place.
+// Returns the place of the other one of its pair. Ids ascend and the two are neighbours, so a larger id is at the next place.
 pub(crate) fn partner_of(index: usize) -> usize
     requires { ⌜ index < count ⌝ }
     ensures { λ r. ⌜ r ≡ partnerAt index ⌝ }
@@ -299,6 +304,7 @@ pub(crate) fn partner_of(index: usize) -> usize
     index
 }
 
+// Returns the part in its pair of the setting at a place.
 pub(crate) fn role_of(index: usize) -> Role
     requires { ⌜ index < count ⌝ }
     ensures { λ r. ⌜ r ≡ roleAt index ⌝ }
@@ -306,7 +312,7 @@ pub(crate) fn role_of(index: usize) -> Role
     ROLES[index]
 }
 
-// The place of an id, or the number of settings where it is none.
+// Returns the place of an id, or the number of settings where it is none.
 pub(crate) fn place_of(id: u16) -> usize
     ensures { λ r. ⌜ r ≡ placeOf id ⌝ }
 {
@@ -320,25 +326,28 @@ pub(crate) fn place_of(id: u16) -> usize
     i
 }
 
-// Whole columns, for a look at all settings: an array that is named anew is made anew.
+// Returns all low ends. Whole columns are for a loop over all settings: each use of a constant array makes it anew.
 pub(crate) fn lows() -> [u16; COUNT]
     ensures { λ r. ⌜ r ≡ lows ⌝ }
 {
     LOWS
 }
 
+// Returns all high ends.
 pub(crate) fn highs() -> [u16; COUNT]
     ensures { λ r. ⌜ r ≡ highs ⌝ }
 {
     HIGHS
 }
 
+// Returns of each setting whether 0 is allowed besides.
 pub(crate) fn zeros() -> [bool; COUNT]
     ensures { λ r. ⌜ r ≡ zeros ⌝ }
 {
     ZEROS
 }
 
+// Returns the part of each setting in its pair.
 pub(crate) fn roles() -> [Role; COUNT]
     ensures { λ r. ⌜ r ≡ roles ⌝ }
 {

@@ -32,14 +32,14 @@ pub enum Number {
     Refused(u8),
 }
 
-// The setting of an id.
+// Returns the setting of an id, or none.
 pub fn find(id: u16) -> Found
     ensures { λ r. ⌜ r ≡ finding id ⌝ }
 {
     at(columns::place_of(id))
 }
 
-// The setting at a place of the table, or none past it.
+// Returns the setting at a place of the table, or none past its end.
 pub fn at(index: usize) -> Found
     ensures { λ r. ⌜ r ≡ placing index ⌝ }
 {
@@ -49,8 +49,8 @@ pub fn at(index: usize) -> Found
     Found::At(setting_at(index))
 }
 
-// The setting at a place of the table, for a caller who knows that there is one. Past the table it is one with neither id nor width, whose
-// partner is past the table too.
+// Returns the setting at a place of the table, for a caller who knows that there is one. Past the table it is one with neither id nor
+// width, whose partner is past the table too.
 pub fn setting_at(index: usize) -> Setting
     ensures { λ r. ⌜ r ≡ settingAt index ⌝ }
 {
@@ -70,7 +70,7 @@ pub fn setting_at(index: usize) -> Setting
     }
 }
 
-// Whether a number is in the own range of the setting at a place; of none past the table.
+// Returns whether a number is in the setting's own range; false past the end of the table.
 pub fn in_range(index: usize, number: u16) -> bool
     ensures { λ r. ⌜ r ≡ ranging index number ⌝ }
 {
@@ -80,7 +80,7 @@ pub fn in_range(index: usize, number: u16) -> bool
     rules::in_range(index, number)
 }
 
-// Whether a number is allowed for the setting at a place while its partner holds another; none is past the table.
+// Returns whether a number is allowed for a setting while its partner holds another; false past the end of the table.
 pub fn allows(index: usize, number: u16, partner: u16) -> bool
     ensures { λ r. ⌜ r ≡ allowing index number partner ⌝ }
 {
@@ -90,8 +90,8 @@ pub fn allows(index: usize, number: u16, partner: u16) -> bool
     rules::allowed_for(index, number, partner)
 }
 
-// The nearest allowed number for a setting, given its partner's number: 7 for an id that is no setting, 12 for a partner outside its
-// own range. The partner's number is unused where there is no partner.
+// Returns the nearest allowed number for a setting, given its partner's number: 7 for an id that is no setting, 12 for a partner's number
+// outside its own range. The partner's number is unused where there is no partner.
 pub fn nearest(id: u16, wished: u16, partner: u16) -> Number
     ensures { λ r. ⌜ r ≡ nearing id wished partner ⌝ }
 {
@@ -105,15 +105,15 @@ pub fn nearest(id: u16, wished: u16, partner: u16) -> Number
     Number::Is(window::nearest_of(index, wished, partner))
 }
 
-// Whether every number is in its own range and every pair agrees. The numbers of all settings are asked about at once, because a column
-// that is named is made anew.
+// Returns whether every number is in its own range and every pair agrees. It takes all numbers at once, because each use of a constant
+// column makes the whole array anew.
 pub fn all_allowed(numbers: [u16; COUNT]) -> bool
     ensures { λ r. ⌜ r ≡ allAllowed numbers ⌝ }
 {
     rules::all_in_range(numbers) & rules::all_agree(numbers)
 }
 
-// The factory numbers of all settings.
+// Returns the factory numbers of all settings.
 pub fn factory_numbers() -> [u16; COUNT]
     ensures { λ r. ⌜ r ≡ factories ⌝ }
 {

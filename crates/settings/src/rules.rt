@@ -1,4 +1,4 @@
-// The rules over the table: a setting's own range, the pair rule, and what is allowed.
+// Document 01's rules for a number: a setting's own range, the pair rule, and both together.
 ghost use Prim.Native.Nat.{_<_};
 ghost use mathlib.Core.Path.{_≡_};
 ghost use mathlib.Core.Bool.{not, _&&_, _||_};
@@ -11,14 +11,14 @@ use crate::COUNT;
 use crate::columns;
 use crate::columns::Role;
 
-// A number in a window: from low to high, or 0 where that is allowed besides.
+// Returns whether a number is in a window: from low to high, or 0 where that is allowed besides.
 fn in_window(zero_too: bool, low: u16, high: u16, n: u16) -> bool
     ensures { λ r. ⌜ r ≡ inWindow «zero_too» low high n ⌝ }
 {
     (zero_too & (n == 0)) | ((low <= n) & (n <= high))
 }
 
-// A number in the setting's own range.
+// Returns whether a number is in the setting's own range.
 pub(crate) fn in_range(index: usize, n: u16) -> bool
     requires { ⌜ index < count ⌝ }
     ensures { λ r. ⌜ r ≡ inRange index n ⌝ }
@@ -31,21 +31,21 @@ pub(crate) fn in_range(index: usize, n: u16) -> bool
     )
 }
 
-// A low pair: the first is at most the second.
+// Returns whether a low pair agrees: the first is at most the second.
 fn low_agrees(first: u16, second: u16) -> bool
     ensures { λ r. ⌜ r ≡ lowAgrees first second ⌝ }
 {
     first <= second
 }
 
-// A high pair: the first is at least the second.
+// Returns whether a high pair agrees: the first is at least the second.
 fn high_agrees(first: u16, second: u16) -> bool
     ensures { λ r. ⌜ r ≡ highAgrees first second ⌝ }
 {
     second <= first
 }
 
-// Whether a number agrees with the partner's, by the setting's part in its pair.
+// Returns whether a number agrees with the partner's, by the setting's part in its pair.
 pub(crate) fn agrees_by(role: Role, n: u16, partner: u16) -> bool
     ensures { λ r. ⌜ r ≡ agrees role n partner ⌝ }
 {
@@ -58,7 +58,7 @@ pub(crate) fn agrees_by(role: Role, n: u16, partner: u16) -> bool
     }
 }
 
-// A number that is allowed for a setting while its partner holds another.
+// Returns whether a number is allowed for a setting while its partner holds another.
 pub(crate) fn allowed_for(index: usize, n: u16, partner: u16) -> bool
     requires { ⌜ index < count ⌝ }
     ensures { λ r. ⌜ r ≡ allowedFor index n partner ⌝ }
@@ -66,7 +66,7 @@ pub(crate) fn allowed_for(index: usize, n: u16, partner: u16) -> bool
     in_range(index, n) & agrees_by(columns::role_of(index), n, partner)
 }
 
-// A partner's number that may be handed in: in the partner's own range, or any where there is no partner.
+// Returns whether a partner's number may be handed in: it is in the partner's own range, or there is no partner.
 pub(crate) fn is_fit(index: usize, partner: u16) -> bool
     requires { ⌜ index < count ⌝ }
     ensures { λ r. ⌜ r ≡ partnerFits index partner ⌝ }
@@ -75,7 +75,7 @@ pub(crate) fn is_fit(index: usize, partner: u16) -> bool
     (other == index) | in_range(other, partner)
 }
 
-// Every number is in its own range. The columns are fetched once, and not again for each number.
+// Returns whether every number is in its own range. Each column is made once, and not again for each number.
 pub(crate) fn all_in_range(numbers: [u16; COUNT]) -> bool
     ensures { λ r. ⌜ r ≡ upTo count (λ k. inRange k (getD numbers k 0)) ⌝ }
 {
@@ -91,7 +91,7 @@ pub(crate) fn all_in_range(numbers: [u16; COUNT]) -> bool
     all
 }
 
-// The first of a low pair.
+// Returns whether a setting is the first of a low pair.
 fn is_low_first(role: Role) -> bool
     ensures { λ r. ⌜ r ≡ isLowFirst role ⌝ }
 {
@@ -104,7 +104,7 @@ fn is_low_first(role: Role) -> bool
     }
 }
 
-// The first of a high pair.
+// Returns whether a setting is the first of a high pair.
 fn is_high_first(role: Role) -> bool
     ensures { λ r. ⌜ r ≡ isHighFirst role ⌝ }
 {
@@ -117,16 +117,16 @@ fn is_high_first(role: Role) -> bool
     }
 }
 
-// Whether a setting agrees with the one after it, if that is its partner. There is no branch, so that the compiler may look at many at a
-// time.
+// Returns whether a setting agrees with the one after it, if that is its partner. It has no branch, so that the compiler may look at many
+// settings at a time.
 fn agrees_next(role: Role, n: u16, next: u16) -> bool
     ensures { λ r. ⌜ r ≡ ((not (isLowFirst role) || lowAgrees n next) && (not (isHighFirst role) || highAgrees n next)) ⌝ }
 {
     (!is_low_first(role) | low_agrees(n, next)) & (!is_high_first(role) | high_agrees(n, next))
 }
 
-// Every number agrees with its partner's. The two of a pair are neighbours: the first is asked about the number after it, and the second
-// agrees when it does.
+// Returns whether every number agrees with its partner's. The two of a pair are neighbours, so only the first is compared with the number
+// after it: the second then agrees too.
 pub(crate) fn all_agree(numbers: [u16; COUNT]) -> bool
     ensures { λ r. ⌜ r ≡ upTo count (λ k. agrees (roleAt k) (getD numbers k 0) (getD numbers (partnerAt k) 0)) ⌝ }
 {

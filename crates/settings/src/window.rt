@@ -17,21 +17,21 @@ pub(crate) struct Window {
     pub(crate) high: u16,
 }
 
-// The smaller of two numbers.
+// Returns the smaller of two numbers.
 fn least(a: u16, b: u16) -> u16
     ensures { λ r. ⌜ r ≡ min a b ⌝ }
 {
     if a < b { a } else { b }
 }
 
-// The larger of two numbers.
+// Returns the larger of two numbers.
 fn most(a: u16, b: u16) -> u16
     ensures { λ r. ⌜ r ≡ max a b ⌝ }
 {
     if a < b { b } else { a }
 }
 
-// What of a window is at most a number: 0 is.
+// Returns the part of a window that is at most a number. 0 stays, for it is at most any.
 fn at_most(window: Window, top: u16) -> Window
     ensures { λ r. ⌜ r ≡ record { zero = window .zero; low = window .low; high = min (window .high) top } ⌝ }
 {
@@ -42,7 +42,7 @@ fn at_most(window: Window, top: u16) -> Window
     }
 }
 
-// What of a window is at least a number.
+// Returns the part of a window that is at least a number.
 fn at_least(window: Window, bottom: u16) -> Window
     ensures { λ r. ⌜ r ≡ record { zero = window .zero && eqb bottom 0; low = max (window .low) bottom; high = window .high } ⌝ }
 {
@@ -53,7 +53,7 @@ fn at_least(window: Window, bottom: u16) -> Window
     }
 }
 
-// What is allowed for a setting while its partner holds a number: its own range, cut by the pair rule.
+// Returns what is allowed for a setting while its partner holds a number: its own range, cut by the pair rule.
 fn window_of(index: usize, partner: u16) -> Window
     requires { ⌜ index < count ⌝ }
     ensures { λ r. ⌜ ((n : ℕ) → inWindow (r .zero) (r .low) (r .high) n ≡ allowedFor index n partner) ⌝ }
@@ -73,14 +73,14 @@ fn window_of(index: usize, partner: u16) -> Window
     }
 }
 
-// How far two numbers are apart.
+// Returns how far two numbers are apart.
 fn distance_of(a: u16, b: u16) -> u16
     ensures { λ r. ⌜ r ≡ distance a b ⌝ }
 {
     if a < b { b - a } else { a - b }
 }
 
-// The nearest of some numbers in a row.
+// Returns the number from low to high that is nearest to the wished one.
 fn clamped(low: u16, high: u16, wished: u16) -> u16
     requires { ⌜ low ≤ high ⌝ }
     ensures { λ r. ⌜ NearestIn (inWindow false low high) wished r ⌝ }
@@ -94,7 +94,7 @@ fn clamped(low: u16, high: u16, wished: u16) -> u16
     wished
 }
 
-// 0 where it is at least as near to the wished number as another, else the other.
+// Returns 0 where it is at least as near to the wished number as another, else the other.
 fn or_zero(other: u16, wished: u16) -> u16
     ensures { λ r. ⌜ r ≡ cond (leb wished (distance other wished)) 0 other ⌝ }
 {
@@ -104,7 +104,7 @@ fn or_zero(other: u16, wished: u16) -> u16
     other
 }
 
-// The nearest number of a window that is not empty.
+// Returns the nearest number of a window that is not empty.
 fn closest(window: Window, wished: u16) -> u16
     requires { ⌜ (window .zero || leb (window .low) (window .high)) ≡ true ⌝ }
     ensures { λ r. ⌜ NearestIn (inWindow (window .zero) (window .low) (window .high)) wished r ⌝ }
@@ -119,7 +119,7 @@ fn closest(window: Window, wished: u16) -> u16
     other
 }
 
-// The nearest allowed number, for a partner's number in its own range.
+// Returns the nearest allowed number, for a partner's number in its own range.
 pub(crate) fn nearest_of(index: usize, wished: u16, partner: u16) -> u16
     requires { ⌜ (index < count) × (partnerFits index partner ≡ true) ⌝ }
     ensures { λ r. ⌜ r ≡ nearestOf index wished partner ⌝ }

@@ -1,5 +1,5 @@
-// The stream of document 01, read piece by piece, for both ends of the line. Every call takes anything, and its promise fixes its answer
-// and every lent byte (specs/Calls.antt).
+// The stream of document 01, read piece by piece, for both ends of the serial line. Every call takes anything, and its promise fixes its
+// answer and every lent byte (specs/Calls.antt).
 ghost use Rattle.laws.specs.Promise.{Gives};
 ghost use Rattle.stream.specs.Calls.{hearing, heldOf, allowed};
 ghost use Rattle.stream.specs.Stream.{outside};
@@ -11,7 +11,7 @@ mod numbers;
 mod pieces;
 mod unfinished;
 
-// The unfinished frame between two calls: whether there is one, and the characters since its colon. 74 of them say "over 73".
+// The unfinished frame between two calls: whether there is one, and the characters since its colon. 74 of them mean "over 73".
 pub struct Held {
     pub inside: bool,
     pub len: usize,
@@ -34,7 +34,7 @@ pub struct Heard {
 }
 
 impl Held {
-    // No frame is unfinished: where every reading starts.
+    // Returns the state in which no frame is unfinished, with which every stream starts.
     pub fn outside() -> Held
         ensures { λ r. ⌜ r ≡ heldOf outside ⌝ }
     {
@@ -45,15 +45,15 @@ impl Held {
         }
     }
 
-    // Whether some bytes leave this state.
+    // Returns whether this is a state that some bytes leave.
     pub fn is_allowed(self) -> bool
         ensures { λ r. ⌜ r ≡ allowed self ⌝ }
     {
         unfinished::is_allowed(self)
     }
 
-    // Reads on in the stream: stops after the first byte that ends a frame, or takes the whole piece. Refuses 11 under 35 bytes of
-    // room, then 12 for a state that no bytes could have left.
+    // Reads on in the stream: stops after the first byte that ends a frame, or takes the whole piece. Refuses 11 under 35 bytes of room,
+    // then 12 for a state that no bytes could have left.
     pub fn hear(self, piece: &[u8], into: &mut [u8]) -> Heard
         ensures { λ r. ⌜ Gives Heard (hearing self (now (piece .entry)) (length (now (into .entry)))) (now (into .entry)) r (now (into .exit)) ⌝ }
     {

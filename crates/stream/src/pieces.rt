@@ -1,4 +1,4 @@
-// The stream, read piece by piece.
+// How a piece of the stream is read, inside a frame and outside one, up to the first byte that ends a frame.
 ghost use Prim.Native.Nat.{_≤_};
 ghost use mathlib.Core.Path.{_≡_};
 ghost use mathlib.Core.Bool.{true, _||_};
@@ -18,7 +18,7 @@ use crate::Held;
 use crate::unfinished;
 use wire::Read;
 
-// A refused call: the state comes back as it was, nothing is taken.
+// Refuses a call: the state comes back as it was, and nothing is taken.
 pub(crate) fn refused(held: Held, number: u8) -> Heard
     ensures { λ r. ⌜ r ≡ unheard held number .answer ⌝ }
 {
@@ -29,7 +29,7 @@ pub(crate) fn refused(held: Held, number: u8) -> Heard
     }
 }
 
-// The place of the first byte that is `one` or `other`, or the length.
+// Returns the place of the first byte that is `one` or `other`, or the length.
 fn first_of(piece: &[u8], one: u8, other: u8) -> usize
     ensures { λ r. ⌜ r ≡ before (λ b. eqb b one || eqb b other) (now (piece .entry)) ⌝ }
 {
@@ -47,7 +47,7 @@ fn first_of(piece: &[u8], one: u8, other: u8) -> usize
     i
 }
 
-// What an ended frame is on the stream.
+// Returns what happened on the stream when a frame has ended.
 fn event_of(read: Read) -> Event
     ensures { λ r. ⌜ r ≡ eventFrom read ⌝ }
 {
@@ -57,7 +57,7 @@ fn event_of(read: Read) -> Event
     }
 }
 
-// A frame that a colon broke after this many characters: 1 if they are over 73, else 2.
+// Returns the refusal of a frame that a colon broke after this many characters: 1 if they are over 73, else 2.
 fn broken(len: usize) -> Event
     ensures { λ r. ⌜ r ≡ eventFrom (readAs (brokenSays len) .answer) ⌝ }
 {
@@ -67,7 +67,7 @@ fn broken(len: usize) -> Event
     Event::Refused(paper::NO_DIGIT)
 }
 
-// The call inside a frame.
+// Reads a piece inside a frame: the characters up to the next newline or colon belong to that frame.
 fn in_frame(held: Held, piece: &[u8], into: &mut [u8]) -> Heard
     requires { ⌜ (allowed held ≡ true) × (held .inside ≡ true) × (35 ≤ length (now into)) ⌝ }
     ensures { λ r. ⌜ Gives Heard (heardOf (unfinished held) (now (piece .entry))) (now (into .entry)) r (now (into .exit)) ⌝ }
@@ -100,7 +100,7 @@ fn in_frame(held: Held, piece: &[u8], into: &mut [u8]) -> Heard
     }
 }
 
-// The call right after a colon: a frame that ends within the piece is read where it is, and nothing of it is held.
+// Reads a piece right after a colon. A frame that ends within the piece is parsed in place, and nothing of it is held.
 fn fresh(piece: &[u8], into: &mut [u8]) -> Heard
     requires { ⌜ 35 ≤ length (now into) ⌝ }
     ensures { λ r. ⌜ Gives Heard (heardOf (inside []) (now (piece .entry))) (now (into .entry)) r (now (into .exit)) ⌝ }
@@ -129,7 +129,7 @@ fn fresh(piece: &[u8], into: &mut [u8]) -> Heard
     }
 }
 
-// The call on an allowed state with room enough: outside a frame all is skipped up to the first colon.
+// Reads a piece from an allowed state with enough room. Outside a frame, all bytes up to the first colon are skipped.
 pub(crate) fn heard(held: Held, piece: &[u8], into: &mut [u8]) -> Heard
     requires { ⌜ (allowed held ≡ true) × (35 ≤ length (now into)) ⌝ }
     ensures { λ r. ⌜ Gives Heard (heardOf (unfinished held) (now (piece .entry))) (now (into .entry)) r (now (into .exit)) ⌝ }

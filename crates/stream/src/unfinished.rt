@@ -11,7 +11,7 @@ ghost use Rattle.stream.specs.Stream.{inside};
 use crate::Held;
 use crate::numbers;
 
-// Neither a newline nor a colon is among the characters. No early way out, so that the compiler may look at many at a time.
+// Returns whether all characters stay in their frame. It has no early return, so that the compiler may look at many at a time.
 fn all_stay(chars: &[u8]) -> bool
     ensures { λ r. ⌜ r ≡ every stays (now (chars .entry)) ⌝ }
 {
@@ -24,7 +24,7 @@ fn all_stay(chars: &[u8]) -> bool
     all
 }
 
-// Every byte is 0.
+// Returns whether every byte is 0.
 fn all_zero(bytes: &[u8]) -> bool
     ensures { λ r. ⌜ r ≡ every (eqb 0) (now (bytes .entry)) ⌝ }
 {
@@ -37,7 +37,7 @@ fn all_zero(bytes: &[u8]) -> bool
     all
 }
 
-// Neither a newline nor a colon: a character that stays in its frame.
+// Returns whether a character stays in its frame: it is neither a newline nor a colon.
 fn stays_in(b: u8) -> bool
     ensures { λ r. ⌜ r ≡ stays b ⌝ }
 {
@@ -47,7 +47,7 @@ fn stays_in(b: u8) -> bool
     b != paper::COLON
 }
 
-// Characters are held inside a frame alone.
+// Returns whether characters are held inside a frame alone.
 fn inside_or_empty(inside: bool, len: usize) -> bool
     ensures { λ r. ⌜ r ≡ (inside || eqb len 0) ⌝ }
 {
@@ -57,7 +57,7 @@ fn inside_or_empty(inside: bool, len: usize) -> bool
     len == 0
 }
 
-// A state that some bytes leave.
+// Returns whether a state is one that some bytes leave.
 pub(crate) fn is_allowed(held: Held) -> bool
     ensures { λ r. ⌜ r ≡ allowed held ⌝ }
 {
@@ -73,14 +73,14 @@ pub(crate) fn is_allowed(held: Held) -> bool
     all_stay(&chars[..len]) && all_zero(&chars[len..])
 }
 
-// The smaller of two numbers.
+// Returns the smaller of two numbers.
 fn least(a: usize, b: usize) -> usize
     ensures { λ r. ⌜ r ≡ min a b ⌝ }
 {
     if a < b { a } else { b }
 }
 
-// The frame that a colon has just begun.
+// Returns the frame that a colon has just begun.
 pub(crate) fn begun() -> Held
     ensures { λ r. ⌜ r ≡ heldOf (inside []) ⌝ }
 {
@@ -91,7 +91,7 @@ pub(crate) fn begun() -> Held
     }
 }
 
-// The unfinished frame with some more characters, of which none is kept past the 74th.
+// Returns the unfinished frame with some more characters, of which none is kept past the 74th.
 pub(crate) fn with_more(held: Held, more: &[u8]) -> Held
     requires { ⌜ (allowed held ≡ true) × (held .inside ≡ true) ⌝ }
     ensures { λ r. ⌜ r ≡ heldOf (inside (take (held .len) (held .chars) ++ now (more .entry))) ⌝ }

@@ -18,7 +18,7 @@ pub struct Table {
     pub numbers: [u16; COUNT],
 }
 
-// What a Set of one setting comes to: accepted, or the number of the refusal and, with 10, the nearest allowed number.
+// The answer to a Set of one setting: accepted, or the number of the refusal and, with 10, the nearest allowed number.
 pub enum Answer {
     Accepted,
     Refused { number: u8, nearest: u16 },
@@ -31,7 +31,7 @@ pub struct Change {
 }
 
 impl Table {
-    // The factory table.
+    // Returns the factory table.
     pub fn factory() -> Table
         ensures { λ r. ⌜ r ≡ factory ⌝ }
     {
@@ -40,7 +40,7 @@ impl Table {
         }
     }
 
-    // Every number is in its own range, and every pair agrees.
+    // Returns whether every number is in its own range and every pair agrees.
     pub fn is_allowed(self) -> bool
         ensures { λ r. ⌜ r ≡ allowed self ⌝ }
     {
@@ -48,8 +48,8 @@ impl Table {
         settings::all_allowed(numbers)
     }
 
-    // A Set of one setting: accepted with the new table, or refused 10 with the nearest allowed number; 12 for a table that is not
-    // allowed or a place past it.
+    // Sets one setting: accepted with the new table, or refused 10 with the nearest allowed number; 12 for a table that is not allowed or a
+    // place past its end.
     pub fn set(self, index: usize, number: u16) -> Change
         ensures { λ r. ⌜ r ≡ setTo self index number ⌝ }
     {
@@ -64,7 +64,7 @@ impl Table {
     }
 }
 
-// A Set of a setting of the table.
+// Sets a setting of an allowed table.
 fn set_found(table: Table, setting: Setting, number: u16) -> Change
     requires { ⌜ (allowed table ≡ true) × (placing (setting .index) ≡ Found.At setting) ⌝ }
     ensures { λ r. ⌜ r ≡ setTo table (setting .index) number ⌝ }
@@ -87,7 +87,7 @@ fn set_found(table: Table, setting: Setting, number: u16) -> Change
     }
 }
 
-// The nearest allowed number of a setting of the table, for a partner's number in its own range: then there is one.
+// Returns the nearest allowed number of a setting. For a partner's number in its own range there always is one.
 fn nearest_of(setting: Setting, wished: u16, partner: u16) -> u16
     requires { ⌜ (placing (setting .index) ≡ Found.At setting) × (partnerFits (setting .index) partner ≡ true) ⌝ }
     ensures { λ r. ⌜ r ≡ nearestOf (setting .index) wished partner ⌝ }
@@ -99,7 +99,7 @@ fn nearest_of(setting: Setting, wished: u16, partner: u16) -> u16
     }
 }
 
-// A refused Set leaves the table as it was.
+// Refuses a Set, with the table as it was.
 fn refused(table: Table, number: u8, nearest: u16) -> Change
     ensures { λ r. ⌜ r ≡ record { answer = Answer.Refused number nearest; table = table } ⌝ }
 {

@@ -30,14 +30,14 @@ pub struct Counted {
 }
 
 impl Tally {
-    // No trailer yet.
+    // Returns the tally of no trailer.
     pub fn nothing() -> Tally
         ensures { λ r. ⌜ r ≡ nothing ⌝ }
     {
         share::tally_of(0, 0, 0, 0, 0)
     }
 
-    // Whether no count is over a million.
+    // Returns whether no count is over a million.
     pub fn is_allowed(self) -> bool
         ensures { λ r. ⌜ r ≡ tallyAllowed self ⌝ }
     {
@@ -50,8 +50,8 @@ impl Tally {
             & (self.due <= numbers::MOST)
     }
 
-    // A trailer whose restore was followed to its end; `answered` says that a follower which stopped heard another answer, and not none.
-    // Refuses 12 for a tally with a count over a million, and for a follower that no start and events give or that still waits.
+    // Counts a trailer whose restore was followed to its end; `answered` says that a follower which stopped heard another answer, and not
+    // none. Refuses 12 for a tally with a count over a million, and for a follower that no start and events give or that still waits.
     pub fn restored(self, follower: Follower, answered: bool) -> Counted
         ensures { λ r. ⌜ r ≡ counting self (results.restored follower answered) ⌝ }
     {
@@ -61,7 +61,7 @@ impl Tally {
         sums::with_follower(self, follower, answered)
     }
 
-    // A trailer that gave no answer while it was read. Refuses 12 alike for the tally.
+    // Counts a trailer that gave no answer while its settings were asked for. Refuses 12 for a tally with a count over a million.
     pub fn silent(self) -> Counted
         ensures { λ r. ⌜ r ≡ counting self results.silent ⌝ }
     {
@@ -71,7 +71,8 @@ impl Tally {
         sums::accepted(sums::plus(self, share::tally_of(0, 0, 0, 1, 0)))
     }
 
-    // A trailer that was not begun: its file was refused, or its line could not be opened. Refuses 12 alike for the tally.
+    // Counts a trailer that was not begun: its file was refused, or its serial line could not be opened. Refuses 12 for a tally with a
+    // count over a million.
     pub fn not_begun(self) -> Counted
         ensures { λ r. ⌜ r ≡ counting self results.notBegun ⌝ }
     {

@@ -1,4 +1,2 @@
-// The numbers of the yard's sums.
-
-// No count of a tally that is handed in is over a million (ours).
+// The most that a count of a tally may be when it is handed in (ours), so that no sum overflows.
 pub(crate) const MOST: usize = 1_000_000;

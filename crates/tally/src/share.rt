@@ -4,7 +4,7 @@ ghost use Rattle.tally.specs.Results.{tallyOf, endedAs, stoppedAs, hasEn
 use crate::Tally;
 use follow::Standing;
 
-// This many trailers of each kind, and no Set.
+// Returns a tally of this many trailers of each kind, and no Set.
 pub(crate) fn tally_of(
     done: usize,
     equal: usize,
@@ -25,7 +25,7 @@ pub(crate) fn tally_of(
     }
 }
 
-// Whether a follower has come to an end.
+// Returns whether a follower has come to an end.
 pub(crate) fn has_ended(standing: Standing) -> bool
     ensures { λ r. ⌜ r ≡ hasEnded standing ⌝ }
 {
@@ -38,7 +38,7 @@ pub(crate) fn has_ended(standing: Standing) -> bool
     }
 }
 
-// A restore that stopped: at another answer, or at none.
+// Returns the share of a restore that stopped: at another answer, or at none.
 fn stopped_as(answered: bool) -> Tally
     ensures { λ r. ⌜ r ≡ stoppedAs answered ⌝ }
 {
@@ -48,7 +48,7 @@ fn stopped_as(answered: bool) -> Tally
     tally_of(0, 0, 0, 1, 0)
 }
 
-// One trailer, by where its follower is.
+// Returns the share of one trailer, without its Sets, by how far its follower is.
 fn ended_as(standing: Standing, answered: bool) -> Tally
     ensures { λ r. ⌜ r ≡ endedAs standing answered ⌝ }
 {
@@ -61,7 +61,7 @@ fn ended_as(standing: Standing, answered: bool) -> Tally
     }
 }
 
-// One trailer with its Sets: what its follower counted, and what was due.
+// Returns the share of one trailer with its Sets: those that its follower counted, and those that were due.
 pub(crate) fn share_of(standing: Standing, answered: bool, confirmed: usize, due: usize) -> Tally
     ensures { λ r. ⌜ r ≡ withSets (endedAs standing answered) confirmed due ⌝ }
 {

@@ -1,4 +1,4 @@
-// The sums themselves.
+// How a trailer is counted: with its follower's own numbers.
 ghost use mathlib.Core.Path.{_≡_};
 ghost use mathlib.Core.Bool.{true};
 ghost use Rattle.tally.specs.Results.{tallyAllowed, plus, restored};
@@ -11,7 +11,7 @@ use follow::Follower;
 use restore::Sets;
 use who::Verdict;
 
-// Count by count.
+// Returns the sum of two tallies, count by count.
 pub(crate) fn plus(tally: Tally, share: Tally) -> Tally
     requires { ⌜ Within tally × Within share ⌝ }
     ensures { λ r. ⌜ r ≡ plus tally share ⌝ }
@@ -27,7 +27,7 @@ pub(crate) fn plus(tally: Tally, share: Tally) -> Tally
     }
 }
 
-// 12: the tally as it was.
+// Refuses a trailer by 12, with the tally as it was.
 pub(crate) fn refused(tally: Tally) -> Counted
     ensures { λ r. ⌜ r ≡ calls.uncounted tally ⌝ }
 {
@@ -37,7 +37,7 @@ pub(crate) fn refused(tally: Tally) -> Counted
     }
 }
 
-// One more trailer in the tally.
+// Returns the tally, with the trailer counted.
 pub(crate) fn accepted(tally: Tally) -> Counted
     ensures { λ r. ⌜ r ≡ calls.counted tally ⌝ }
 {
@@ -47,7 +47,7 @@ pub(crate) fn accepted(tally: Tally) -> Counted
     }
 }
 
-// A trailer by its follower's own word, with the Sets that it counted and those that were due.
+// Counts a trailer by its follower's own result, with the Sets that it counted and those that were due.
 pub(crate) fn with_follower(tally: Tally, follower: Follower, answered: bool) -> Counted
     requires { ⌜ tallyAllowed tally ≡ true ⌝ }
     ensures { λ r. ⌜ r ≡ calls.counting tally (restored follower answered) ⌝ }

@@ -1,5 +1,5 @@
-// A board as a program, for trying the box on: it reads a line and answers on it as the proved board does, and at the end of the input
-// writes its settings as a backup text. It decides nothing itself. Arguments, `-` or none for what is named last:
+// A board as a program, to try the box on: it reads a serial line and answers on it as the proved board does, and at the end of the input
+// writes its settings as a backup text. It decides nothing itself. Where an argument is `-` or missing, it takes what is named last:
 //
 //     trailer LINE START END PRODUCT VERSION SERIAL
 //

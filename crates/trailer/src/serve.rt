@@ -2,7 +2,7 @@ ghost use Prim.Native.Nat.{_≤_};
 use crate::words;
 use board::Board;
 
-// A device that said nothing in this many reads, a second each, is done with: a day.
+// How many reads of a second each may give nothing before a device is given up: a day.
 const MOST_QUIET: usize = 86400;
 
 // The board after a read, and what the read gave: bytes, nothing, or an end.
@@ -17,7 +17,7 @@ struct Step {
     taken: usize,
 }
 
-// Takes bytes as far as a frame's end, and sends the reply.
+// Takes bytes up to a frame's end, and sends the reply.
 fn answer_one(board: Board, rest: &[u8], output: i32) -> Step {
     let mut reply = [0u8; paper::FRAME_ROOM];
     let answered = board.answer(rest, &mut reply);
@@ -29,7 +29,7 @@ fn answer_one(board: Board, rest: &[u8], output: i32) -> Step {
     }
 }
 
-// Answers all frames of a piece. Every call takes a byte at least, so there are as many turns as bytes.
+// Answers all frames of a piece. Every call takes at least one byte, so there are no more turns than bytes.
 fn answer_all(board: Board, piece: &[u8], output: i32) -> Board {
     let mut board = board;
     let mut at = 0;
@@ -51,7 +51,7 @@ fn forward(at: usize, by: usize, end: usize) -> usize
     if by < end - at { at + by } else { end }
 }
 
-// Reads once and answers.
+// Reads once, and answers what was read.
 fn turn(board: Board, input: i32, output: i32) -> Turned {
     let mut piece = io::buffer();
     let got = libc::read(input, &mut piece);
@@ -77,7 +77,7 @@ pub(crate) fn pipe(board: Board) -> Board {
     board
 }
 
-// Serves a device, until it fails or is silent for a day. (A read that gives nothing is a second of silence there.)
+// Serves a device, until it fails or is silent for a day. A read that gives nothing is a second of silence there.
 pub(crate) fn device(board: Board, fd: i32) -> Board {
     let mut board = board;
     let mut quiet = MOST_QUIET;

@@ -22,7 +22,7 @@ struct Chosen {
     table: Table,
 }
 
-// Returns no board: why is said already.
+// Returns no board. The reason has been said already.
 fn none() -> Begun {
     let judged = Board::start_factory(0, 0, &[]);
     let board = judged.board;
@@ -32,7 +32,7 @@ fn none() -> Begun {
     }
 }
 
-// Returns the number of a word, and complains where it is none.
+// Returns the number of an argument, and says so where it is none.
 fn number(place: usize, otherwise: u16) -> words::Number {
     let mut text = io::buffer();
     let len = words::word(place, &mut text);
@@ -43,7 +43,7 @@ fn number(place: usize, otherwise: u16) -> words::Number {
     number
 }
 
-// Returns the board that the words ask for, or none and says why.
+// Returns the board that the arguments ask for, or none and says why.
 pub(crate) fn board() -> Begun {
     let chosen = table();
     if !chosen.ready {
@@ -61,7 +61,7 @@ pub(crate) fn board() -> Begun {
     named(product.number, version.number, table)
 }
 
-// Starts the board with the serial of the words.
+// Starts the board with the serial that the arguments ask for.
 fn named(product: u16, version: u16, table: Table) -> Begun {
     let mut serial = io::buffer();
     let len = words::word(words::SERIAL, &mut serial);
@@ -84,7 +84,7 @@ fn judged_start(judged: Handed) -> Begun {
     }
 }
 
-// Returns no table: why is said already.
+// Returns no table. The reason has been said already.
 fn no_table() -> Chosen {
     Chosen {
         ready: false,
@@ -92,7 +92,7 @@ fn no_table() -> Chosen {
     }
 }
 
-// Returns the table that the words ask for, or none and says why.
+// Returns the table that the arguments ask for, or none and says why.
 fn table() -> Chosen {
     let mut path = io::buffer();
     let len = words::word(words::START, &mut path);

@@ -1,6 +1,6 @@
 ghost use Rattle.io.specs.Counts.{Counts};
 
-// Their places.
+// The places of the arguments.
 pub(crate) const LINE: usize = 1;
 
 pub(crate) const START: usize = 2;
@@ -21,14 +21,14 @@ pub(crate) struct Number {
     pub(crate) number: u16,
 }
 
-// Puts a word at the front of `out` and returns its length: 0 where there is none.
+// Puts an argument at the front of `out` and returns its length: 0 where there is none.
 pub(crate) fn word(place: usize, out: &mut [u8]) -> usize
     ensures { λ r. ⌜ Counts r (now (out .exit)) ⌝ }
 {
     os::arg(place, out)
 }
 
-// Returns whether a word leaves the choice to the program: none, or a minus alone.
+// Returns whether an argument leaves the choice to the program: none, or a minus alone.
 pub(crate) fn is_left_out(word: &[u8]) -> bool {
     if word.len() == 0 {
         return true;
@@ -36,7 +36,7 @@ pub(crate) fn is_left_out(word: &[u8]) -> bool {
     word.len() == 1 && word[0] == b'-'
 }
 
-// Returns the nibble of a digit, of which A to F may be small, or 16.
+// Returns the nibble of a digit, of which A to F may be lower case, or 16.
 fn nibble(c: u8) -> u16 {
     if b'0' <= c && c <= b'9' {
         return (c - b'0') as u16;
@@ -50,7 +50,7 @@ fn nibble(c: u8) -> u16 {
     NO_NIBBLE
 }
 
-// Returns the number that a word of four hex digits is, or the one to take where the word is left out.
+// Returns the number that four hex digits are, or the one to take where the argument is left out.
 pub(crate) fn hex(word: &[u8], otherwise: u16) -> Number {
     if is_left_out(word) {
         return Number {
@@ -77,7 +77,7 @@ fn none() -> Number {
     }
 }
 
-// Returns four nibbles as one number.
+// Returns four nibbles as one number, or none where one of them is no nibble.
 fn joined(a: u16, b: u16, c: u16, d: u16) -> Number {
     if NO_NIBBLE <= a {
         return none();

@@ -1,4 +1,4 @@
-// The words of a row as what a call takes.
+// The words of a row, as a call takes them.
 use crate::bytes_of;
 use crate::bytes_of::SPACE;
 use crate::numbers;
@@ -7,7 +7,7 @@ use crate::parts::BLANK;
 use crate::parts::start_of;
 use bytes::scan::find;
 
-// The first character of a word; 0 of no word.
+// Returns the first character of a word, and 0 where there is no such word.
 pub fn letter(row: &[u8], k: usize) -> u8 {
     let at = start_of(row, BLANK, k);
     if at < row.len() {
@@ -16,7 +16,7 @@ pub fn letter(row: &[u8], k: usize) -> u8 {
     0
 }
 
-// A number, or 0.
+// Returns a number, and 0 where it is none.
 pub fn or_zero(read: Number) -> usize {
     match read {
         Number::Is(n) => n,
@@ -24,21 +24,21 @@ pub fn or_zero(read: Number) -> usize {
     }
 }
 
-// A word as a number.
+// Returns a word as a number.
 pub fn number(row: &[u8], k: usize) -> usize {
     let from = start_of(row, BLANK, k);
     let to = find(row, from, row.len(), BLANK);
     or_zero(numbers::number_of(&row[from..to]))
 }
 
-// A word as an id.
+// Returns a word as an id.
 pub fn id(row: &[u8], k: usize) -> u16 {
     let from = start_of(row, BLANK, k);
     let to = find(row, from, row.len(), BLANK);
     numbers::id_of(&row[from..to])
 }
 
-// A word as bytes at the front of `into`, and how many.
+// Puts a word as bytes at the front of `into`, and returns how many.
 pub fn bytes(row: &[u8], k: usize, into: &mut [u8; SPACE]) -> usize {
     let from = start_of(row, BLANK, k);
     let to = find(row, from, row.len(), BLANK);

@@ -33,17 +33,17 @@ const CONSUMED: u16 = 0xEEFF;
 
 const CHARGE: u16 = 0x0FFF;
 
-// `board ROOM ITEM ..`: a board with an empty serial, with the settings and readings of the row, handed its other items.
+// Answers `board ROOM ITEM ..`: a board with an empty serial, with the settings and readings of the row, is handed its other items.
 pub fn board(row: &[u8]) {
     pieces(board_of(row, &[]), row, 2, args::number(row, 1));
 }
 
-// `serial ROOM SERIAL PIECE ..`: a board with the factory table and this serial.
+// Answers `serial ROOM SERIAL PIECE ..`: a board with the factory table and this serial is handed the pieces.
 pub fn serial(row: &[u8], serial: &[u8]) {
     pieces(board_of(row, serial), row, 3, args::number(row, 1));
 }
 
-// A board with the settings, allowed or not, and the readings of a row.
+// Returns a board with the settings, allowed or not, and the readings of a row.
 fn board_of(row: &[u8], serial: &[u8]) -> Board {
     let started = Board::start_factory(PRODUCT, VERSION, serial).board;
     let board = started.store(sample(row)).board;
@@ -53,12 +53,12 @@ fn board_of(row: &[u8], serial: &[u8]) -> Board {
     Board { core, held }
 }
 
-// A reading of a row, or 0.
+// Returns a reading of a row, or 0.
 fn reading(row: &[u8], id: u16) -> i64 {
     numbers::as_signed(filled::put_in(row, id, false, 0))
 }
 
-// The readings of a row.
+// Returns the readings of a row.
 fn sample(row: &[u8]) -> Sample {
     Sample {
         voltage: reading(row, VOLTAGE),
@@ -69,7 +69,7 @@ fn sample(row: &[u8]) -> Sample {
     }
 }
 
-// The pieces of a row from a word on.
+// Hands a board the pieces of a row from a word on.
 fn pieces(board: Board, row: &[u8], first: usize, room: usize) {
     let words = count(row);
     let mut after = board;
@@ -82,8 +82,8 @@ fn pieces(board: Board, row: &[u8], first: usize, room: usize) {
     }
 }
 
-// The piece at the front of a space, call after call, what one did not take being handed on, until it is taken or a call takes nothing. A
-// word that puts in a number is no piece.
+// Hands a board the piece at the front of a space, call after call: what one did not take goes to the next, until all is taken or a call
+// takes nothing. A word that puts in a number is no piece, and is skipped.
 fn takes(board: Board, space: [u8; SPACE], len: usize, room: usize) -> Board {
     let mut after = board;
     if SPACE < len {
@@ -104,7 +104,7 @@ fn takes(board: Board, space: [u8; SPACE], len: usize, room: usize) -> Board {
     }
 }
 
-// One call: how many bytes it took, the outcome and the reply.
+// Makes one call, and writes how many bytes it took, the outcome and the reply.
 fn once(board: Board, piece: &[u8], room: usize) -> Answered {
     let mut space = [0u8; SPACE];
     let n = least(room, SPACE);
@@ -113,7 +113,7 @@ fn once(board: Board, piece: &[u8], room: usize) -> Answered {
     answered
 }
 
-// What a call answers.
+// Writes what a call answers.
 fn told(answered: Answered, space: [u8; SPACE]) {
     let met = answered.outcome;
     say::number(answered.taken);
@@ -122,7 +122,7 @@ fn told(answered: Answered, space: [u8; SPACE]) {
     words::say(words::END);
 }
 
-// An outcome.
+// Writes an outcome.
 fn outcome(met: Outcome) {
     match met {
         Outcome::Nothing => words::say(words::NOTHING),
@@ -133,7 +133,7 @@ fn outcome(met: Outcome) {
     }
 }
 
-// Whether a start or a store was accepted.
+// Writes whether a start or a store was accepted.
 fn judged(verdict: Verdict) {
     match verdict {
         Verdict::Accepted => words::say(words::ACCEPTED),
@@ -141,7 +141,8 @@ fn judged(verdict: Verdict) {
     }
 }
 
-// `start PRODUCT VERSION SERIAL SETTING ..`: what comes back, as product, version, serial and the settings that are not the factory's.
+// Answers `start PRODUCT VERSION SERIAL SETTING ..` with what comes back: product, version, serial and the settings that are not the
+// factory's.
 pub fn start(row: &[u8], serial: &[u8]) {
     let table = filled::table_of(row, false);
     let started = Board::start(args::id(row, 1), args::id(row, 2), serial, table);
@@ -152,7 +153,7 @@ pub fn start(row: &[u8], serial: &[u8]) {
     filled::differences(core.table);
 }
 
-// Product, version and serial.
+// Writes product, version and serial.
 fn identity(who: Identity) {
     say::id(who.product);
     say::id(who.version);
@@ -160,12 +161,12 @@ fn identity(who: Identity) {
     serial_front(serial, who.len);
 }
 
-// A serial without what is past its length.
+// Writes a serial without what is past its length.
 fn serial_front(serial: [u8; MOST_SERIAL], len: usize) {
     say::bytes(&serial[0..least(len, MOST_SERIAL)]);
 }
 
-// `store READING ..`: five readings stored in a board whose readings are 1 before; then each of them is asked for.
+// Answers `store READING ..`: five readings are stored in a board whose readings are 1 before; then each of them is asked for.
 pub fn store(row: &[u8]) {
     let before = ones();
     let stored = before.store(sample(row));
@@ -179,7 +180,7 @@ pub fn store(row: &[u8]) {
     asked(after, CHARGE);
 }
 
-// A board whose five readings are 1.
+// Returns a board whose five readings are 1.
 fn ones() -> Board {
     let started = Board::start_factory(PRODUCT, VERSION, &[]).board;
     started
@@ -193,7 +194,7 @@ fn ones() -> Board {
         .board
 }
 
-// The reply to a Get.
+// Writes the reply to a Get.
 fn asked(board: Board, id: u16) {
     let mut request = [0u8; SPACE];
     let written = requests::get(id, &mut request);

@@ -1,11 +1,11 @@
-// Bytes as they are written in a row: hex pairs, a frame, characters in quotes, or - for none.
+// The forms that bytes have in a row: hex pairs, a frame, characters in quotes, or - for none.
 use crate::numbers;
 use crate::numbers::NO_BYTE;
 
 // The most bytes of a word, and the most that is lent to a call.
 pub const SPACE: usize = 640;
 
-// For a word that is no bytes.
+// The length of a word that is no bytes.
 pub const WRONG: usize = SPACE + 1;
 
 const FRAME: u8 = b':';
@@ -14,20 +14,20 @@ const QUOTE: u8 = b'"';
 
 const ESCAPE: u8 = b'\\';
 
-// How many characters an escape has, the backslash among them, and a pair.
+// How many characters an escape has, with its backslash, and a pair.
 const SHORT_ESCAPE: usize = 2;
 
 const HEX_ESCAPE: usize = 4;
 
 const PAIR: usize = 2;
 
-// The byte at the front of a text, and how many characters say so. 0 of them: there is no byte.
+// The byte at the front of a text, and how many characters write it; 0 of them where there is no byte.
 struct Unit {
     byte: u8,
     size: usize,
 }
 
-// The byte of two hex digits, which with the characters before them has this size.
+// Returns the byte of two hex digits, which with the characters before them has this size.
 fn hex(high: u8, low: u8, size: usize) -> Unit {
     let value = numbers::pair(high, low);
     if NO_BYTE <= value {
@@ -39,7 +39,7 @@ fn hex(high: u8, low: u8, size: usize) -> Unit {
     }
 }
 
-// `\xHH`
+// Returns the byte of `\xHH`.
 fn hex_escape(text: &[u8]) -> Unit {
     if text.len() < HEX_ESCAPE {
         return Unit { byte: 0, size: 0 };
@@ -47,7 +47,7 @@ fn hex_escape(text: &[u8]) -> Unit {
     hex(text[2], text[3], HEX_ESCAPE)
 }
 
-// The byte of an escape of two characters.
+// Returns the byte of an escape of two characters.
 fn short_escape(byte: u8) -> Unit {
     Unit {
         byte,
@@ -55,7 +55,7 @@ fn short_escape(byte: u8) -> Unit {
     }
 }
 
-// A character in quotes, which this one begins.
+// Returns the byte of a character in quotes, given its first character too.
 fn quoted(first: u8, text: &[u8]) -> Unit {
     if first != ESCAPE {
         return Unit {
@@ -76,7 +76,7 @@ fn quoted(first: u8, text: &[u8]) -> Unit {
     }
 }
 
-// What a text begins with, in a word of this first character.
+// Returns the byte that a text begins with, in a word of this first character.
 fn first_of(form: u8, text: &[u8]) -> Unit {
     if text.len() == 0 {
         return Unit { byte: 0, size: 0 };
@@ -96,7 +96,7 @@ fn first_of(form: u8, text: &[u8]) -> Unit {
     hex(text[0], text[1], PAIR)
 }
 
-// The bytes of a text at the front of `into`, and how many; WRONG where it is none or has no room.
+// Puts the bytes of a text at the front of `into`, and returns how many; WRONG where it is none or has no room.
 fn decode(form: u8, text: &[u8], into: &mut [u8; SPACE]) -> usize {
     let mut len = 0;
     let mut at = 0;
@@ -118,7 +118,7 @@ fn decode(form: u8, text: &[u8], into: &mut [u8; SPACE]) -> usize {
     len
 }
 
-// A word in quotes: what is between them.
+// Puts what is between the quotes of a word, and returns how many bytes.
 fn between_quotes(word: &[u8], into: &mut [u8; SPACE]) -> usize {
     if word.len() < 2 {
         return WRONG;
@@ -130,7 +130,7 @@ fn between_quotes(word: &[u8], into: &mut [u8; SPACE]) -> usize {
     decode(QUOTE, &word[1..last], into)
 }
 
-// A frame: its characters, and a newline after them.
+// Puts the characters of a frame and a newline after them, and returns how many bytes.
 fn with_newline(word: &[u8], into: &mut [u8; SPACE]) -> usize {
     let len = decode(FRAME, word, into);
     if SPACE <= len {
@@ -140,7 +140,7 @@ fn with_newline(word: &[u8], into: &mut [u8; SPACE]) -> usize {
     len + 1
 }
 
-// The bytes of a word, at the front of `into`, and how many; WRONG for another word.
+// Puts the bytes of a word at the front of `into`, and returns how many; WRONG for another word.
 pub fn word(word: &[u8], into: &mut [u8; SPACE]) -> usize {
     if word.len() == 0 {
         return WRONG;

@@ -1,4 +1,4 @@
-// The calls by their names.
+// The calls by their names, and the kinds of words that each takes.
 ghost use Prim.Native.Nat.{_≤_};
 ghost use mathlib.Core.Path.{_≡_};
 ghost use lib.ListN.{length};
@@ -75,14 +75,14 @@ const COLLECT: usize = 20;
 
 const GATHER: usize = 21;
 
-// The calls, numbered from 0, each ended by a bar: its name, and the kinds of its words, the name's among them.
+// Returns the calls, numbered from 0, each ended by a bar: its name, and the kinds of its words, the name's among them.
 fn table() -> [u8; SIZE]
     ensures { λ r. ⌜ 225 ≡ length r ⌝ }
 {
     *b"read cnb|write cnnb|get cni|set cnnn|hear cnB|hold cnbnB|listen cnnnA|board cnP|serial cnbB|start ciibS|store cS|reply cnb|show cib|nearest cinn|change cnnS|text cnS|parse cL|list cnS|due cnS|follow cF|collect ciC|gather cnC|"
 }
 
-// Whether a call has this name.
+// Returns whether a call has this name.
 fn is_named(call: usize, name: &[u8]) -> bool {
     let all = table();
     let from = start_of(&all, BAR, call);
@@ -90,7 +90,7 @@ fn is_named(call: usize, name: &[u8]) -> bool {
     check::same(&all[from..end], name)
 }
 
-// The call of a name, or one past all.
+// Returns the call of a name, or one past all.
 fn call_of(name: &[u8]) -> usize {
     let mut call = 0;
     while call < COUNT {
@@ -102,7 +102,7 @@ fn call_of(name: &[u8]) -> usize {
     call
 }
 
-// A row's call answered, or a question mark for a row that is none.
+// Answers a row's call, or writes a question mark for a row that is none.
 pub fn obey(row: &[u8]) {
     let call = call_of(&row[0..find(row, 0, row.len(), BLANK)]);
     let all = table();
@@ -112,7 +112,7 @@ pub fn obey(row: &[u8]) {
     with_kinds(call, row, &all[least(blank + 1, end)..end]);
 }
 
-// The call of a row whose words have to be of these kinds.
+// Answers the call of a row whose words have to be of these kinds.
 fn with_kinds(call: usize, row: &[u8], letters: &[u8]) {
     if !kinds::are_kinds(letters, row) {
         return words::say(words::UNREAD);
@@ -122,13 +122,13 @@ fn with_kinds(call: usize, row: &[u8], letters: &[u8]) {
     with_bytes(call, row, space, len);
 }
 
-// The same with the row's bytes, at the front of a space.
+// Answers the call of a row, whose bytes are at the front of a space.
 fn with_bytes(call: usize, row: &[u8], space: [u8; SPACE], len: usize) {
     asks(call, row, &space[0..least(len, SPACE)]);
 }
 
-// What a call asks for; `given` are the row's bytes, for a call that takes them. Frames and the stream first; a check takes much longer
-// over all calls in one function.
+// Makes a call of frames or of the stream, else tries the others; `given` are the row's bytes, for a call that takes them. The calls are in
+// three functions, since a check takes much longer over all of them in one.
 fn asks(call: usize, row: &[u8], given: &[u8]) {
     match call {
         READ => frames::read(row, given),
@@ -142,7 +142,7 @@ fn asks(call: usize, row: &[u8], given: &[u8]) {
     }
 }
 
-// The board, what the box reads of it, and the settings.
+// Makes a call of the board, of what the box makes of its frames, or of the settings, else tries the others.
 fn asks_board(call: usize, row: &[u8], given: &[u8]) {
     match call {
         BOARD => boards::board(row),
@@ -157,7 +157,7 @@ fn asks_board(call: usize, row: &[u8], given: &[u8]) {
     }
 }
 
-// The backup text, the restore and the collecting.
+// Makes a call of the backup text, of the restore or of the collector.
 fn asks_box(call: usize, row: &[u8]) {
     match call {
         TEXT => texts::text(row),

@@ -1,4 +1,3 @@
-// The collector of a board's settings.
 ghost use Prim.Native.Nat.{_≤_};
 use crate::args;
 use crate::bytes_of::SPACE;
@@ -17,20 +16,20 @@ use settings::Setting;
 use tables::Table;
 use wire::Read;
 
-// The code of a Get reply, and its data with a value of one byte and of two.
+// The code of a Get reply, and how many data it has with a value of one byte and of two.
 const GET: u8 = 7;
 
 const ONE_BYTE: usize = 4;
 
 const TWO_BYTES: usize = 5;
 
-// `collect ID ITEM ..`: a start, and every setting before this id answered with its factory number; then what the items tell.
+// Answers `collect ID ITEM ..`: a start, and every setting before this id answered with its factory number; then what the items tell.
 pub fn collect(row: &[u8]) {
     let begun = Collector::start().collector;
     items(answered(begun, filled::place_of(args::id(row, 1))), row);
 }
 
-// `gather LEN ITEM ..`: a collector made by hand, with LEN settings answered and every number 0.
+// Answers `gather LEN ITEM ..`: a collector made by hand, with LEN settings answered and every number 0.
 pub fn gather(row: &[u8]) {
     let made = Collector {
         len: args::number(row, 1),
@@ -40,7 +39,7 @@ pub fn gather(row: &[u8]) {
     items(made, row);
 }
 
-// The settings before a place, answered with their factory numbers.
+// Returns a collector with the settings before a place answered, each with its factory number.
 fn answered(collector: Collector, place: usize) -> Collector {
     let mut asking = collector;
     let mut i = 0;
@@ -51,7 +50,7 @@ fn answered(collector: Collector, place: usize) -> Collector {
     asking
 }
 
-// The setting at a place, answered with its factory number.
+// Returns a collector with the setting at a place answered, with its factory number.
 fn truly(collector: Collector, place: usize) -> Collector {
     let found = settings::at(place);
     let Found::At(setting) = found else {
@@ -60,7 +59,7 @@ fn truly(collector: Collector, place: usize) -> Collector {
     good(collector, setting, number_at(place))
 }
 
-// The factory number at a place.
+// Returns the factory number at a place.
 fn number_at(place: usize) -> u16 {
     let factory = Table::factory();
     let numbers = factory.numbers;
@@ -70,14 +69,14 @@ fn number_at(place: usize) -> u16 {
     0
 }
 
-// How many data a good Get reply of a width has.
+// Returns how many data a good Get reply of a width has.
 fn data_len(width: usize) -> usize
     ensures { λ r. ⌜ r ≤ 5 ⌝ }
 {
     if width == 1 { ONE_BYTE } else { TWO_BYTES }
 }
 
-// A good Get reply.
+// Hands a collector a good Get reply.
 fn good(collector: Collector, setting: Setting, number: u16) -> Collector {
     let data = [
         (setting.id % 256) as u8,
@@ -91,7 +90,7 @@ fn good(collector: Collector, setting: Setting, number: u16) -> Collector {
         .collector
 }
 
-// What the items of a row tell.
+// Hands a collector the items of a row.
 fn items(collector: Collector, row: &[u8]) {
     let words = count(row);
     let mut asking = collector;
@@ -102,7 +101,7 @@ fn items(collector: Collector, row: &[u8]) {
     }
 }
 
-// Silence, or a frame.
+// Hands a collector silence, or a frame.
 fn item(collector: Collector, row: &[u8], k: usize) -> Collector {
     if args::letter(row, k) == b's' {
         return told(collector.no_answer());
@@ -112,7 +111,7 @@ fn item(collector: Collector, row: &[u8], k: usize) -> Collector {
     told(heard(collector, read, space))
 }
 
-// A frame that was read, or one that is refused.
+// Hands a collector a frame, or one that is refused.
 fn heard(collector: Collector, read: Read, space: [u8; SPACE]) -> Collected {
     match read {
         Read::Frame { command, len } => collector.reply(command, &space[0..least(len, SPACE)]),
@@ -120,8 +119,8 @@ fn heard(collector: Collector, read: Read, space: [u8; SPACE]) -> Collected {
     }
 }
 
-// An answer: where the collecting is, how many settings were answered, and what is not the factory's in the table. The collector in it
-// goes on.
+// Writes an answer: how far the collector is, how many settings were answered, and what is not the factory's in the table. Returns the
+// collector in it.
 fn told(answer: Collected) -> Collector {
     let stage = answer.stage;
     let collector = answer.collector;
@@ -132,7 +131,7 @@ fn told(answer: Collected) -> Collector {
     collector
 }
 
-// Where the collecting is.
+// Writes how far a collector is.
 fn say_stage(stage: Stage) {
     match stage {
         Stage::Waiting(setting) => with_id(words::WAITING, setting),
@@ -142,7 +141,7 @@ fn say_stage(stage: Stage) {
     }
 }
 
-// A word with a setting's id.
+// Writes a word with a setting's id.
 fn with_id(word: usize, setting: Setting) {
     words::say(word);
     say::id(setting.id);

@@ -1,4 +1,4 @@
-// Tables: the factory table with the numbers that a row puts in, and a table told by what is not the factory's.
+// Tables as a row has them: the factory table with the numbers that the row puts in, and a table written by what is not the factory's.
 use crate::numbers;
 use crate::numbers::Number;
 use crate::parts::BLANK;
@@ -10,7 +10,7 @@ use settings::COUNT;
 use settings::Found;
 use tables::Table;
 
-// A setting in a row: an id, this mark, a number, and after another mark the number that is wanted, if it is another.
+// The marks of a setting in a row: an id, the first mark, a number, and after the second mark the number that is wanted, if it is another.
 const EQUALS: u8 = b'=';
 
 const WANTED: u8 = b'>';
@@ -18,7 +18,7 @@ const WANTED: u8 = b'>';
 // Where the number begins.
 const FRONT: usize = 5;
 
-// Whether a word puts in a number for an id.
+// Returns whether a word puts in a number for an id.
 pub fn is_setting(word: &[u8]) -> bool {
     if word.len() <= FRONT {
         return false;
@@ -26,14 +26,14 @@ pub fn is_setting(word: &[u8]) -> bool {
     numbers::begins_with_id(word) & (word[4] == EQUALS)
 }
 
-// Whether a word of a row does so.
+// Returns whether a word of a row puts in a number for an id.
 pub fn is_setting_at(row: &[u8], k: usize) -> bool {
     let from = start_of(row, BLANK, k);
     let to = find(row, from, row.len(), BLANK);
     is_setting(&row[from..to])
 }
 
-// The number that a setting puts in, or the one that it wants.
+// Returns the number that a setting puts in, or the one that it wants.
 pub fn number_in(word: &[u8], is_wanted: bool) -> Number {
     if word.len() < FRONT {
         return Number::Wrong;
@@ -48,7 +48,7 @@ pub fn number_in(word: &[u8], is_wanted: bool) -> Number {
     numbers::number_of(&word[mark + 1..])
 }
 
-// What a word puts in for an id; where it does not, the number so far.
+// Returns what a word puts in for an id; where it does not, the number so far.
 fn later(word: &[u8], id: u16, is_wanted: bool, so_far: usize) -> usize {
     if !is_setting(word) {
         return so_far;
@@ -63,14 +63,14 @@ fn later(word: &[u8], id: u16, is_wanted: bool, so_far: usize) -> usize {
     }
 }
 
-// The same of a word of a row.
+// Returns what a word of a row puts in for an id; where it does not, the number so far.
 fn later_at(row: &[u8], k: usize, id: u16, is_wanted: bool, so_far: usize) -> usize {
     let from = start_of(row, BLANK, k);
     let to = find(row, from, row.len(), BLANK);
     later(&row[from..to], id, is_wanted, so_far)
 }
 
-// The number that a row puts in for an id, or the usual one.
+// Returns the number that a row puts in for an id, or the usual one.
 pub fn put_in(row: &[u8], id: u16, is_wanted: bool, usual: usize) -> usize {
     let words = count(row);
     let mut number = usual;
@@ -82,7 +82,7 @@ pub fn put_in(row: &[u8], id: u16, is_wanted: bool, usual: usize) -> usize {
     number
 }
 
-// The id at a place; 0 past the table, which is no setting's.
+// Returns the id at a place, and 0 past the table, which is no setting's.
 pub fn id_at(place: usize) -> u16 {
     match settings::at(place) {
         Found::At(setting) => setting.id,
@@ -90,7 +90,7 @@ pub fn id_at(place: usize) -> u16 {
     }
 }
 
-// The place of an id; past the table for no setting.
+// Returns the place of an id, which is past the table for no setting.
 pub fn place_of(id: u16) -> usize {
     match settings::find(id) {
         Found::At(setting) => setting.index,
@@ -98,12 +98,12 @@ pub fn place_of(id: u16) -> usize {
     }
 }
 
-// The number that a row puts in for a place, or the usual one.
+// Returns the number that a row puts in for a place, or the usual one.
 fn number_for(row: &[u8], place: usize, is_wanted: bool, usual: u16) -> u16 {
     numbers::as_16(put_in(row, id_at(place), is_wanted, usual as usize))
 }
 
-// The factory table with the numbers of a row, allowed or not; with those that are wanted, if there are others.
+// Returns the factory table with the numbers of a row, allowed or not; with those that are wanted, if there are others.
 pub fn table_of(row: &[u8], is_wanted: bool) -> Table {
     let factory = Table::factory();
     let mut numbers = factory.numbers;
@@ -115,7 +115,7 @@ pub fn table_of(row: &[u8], is_wanted: bool) -> Table {
     Table { numbers }
 }
 
-// A setting, where its number is not the usual one.
+// Writes a setting, where its number is not the usual one.
 fn difference(place: usize, usual: u16, number: u16) {
     if number == usual {
         return;
@@ -125,7 +125,7 @@ fn difference(place: usize, usual: u16, number: u16) {
     say::plain(number as usize);
 }
 
-// Every setting of a table whose number is not the factory's.
+// Writes every setting of a table whose number is not the factory's.
 pub fn differences(table: Table) {
     let factory = Table::factory();
     let usual = factory.numbers;

@@ -1,4 +1,3 @@
-// The follower of a restore.
 use crate::args;
 use crate::bytes_of::SPACE;
 use crate::filled;
@@ -15,13 +14,13 @@ use requests::Request;
 use requests::Wanted;
 use wire::Read;
 
-// `follow ITEM ..`: where the restore is after each item, and at the end what the box says of it.
+// Answers `follow ITEM ..`: how far the restore is after each item, and at the end what the box says of it.
 pub fn follow(row: &[u8]) {
     let follower = at_the_end(row);
     say::sentence(sentences::followed(follower));
 }
 
-// A start from the two tables of the row, and after it what its other items tell.
+// Starts from the two tables of the row, hands the follower the row's other items, and returns it.
 fn at_the_end(row: &[u8]) -> Follower {
     let words = count(row);
     let from = filled::table_of(row, false);
@@ -35,7 +34,7 @@ fn at_the_end(row: &[u8]) -> Follower {
     follower
 }
 
-// An item, if it puts in no number: silence, or a frame.
+// Hands a follower an item, if it puts in no number: silence, or a frame.
 fn item(follower: Follower, row: &[u8], k: usize) -> Follower {
     if filled::is_setting_at(row, k) {
         return follower;
@@ -48,7 +47,7 @@ fn item(follower: Follower, row: &[u8], k: usize) -> Follower {
     told(heard(follower, read, space))
 }
 
-// A frame that was read, or one that is refused.
+// Hands a follower a frame, or one that is refused.
 fn heard(follower: Follower, read: Read, space: [u8; SPACE]) -> Followed {
     match read {
         Read::Frame { command, len } => follower.reply(command, &space[0..least(len, SPACE)]),
@@ -56,7 +55,7 @@ fn heard(follower: Follower, read: Read, space: [u8; SPACE]) -> Followed {
     }
 }
 
-// An answer: where the restore is, and how many Sets are confirmed. The follower in it goes on.
+// Writes an answer: how far the restore is, and how many Sets are confirmed. Returns the follower in it.
 fn told(answer: Followed) -> Follower {
     let standing = answer.standing;
     let follower = answer.follower;
@@ -66,7 +65,7 @@ fn told(answer: Followed) -> Follower {
     follower
 }
 
-// Where a restore is.
+// Writes how far a restore is.
 fn say_standing(standing: Standing) {
     match standing {
         Standing::Waiting(request) => waiting(request),
@@ -77,7 +76,7 @@ fn say_standing(standing: Standing) {
     }
 }
 
-// The request that is due.
+// Writes the request that is due.
 fn waiting(request: Request) {
     match request {
         Request::Get(_) => {}
@@ -85,7 +84,7 @@ fn waiting(request: Request) {
     }
 }
 
-// A word with a Set.
+// Writes a word with a Set.
 fn with_set(word: usize, wanted: Wanted) {
     words::say(word);
     restores::wanted(wanted);

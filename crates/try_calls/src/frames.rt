@@ -1,4 +1,3 @@
-// Whole frames, read and written.
 use crate::args;
 use crate::bytes_of::SPACE;
 use crate::numbers;
@@ -7,7 +6,7 @@ use crate::say;
 use wire::Read;
 use wire::Written;
 
-// `read ROOM BYTES`: a whole frame.
+// Answers `read ROOM BYTES`: a whole frame parsed.
 pub fn read(row: &[u8], frame: &[u8]) {
     let mut space = [0u8; SPACE];
     let room = least(args::number(row, 1), SPACE);
@@ -18,13 +17,13 @@ pub fn read(row: &[u8], frame: &[u8]) {
     }
 }
 
-// A frame's command, and its data at the front of what was lent.
+// Writes a frame's command, and its data at the front of what was lent.
 pub fn shown(command: u8, len: usize, space: [u8; SPACE]) {
     say::number(command as usize);
     say::front(space, len);
 }
 
-// `write ROOM COMMAND DATA`
+// Answers `write ROOM COMMAND DATA`: a frame written.
 pub fn write(row: &[u8], data: &[u8]) {
     let mut space = [0u8; SPACE];
     let room = least(args::number(row, 1), SPACE);
@@ -33,7 +32,7 @@ pub fn write(row: &[u8], data: &[u8]) {
     told(written, space);
 }
 
-// `get ROOM ID`: a Get request.
+// Answers `get ROOM ID`: a Get written.
 pub fn get(row: &[u8]) {
     let mut space = [0u8; SPACE];
     let room = least(args::number(row, 1), SPACE);
@@ -41,7 +40,7 @@ pub fn get(row: &[u8]) {
     told(written, space);
 }
 
-// `set ROOM PLACE NUMBER`: a Set request.
+// Answers `set ROOM PLACE NUMBER`: a Set written.
 pub fn set(row: &[u8]) {
     let mut space = [0u8; SPACE];
     let room = least(args::number(row, 1), SPACE);
@@ -50,7 +49,7 @@ pub fn set(row: &[u8]) {
     told(written, space);
 }
 
-// What a writer answers, and the frame at the front of what was lent.
+// Writes what a writer answers: the frame at the front of what was lent, or the refusal.
 fn told(written: Written, space: [u8; SPACE]) {
     match written {
         Written::Len(len) => say::front(space, len),
@@ -58,14 +57,14 @@ fn told(written: Written, space: [u8; SPACE]) {
     }
 }
 
-// A word of a row as a whole frame, its data at the front of `into`.
+// Reads a word of a row as a whole frame, and puts its data at the front of `into`.
 pub fn read_at(row: &[u8], k: usize, into: &mut [u8; SPACE]) -> Read {
     let mut space = [0u8; SPACE];
     let len = args::bytes(row, k, &mut space);
     read_front(space, len, into)
 }
 
-// The frame at the front of a space.
+// Reads the frame at the front of a space.
 fn read_front(space: [u8; SPACE], len: usize, into: &mut [u8; SPACE]) -> Read {
     wire::read_frame(&space[0..least(len, SPACE)], into)
 }

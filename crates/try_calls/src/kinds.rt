@@ -12,35 +12,35 @@ use bytes::scan::find;
 
 const ID_LEN: usize = 4;
 
-// Whether a word is an id and no more.
+// Returns whether a word is an id and no more.
 fn is_id(word: &[u8]) -> bool {
     numbers::begins_with_id(word) & (word.len() == ID_LEN)
 }
 
-// Whether a word is bytes.
+// Returns whether a word is bytes.
 pub fn is_bytes(word: &[u8]) -> bool {
     let mut space = [0u8; SPACE];
     bytes_of::word(word, &mut space) < WRONG
 }
 
-// Whether a word puts in numbers for an id.
+// Returns whether a word puts in numbers for an id.
 fn is_setting(word: &[u8]) -> bool {
     filled::is_setting(word)
         & numbers::is_number(filled::number_in(word, false))
         & numbers::is_number(filled::number_in(word, true))
 }
 
-// No answer came, in place of a frame.
+// Returns whether a word says that no answer came, in place of a frame.
 fn is_silence(word: &[u8]) -> bool {
     check::same(word, b"silence")
 }
 
-// A request was sent, in place of a read.
+// Returns whether a word says that a request was sent, in place of a read.
 fn is_asked(word: &[u8]) -> bool {
     check::same(word, b"asked")
 }
 
-// Whether a word is of a kind.
+// Returns whether a word is of a kind.
 fn fits(kind: u8, word: &[u8]) -> bool {
     match kind {
         b'c' => true,
@@ -58,19 +58,19 @@ fn fits(kind: u8, word: &[u8]) -> bool {
     }
 }
 
-// The same of a word of a row.
+// Returns whether a word of a row is of a kind.
 fn fits_at(kind: u8, row: &[u8], k: usize) -> bool {
     let from = start_of(row, BLANK, k);
     let to = find(row, from, row.len(), BLANK);
     fits(kind, &row[from..to])
 }
 
-// A letter for any number of words.
+// Returns whether a letter is for any number of words.
 fn is_many(kind: u8) -> bool {
     kind <= b'Z'
 }
 
-// The kind of a word, by the letters for its row: past the last one that letter's, if it is for many, else none.
+// Returns the kind of a word, by the letters for its row: past the last one that letter's, if it is for many, else none.
 fn kind_at(letters: &[u8], k: usize) -> u8 {
     if k < letters.len() {
         return letters[k];
@@ -82,7 +82,7 @@ fn kind_at(letters: &[u8], k: usize) -> u8 {
     if is_many(last) { last } else { 0 }
 }
 
-// Whether the count of words is not too small.
+// Returns whether there are enough words.
 fn are_enough(letters: &[u8], words: usize) -> bool {
     if letters.len() <= words {
         return true;
@@ -90,7 +90,7 @@ fn are_enough(letters: &[u8], words: usize) -> bool {
     is_many(kind_at(letters, words)) & (letters.len() - words == 1)
 }
 
-// Whether a row has words of these kinds.
+// Returns whether a row has words of these kinds.
 pub fn are_kinds(letters: &[u8], row: &[u8]) -> bool {
     let words = count(row);
     let mut k = 0;

@@ -1,4 +1,3 @@
-// The listener: the stream, and how long the box waits.
 use crate::args;
 use crate::bytes_of::SPACE;
 use crate::frames;
@@ -10,7 +9,8 @@ use listen::Listened;
 use listen::Listener;
 use listen::Told;
 
-// `listen QUIET NOISE ROOM EVENT ..`: QUIET reads that gave nothing and NOISE bytes since the last request; then reads, and requests.
+// Answers `listen QUIET NOISE ROOM EVENT ..`: QUIET reads that gave nothing and NOISE bytes since the last request; then reads, and
+// requests.
 pub fn listen(row: &[u8]) {
     let words = count(row);
     let room = args::number(row, 3);
@@ -22,14 +22,14 @@ pub fn listen(row: &[u8]) {
     }
 }
 
-// A listener outside a frame, with these counts, allowed or not.
+// Returns a listener outside a frame, with these counts, allowed or not.
 fn with_counts(quiet: usize, noise: usize) -> Listener {
     let start = Listener::start();
     let held = start.held;
     Listener { held, quiet, noise }
 }
 
-// A request, or a read.
+// Hands a listener a request, or a read.
 fn after(listener: Listener, row: &[u8], k: usize, room: usize) -> Listener {
     if args::letter(row, k) == b'a' {
         return listener.asked();
@@ -39,7 +39,8 @@ fn after(listener: Listener, row: &[u8], k: usize, room: usize) -> Listener {
     reads(listener, space, len, room)
 }
 
-// The read at the front of a space, call after call, what one did not take being handed on, until it is taken or a call takes nothing.
+// Hands a listener the read at the front of a space, call after call: what one did not take goes to the next, until all is taken or a call
+// takes nothing.
 fn reads(listener: Listener, space: [u8; SPACE], len: usize, room: usize) -> Listener {
     let mut listening = listener;
     if SPACE < len {
@@ -60,7 +61,7 @@ fn reads(listener: Listener, space: [u8; SPACE], len: usize, room: usize) -> Lis
     }
 }
 
-// One call: how many bytes it took, and what it tells.
+// Makes one call, and writes how many bytes it took, and what it tells.
 fn once(listener: Listener, piece: &[u8], room: usize) -> Listened {
     let mut space = [0u8; SPACE];
     let n = least(room, SPACE);
@@ -72,7 +73,7 @@ fn once(listener: Listener, piece: &[u8], room: usize) -> Listened {
     listened
 }
 
-// What a call tells.
+// Writes what a call tells.
 fn tells(told: Told, space: [u8; SPACE]) {
     match told {
         Told::Nothing => words::say(words::NOTHING),

@@ -3,8 +3,8 @@
 //     CALL WORD WORD .. -> ANSWER
 //
 // What a row has from its arrow on is not read, so for rows with the right answers standard output is standard input, byte for byte, and a
-// row for trying a case by hand needs no arrow: echo 'read 35 :154' | try_calls. The calls and the words are told at the head of the file
-// stdin. Every row is by itself: nothing is carried from one to the next. An empty row and a row that begins with # are written as they are.
+// row for trying a case by hand needs no arrow: echo 'read 35 :154' | try_calls. The head of the file stdin tells the calls and the words.
+// Nothing is carried from one row to the next. An empty row and a row that begins with # are written as they are.
 mod args;
 mod boards;
 mod bytes_of;

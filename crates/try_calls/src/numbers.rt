@@ -1,11 +1,11 @@
-// Numbers as they are written in a row.
+// Numbers as a row has them: decimal, with a minus sign or without, and hex digits.
 ghost use Prim.Native.Nat.{_≤_};
 
 const BASE: usize = 10;
 
 const HEX_BASE: usize = 16;
 
-// One more than two hex digits come to, and four.
+// One more than the largest number of two hex digits, and of four.
 pub const NO_BYTE: usize = 256;
 
 const NO_ID: usize = 65536;
@@ -15,7 +15,7 @@ const ID_LEN: usize = 4;
 
 const MINUS: u8 = b'-';
 
-// The largest signed number; those past it are negative.
+// The largest signed number. Those past it are negative.
 const LARGEST: usize = 0x7FFF_FFFF_FFFF_FFFF;
 
 // A number, a negative one in two's complement, or something else.
@@ -24,7 +24,7 @@ pub enum Number {
     Wrong,
 }
 
-// The value of a digit, as in a frame, or NO_BYTE.
+// Returns the value of a digit, as in a frame, or NO_BYTE.
 fn digit(char: u8) -> usize
     ensures { λ r. ⌜ r ≤ 256 ⌝ }
 {
@@ -35,14 +35,14 @@ fn digit(char: u8) -> usize
     }
 }
 
-// Two hex digits, or NO_BYTE and more.
+// Returns the byte of two hex digits, or NO_BYTE and more.
 pub fn pair(high: u8, low: u8) -> usize
     ensures { λ r. ⌜ r ≤ 4352 ⌝ }
 {
     digit(high) * HEX_BASE + digit(low)
 }
 
-// The id at the front of a word, or NO_ID and more.
+// Returns the id at the front of a word, or NO_ID and more.
 fn id_or_more(word: &[u8]) -> usize {
     if word.len() < ID_LEN {
         return NO_ID;
@@ -54,12 +54,12 @@ fn id_or_more(word: &[u8]) -> usize {
     pair(word[0], word[1]) * NO_BYTE + low
 }
 
-// Whether an id is at the front of a word.
+// Returns whether an id is at the front of a word.
 pub fn begins_with_id(word: &[u8]) -> bool {
     id_or_more(word) < NO_ID
 }
 
-// The id at the front of a word; 0 where there is none.
+// Returns the id at the front of a word, and 0 where there is none.
 pub fn id_of(word: &[u8]) -> u16 {
     let id = id_or_more(word);
     if NO_ID <= id {
@@ -68,7 +68,7 @@ pub fn id_of(word: &[u8]) -> u16 {
     id as u16
 }
 
-// A decimal number without a sign.
+// Returns a decimal number without a sign.
 fn amount_of(digits: &[u8]) -> Number {
     if digits.len() == 0 {
         return Number::Wrong;
@@ -89,7 +89,7 @@ fn amount_of(digits: &[u8]) -> Number {
     Number::Is(n)
 }
 
-// The negative number this far from 0.
+// Returns the negative number this far from 0.
 fn negative(distance: usize) -> Number {
     if LARGEST < distance {
         return Number::Wrong;
@@ -100,7 +100,7 @@ fn negative(distance: usize) -> Number {
     Number::Is(usize::MAX - (distance - 1))
 }
 
-// A decimal number with a minus sign or without.
+// Returns a decimal number with a minus sign or without.
 pub fn number_of(word: &[u8]) -> Number {
     if word.len() < 2 {
         return amount_of(word);
@@ -115,7 +115,7 @@ pub fn number_of(word: &[u8]) -> Number {
     negative(n)
 }
 
-// A number in two's complement as the signed one.
+// Returns the signed number that a number in two's complement is.
 pub fn as_signed(number: usize) -> i64 {
     if number <= LARGEST {
         return number as i64;
@@ -123,17 +123,17 @@ pub fn as_signed(number: usize) -> i64 {
     !((usize::MAX - number) as i64)
 }
 
-// The low byte of a number, for a command.
+// Returns the low byte of a number, for a command.
 pub fn as_8(number: usize) -> u8 {
     (number % NO_BYTE) as u8
 }
 
-// The low two bytes of a number, for a setting.
+// Returns the low two bytes of a number, for a setting.
 pub fn as_16(number: usize) -> u16 {
     (number % NO_ID) as u16
 }
 
-// Whether there is a number.
+// Returns whether there is a number.
 pub fn is_number(read: Number) -> bool {
     match read {
         Number::Is(_) => true,

@@ -6,14 +6,14 @@ use bytes::scan::find;
 // The mark between the words of a row.
 pub const BLANK: u8 = b' ';
 
-// A part of what there is.
+// Returns the smaller of two numbers: as much as is wanted, or all that there is.
 pub fn least(wanted: usize, all: usize) -> usize
     ensures { λ r. ⌜ (r ≤ wanted) × (r ≤ all) ⌝ }
 {
     if wanted < all { wanted } else { all }
 }
 
-// Where a part begins, the first being 0; the end of the text where there is no such part.
+// Returns where a part begins, the first being 0; the end of the text where there is no such part.
 pub fn start_of(all: &[u8], mark: u8, part: usize) -> usize
     ensures { λ r. ⌜ r ≤ length (now (all .entry)) ⌝ }
 {
@@ -30,14 +30,14 @@ pub fn start_of(all: &[u8], mark: u8, part: usize) -> usize
     at
 }
 
-// 1 for a blank.
+// Returns 1 for a blank, else 0.
 fn blanks(byte: u8) -> usize
     ensures { λ r. ⌜ r ≤ 1 ⌝ }
 {
     if byte == BLANK { 1 } else { 0 }
 }
 
-// How many words a row has, its call among them.
+// Returns how many words a row has, its call among them.
 pub fn count(row: &[u8]) -> usize {
     let mut n = 1;
     let mut i = 0;

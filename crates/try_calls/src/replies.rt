@@ -1,4 +1,3 @@
-// What the box makes of a frame that it has read.
 use crate::args;
 use crate::numbers;
 use crate::say;
@@ -9,15 +8,15 @@ use reply::Reply;
 use reply::Shown;
 use reply::Status;
 
-// The hex digits of a double's bits.
+// How many hex digits the bits of a double have.
 const DOUBLE: usize = 16;
 
-// `reply COMMAND DATA`: the kind of a reply.
+// Answers `reply COMMAND DATA`: the kind of a reply.
 pub fn reply(row: &[u8], data: &[u8]) {
     kind(reply::read(numbers::as_8(args::number(row, 1)), data));
 }
 
-// A kind, and what it holds.
+// Writes a kind, and what it holds.
 fn kind(it: Reply) {
     match it {
         Reply::Done => words::say(words::DONE),
@@ -31,20 +30,20 @@ fn kind(it: Reply) {
     }
 }
 
-// A word, and a number of two bytes in hex.
+// Writes a word, and a number of two bytes in hex.
 fn with_id(word: usize, id: u16) {
     words::say(word);
     say::id(id);
 }
 
-// A kind with its status and its id.
+// Writes a kind with its status and its id.
 fn said(word: usize, flag: Status, id: u16) {
     words::say(word);
     status(flag);
     say::id(id);
 }
 
-// A status.
+// Writes a status.
 fn status(flag: Status) {
     match flag {
         Status::Good => words::say(words::GOOD),
@@ -54,12 +53,12 @@ fn status(flag: Status) {
     }
 }
 
-// `show ID VALUE`: a reading in its unit.
+// Answers `show ID VALUE`: a reading in its unit.
 pub fn show(row: &[u8], value: &[u8]) {
     reading(reply::show(args::id(row, 1), value));
 }
 
-// A reading in its unit.
+// Writes a reading in its unit.
 fn reading(it: Shown) {
     match it {
         Shown::Volts(x) => measured(words::VOLTS, x),
@@ -70,7 +69,7 @@ fn reading(it: Shown) {
     }
 }
 
-// A unit, and the bits of a double: sign, exponent and fraction. What is no number has none.
+// Writes a unit, and the bits of a double: sign, exponent and fraction. What is no number has none.
 fn measured(word: usize, x: f64) {
     words::say(word);
     if x == x {

@@ -1,4 +1,3 @@
-// The restore list, and the Set that is due.
 use crate::args;
 use crate::bytes_of::SPACE;
 use crate::filled;
@@ -9,7 +8,7 @@ use requests::Wanted;
 use restore::Due;
 use restore::Listed;
 
-// `list ROOM SETTING ..`: how many Sets, and their frames.
+// Answers `list ROOM SETTING ..`: how many Sets, and their frames.
 pub fn list(row: &[u8]) {
     let mut space = [0u8; SPACE];
     let room = least(args::number(row, 1), SPACE);
@@ -22,13 +21,13 @@ pub fn list(row: &[u8]) {
     }
 }
 
-// The frames at the front of what was lent.
+// Writes how many Sets there are, and their frames at the front of what was lent.
 fn shown(sets: usize, len: usize, space: [u8; SPACE]) {
     say::number(sets);
     say::frames(&space[0..least(len, SPACE)]);
 }
 
-// `due DONE SETTING ..`: the Set that is due after DONE of them.
+// Answers `due DONE SETTING ..`: the Set that is due after DONE of them.
 pub fn due(row: &[u8]) {
     let from = filled::table_of(row, false);
     let to = filled::table_of(row, true);
@@ -40,7 +39,7 @@ pub fn due(row: &[u8]) {
     }
 }
 
-// A setting's id, and the number that is wanted for it.
+// Writes a setting's id, and the number that is wanted for it.
 pub fn wanted(it: Wanted) {
     let setting = it.setting;
     say::id(setting.id);

@@ -1,4 +1,3 @@
-// The rows, each by itself.
 ghost use Prim.Native.Nat.{_≤_};
 ghost use lib.ListN.{length};
 use crate::calls;
@@ -8,7 +7,7 @@ use bytes::scan::find;
 
 const HEADING: u8 = b'#';
 
-// Every row up to its newline.
+// Answers every row, up to its newline.
 pub fn run(input: &[u8]) {
     let mut at = 0;
     while at < input.len() {
@@ -18,7 +17,7 @@ pub fn run(input: &[u8]) {
     }
 }
 
-// A row with no call: empty, or begun by a number sign.
+// Returns whether a row has no call: it is empty, or begins with a number sign.
 fn is_heading(line: &[u8]) -> bool {
     if line.len() == 0 {
         return true;
@@ -26,7 +25,7 @@ fn is_heading(line: &[u8]) -> bool {
     line[0] == HEADING
 }
 
-// Whether a text begins with a blank and an arrow.
+// Returns whether a text begins with a blank and an arrow.
 fn is_arrow(text: &[u8]) -> bool {
     if text.len() < 3 {
         return false;
@@ -34,7 +33,7 @@ fn is_arrow(text: &[u8]) -> bool {
     (text[0] == b' ') & (text[1] == b'-') & (text[2] == b'>')
 }
 
-// The end of a row's words: its arrow, or its end.
+// Returns where a row's words end: at its arrow, or at its end.
 fn end_of_words(line: &[u8]) -> usize
     ensures { λ r. ⌜ r ≤ length (now (line .entry)) ⌝ }
 {
@@ -48,7 +47,7 @@ fn end_of_words(line: &[u8]) -> usize
     line.len()
 }
 
-// A row as it is, up to its arrow, and then the answer.
+// Writes a row as it is, up to its arrow, and then the answer.
 fn obeys(line: &[u8]) {
     if is_heading(line) {
         say::text(line);

@@ -13,69 +13,69 @@ const AS_FRAMES: u8 = 1;
 
 const AS_LINES: u8 = 2;
 
-// A text as it is.
+// Writes a text as it is.
 pub fn text(all: &[u8]) {
     io::write_all(STDOUT_FILENO, all);
 }
 
-// One character.
+// Writes one character.
 pub fn char(c: u8) {
     text(&[c]);
 }
 
-// A sentence of the box.
+// Writes a sentence of the box.
 pub fn sentence(line: Line) {
     let chars = line.chars;
     beginning(&chars, line.len);
 }
 
-// The beginning of a text.
+// Writes the front of a text.
 fn beginning(all: &[u8], len: usize) {
     char(b' ');
     text(&all[0..least(len, all.len())]);
 }
 
-// A number with no blank before it.
+// Writes a number with no blank before it.
 pub fn plain(n: usize) {
     print_decimal(STDOUT_FILENO, n as u64);
 }
 
-// A number.
+// Writes a number.
 pub fn number(n: usize) {
     char(b' ');
     plain(n);
 }
 
-// A word and a number.
+// Writes a word and a number.
 pub fn numbered(before: usize, n: usize) {
     words::say(before);
     number(n);
 }
 
-// A refusal by its number.
+// Writes the number of a refusal.
 pub fn refused(number: u8) {
     numbered(words::REFUSED, number as usize);
 }
 
-// A byte as two hex digits.
+// Writes a byte as two hex digits.
 fn pair(byte: u8) {
     let digits = wire::pair_of(byte);
     text(&[digits.high, digits.low]);
 }
 
-// Four hex digits, as document 01 writes an id.
+// Writes four hex digits, as document 01 writes an id.
 pub fn id(id: u16) {
     char(b' ');
     pair((id / 256) as u8);
     pair((id % 256) as u8);
 }
 
-// Whether a byte has a shape of its own; a blank has none.
+// Returns whether a byte has a shape of its own; a blank has none.
 fn is_printed(byte: u8) -> bool {
     (b' ' < byte) & (byte <= b'~')
 }
 
-// Whether all bytes have a shape.
+// Returns whether all bytes have a shape.
 fn are_printed(all: &[u8]) -> bool {
     let mut printed = true;
     let mut i = 0;
@@ -86,7 +86,7 @@ fn are_printed(all: &[u8]) -> bool {
     printed
 }
 
-// Whether bytes are written as a frame: a colon, bytes with a shape, and a newline at the end.
+// Returns whether bytes are written as a frame: a colon, bytes with a shape, and a newline at the end.
 fn is_frame(all: &[u8]) -> bool {
     if all.len() < 2 {
         return false;
@@ -95,7 +95,7 @@ fn is_frame(all: &[u8]) -> bool {
     (all[0] == b':') & (all[last] == b'\n') & are_printed(&all[0..last])
 }
 
-// Bytes as a row has them: a frame, hex pairs, or - for none.
+// Writes bytes as a row has them: a frame, hex pairs, or - for none.
 pub fn bytes(all: &[u8]) {
     char(b' ');
     if all.len() == 0 {
@@ -107,12 +107,12 @@ pub fn bytes(all: &[u8]) {
     each(AS_HEX, all);
 }
 
-// The bytes at the front of what was lent to a call.
+// Writes the bytes at the front of what was lent to a call.
 pub fn front(space: [u8; SPACE], len: usize) {
     bytes(&space[0..least(len, SPACE)]);
 }
 
-// A byte of frames that follow each other: a blank before each colon, and no newline.
+// Writes a byte of frames that follow each other: a blank before each colon, and no newline.
 fn framed(byte: u8) {
     if byte == b'\n' {
         return;
@@ -123,7 +123,7 @@ fn framed(byte: u8) {
     char(byte);
 }
 
-// A character of a backup text in quotes.
+// Writes a character of a backup text in quotes.
 fn escaped(byte: u8) {
     match byte {
         b'\n' => words::say(words::NEWLINE),
@@ -132,7 +132,7 @@ fn escaped(byte: u8) {
     }
 }
 
-// A byte in a form.
+// Writes a byte in a form.
 fn byte(form: u8, byte: u8) {
     match form {
         AS_HEX => pair(byte),
@@ -141,7 +141,7 @@ fn byte(form: u8, byte: u8) {
     }
 }
 
-// All bytes in a form.
+// Writes all bytes in a form.
 fn each(form: u8, all: &[u8]) {
     let mut i = 0;
     while i < all.len() {
@@ -150,12 +150,12 @@ fn each(form: u8, all: &[u8]) {
     }
 }
 
-// Frames that follow each other.
+// Writes frames that follow each other.
 pub fn frames(all: &[u8]) {
     each(AS_FRAMES, all);
 }
 
-// A backup text in quotes.
+// Writes a backup text in quotes.
 pub fn lines(all: &[u8]) {
     char(b' ');
     char(b'"');

@@ -1,4 +1,3 @@
-// Settings: the nearest number, and a Set of a table.
 use crate::args;
 use crate::filled;
 use crate::numbers;
@@ -7,7 +6,7 @@ use crate::words;
 use settings::Number;
 use tables::Answer;
 
-// `nearest ID WISHED PARTNER`
+// Answers `nearest ID WISHED PARTNER`: the nearest allowed number.
 pub fn nearest(row: &[u8]) {
     let wished = numbers::as_16(args::number(row, 2));
     let partner = numbers::as_16(args::number(row, 3));
@@ -18,7 +17,7 @@ pub fn nearest(row: &[u8]) {
     }
 }
 
-// `change PLACE NUMBER SETTING ..`: a Set of a table, and what is not the factory's in the table after it.
+// Answers `change PLACE NUMBER SETTING ..`: a Set of a table, and what is not the factory's in the table after it.
 pub fn change(row: &[u8]) {
     let table = filled::table_of(row, false);
     let wished = numbers::as_16(args::number(row, 2));
@@ -28,7 +27,7 @@ pub fn change(row: &[u8]) {
     filled::differences(change.table);
 }
 
-// What a Set comes to.
+// Writes the answer to a Set.
 fn changed(answer: Answer) {
     match answer {
         Answer::Accepted => words::say(words::ACCEPTED),

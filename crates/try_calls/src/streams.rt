@@ -1,4 +1,3 @@
-// The stream, read piece by piece.
 use crate::args;
 use crate::bytes_of::SPACE;
 use crate::frames;
@@ -10,15 +9,15 @@ use stream::Event;
 use stream::Heard;
 use stream::Held;
 
-// The characters of a state.
+// The most characters of an unfinished frame.
 const MOST_HELD: usize = 74;
 
-// `hear ROOM PIECE ..`: pieces from outside a frame.
+// Answers `hear ROOM PIECE ..`: pieces from outside a frame.
 pub fn hear(row: &[u8]) {
     pieces(Held::outside(), row, 2, args::number(row, 1));
 }
 
-// `hold LEN CHARACTERS ROOM PIECE ..`: pieces from a state inside a frame, which bytes could have left or not.
+// Answers `hold LEN CHARACTERS ROOM PIECE ..`: pieces from a state inside a frame, which bytes could have left or not.
 pub fn hold(row: &[u8], given: &[u8]) {
     let mut chars = [0u8; MOST_HELD];
     bytes::copy(&given[0..least(given.len(), MOST_HELD)], &mut chars);
@@ -30,7 +29,7 @@ pub fn hold(row: &[u8], given: &[u8]) {
     pieces(held, row, 4, args::number(row, 3));
 }
 
-// The pieces of a row from a word on.
+// Reads the pieces of a row from a word on.
 fn pieces(held: Held, row: &[u8], first: usize, room: usize) {
     let words = count(row);
     let mut now = held;
@@ -43,7 +42,8 @@ fn pieces(held: Held, row: &[u8], first: usize, room: usize) {
     }
 }
 
-// The piece at the front of a space, call after call, what one did not take being handed on, until it is taken or a call takes nothing.
+// Reads the piece at the front of a space, call after call: what one did not take goes to the next, until all is taken or a call takes
+// nothing.
 fn hears(held: Held, space: [u8; SPACE], len: usize, room: usize) -> Held {
     let mut now = held;
     if SPACE < len {
@@ -64,7 +64,7 @@ fn hears(held: Held, space: [u8; SPACE], len: usize, room: usize) -> Held {
     }
 }
 
-// One call: how many bytes it took, and what happened.
+// Makes one call, and writes how many bytes it took, and what happened.
 fn once(held: Held, piece: &[u8], room: usize) -> Heard {
     let mut space = [0u8; SPACE];
     let n = least(room, SPACE);
@@ -76,7 +76,7 @@ fn once(held: Held, piece: &[u8], room: usize) -> Heard {
     heard
 }
 
-// What happened in a call.
+// Writes what happened in a call.
 fn happened(event: Event, space: [u8; SPACE]) {
     match event {
         Event::Nothing => words::say(words::NOTHING),

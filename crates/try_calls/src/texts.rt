@@ -1,4 +1,3 @@
-// The backup text, written and read.
 ghost use Prim.Native.Nat.{_≤_};
 ghost use lib.ListN.{length};
 use crate::args;
@@ -18,7 +17,7 @@ use bytes::scan::find;
 use tables::Table;
 use wire::Written;
 
-// In a word that replaces a line of a text, what is between the line's number and its bytes.
+// What is between a line's number and its bytes, in a word that replaces a line of a text.
 const EQUALS: u8 = b'=';
 
 // A text at the front of its space.
@@ -27,7 +26,7 @@ struct Draft {
     len: usize,
 }
 
-// `text ROOM SETTING ..`: a table as text.
+// Answers `text ROOM SETTING ..`: a table as text.
 pub fn text(row: &[u8]) {
     let mut space = [0u8; SPACE];
     let room = least(args::number(row, 1), SPACE);
@@ -39,12 +38,12 @@ pub fn text(row: &[u8]) {
     }
 }
 
-// The text at the front of what was lent.
+// Writes the text at the front of what was lent.
 fn shown(len: usize, space: [u8; SPACE]) {
     say::lines(&space[0..least(len, SPACE)]);
 }
 
-// `parse LINE=BYTES ..`: the factory text read, with these bytes in place of these lines and their newlines.
+// Answers `parse LINE=BYTES ..`: the factory text parsed, with these bytes in place of these lines and their newlines.
 pub fn parse(row: &[u8]) {
     let words = count(row);
     let mut text = factory_text();
@@ -57,7 +56,7 @@ pub fn parse(row: &[u8]) {
     reads(bytes, text.len);
 }
 
-// The factory text.
+// Returns the factory text.
 fn factory_text() -> Draft {
     let mut bytes = [0u8; SPACE];
     let written = backup::write(Table::factory(), &mut bytes);
@@ -65,7 +64,7 @@ fn factory_text() -> Draft {
     Draft { bytes, len }
 }
 
-// The length of a text; 0 of a refusal.
+// Returns the length of a text, and 0 for a refusal.
 fn len_of(written: Written) -> usize {
     match written {
         Written::Len(len) => len,
@@ -73,7 +72,7 @@ fn len_of(written: Written) -> usize {
     }
 }
 
-// What a reading answers: accepted, and the settings that are not the factory's; or the number and the line, and the same of its table.
+// Parses a text and writes the answer: accepted, or the number and the line of the refusal; then what is not the factory's in its table.
 fn reads(bytes: [u8; SPACE], len: usize) {
     let read = backup::read(&bytes[0..least(len, SPACE)]);
     let verdict = read.verdict;
@@ -81,7 +80,7 @@ fn reads(bytes: [u8; SPACE], len: usize) {
     filled::differences(read.table);
 }
 
-// A verdict.
+// Writes whether a text was accepted.
 fn judged(verdict: Checked) {
     match verdict {
         Checked::Accepted => words::say(words::ACCEPTED),
@@ -92,7 +91,7 @@ fn judged(verdict: Checked) {
     }
 }
 
-// Whether a word replaces a line.
+// Returns whether a word replaces a line.
 pub fn is_line(word: &[u8]) -> bool {
     let mark = find(word, 0, word.len(), EQUALS);
     if mark == word.len() {
@@ -101,7 +100,7 @@ pub fn is_line(word: &[u8]) -> bool {
     numbers::is_number(numbers::number_of(&word[0..mark])) & kinds::is_bytes(&word[mark + 1..])
 }
 
-// The text with a word of a row in place of a line.
+// Returns the text with a word of a row in place of a line.
 fn replaced(text: Draft, row: &[u8], k: usize) -> Draft {
     let from = start_of(row, BLANK, k);
     let to = find(row, from, row.len(), BLANK);
@@ -113,7 +112,7 @@ fn replaced(text: Draft, row: &[u8], k: usize) -> Draft {
     with_line(old, text.len, line, new, len)
 }
 
-// The end of the line that begins at a place, after its newline, or of the text.
+// Returns the end of the line that begins at a place, after its newline, or of the text.
 fn behind_line(text: &[u8], from: usize) -> usize
     requires { ⌜ from ≤ length (now text) ⌝ }
     ensures { λ r. ⌜ r ≤ length (now (text .entry)) ⌝ }
@@ -125,7 +124,7 @@ fn behind_line(text: &[u8], from: usize) -> usize
     place + 1
 }
 
-// Puts bytes at a place, as far as there is room, and answers the place after them.
+// Puts bytes at a place, as far as there is room, and returns the place after them.
 fn append(into: &mut [u8; SPACE], from: usize, all: &[u8]) -> usize {
     let mut at = from;
     let mut i = 0;
@@ -140,7 +139,7 @@ fn append(into: &mut [u8; SPACE], from: usize, all: &[u8]) -> usize {
     at
 }
 
-// The text with bytes in place of a line, the first being 1; a line past the last one is what follows the text.
+// Returns the text with bytes in place of a line, the first being 1. A line past the last one is what follows the text.
 fn with_line(
     old: [u8; SPACE],
     old_len: usize,
@@ -158,7 +157,7 @@ fn with_line(
     Draft { bytes, len: end }
 }
 
-// The number before a line's, where lines are counted from 0.
+// Returns a line's number counted from 0.
 fn before(line: usize) -> usize {
     if line == 0 {
         return 0;

@@ -1,4 +1,4 @@
-// The words of answers.
+// The words of answers, by their numbers.
 ghost use Prim.Native.Nat.{_≤_};
 ghost use mathlib.Core.Path.{_≡_};
 ghost use lib.ListN.{length};
@@ -82,7 +82,7 @@ pub const TAB: usize = 34;
 
 pub const CUT_OFF: usize = 35;
 
-// The words, numbered from 0, each ended by a bar: one table, since a check takes much longer over a literal for each.
+// Returns the words, numbered from 0, each ended by a bar. They are one table, since a check takes much longer over a literal for each.
 fn table() -> [u8; SIZE]
     ensures { λ r. ⌜ 347 ≡ length r ⌝ }
 {

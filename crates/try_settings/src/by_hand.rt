@@ -6,7 +6,7 @@ use tables::Answer;
 use tables::Change;
 use tables::Table;
 
-// The place of an id; past the table for no setting.
+// Returns the place of an id, which is past the table for no setting.
 pub fn place(id: u16) -> usize {
     match settings::find(id) {
         Found::At(setting) => setting.index,
@@ -14,7 +14,7 @@ pub fn place(id: u16) -> usize {
     }
 }
 
-// The setting at a place; past the table one with nothing in it, whose id 0 is no setting.
+// Returns the setting at a place; past the table one with nothing in it, whose id 0 is no setting.
 pub fn setting(place: usize) -> Setting {
     match settings::at(place) {
         Found::At(setting) => setting,
@@ -27,7 +27,7 @@ pub fn setting(place: usize) -> Setting {
     }
 }
 
-// The factory table with two numbers put in, allowed or not.
+// Returns the factory table with two numbers put in, allowed or not.
 pub fn with(first: u16, one: u16, second: u16, other: u16) -> Table {
     put(
         put(Table::factory(), place(first), one),
@@ -36,7 +36,7 @@ pub fn with(first: u16, one: u16, second: u16, other: u16) -> Table {
     )
 }
 
-// A number put in with no question asked.
+// Returns a table with a number put in, allowed or not.
 fn put(table: Table, place: usize, number: u16) -> Table {
     let mut numbers = table.numbers;
     if place < COUNT {
@@ -45,7 +45,8 @@ fn put(table: Table, place: usize, number: u16) -> Table {
     Table { numbers }
 }
 
-// A Set left the table right: that setting alone changed and the table allowed, or, refused, the table as it was.
+// Returns whether a Set left the table right: accepted, that setting alone changed and the table is allowed; refused, the table is as it
+// was.
 pub fn is_right(before: Table, change: Change, place: usize, number: u16) -> bool {
     let answer = change.answer;
     let after = change.table;
@@ -55,7 +56,7 @@ pub fn is_right(before: Table, change: Change, place: usize, number: u16) -> boo
     }
 }
 
-// The same numbers.
+// Returns whether two tables have the same numbers.
 fn same(one: Table, other: Table) -> bool {
     let a = one.numbers;
     let b = other.numbers;

@@ -1,4 +1,4 @@
-// All bytes as the data of a frame: its characters by the plain rule for digits and the check by the plain sum, and the frame read back.
+// All bytes as the data of a frame: its digits by the plain rule and its check by the plain sum, and the frame parsed again.
 use crate::say;
 use wire::Read;
 use wire::Written;
@@ -10,15 +10,15 @@ const FRAME_ROOM: usize = 75;
 
 const MOST_DATA: usize = 35;
 
-// A Get, a byte and the check come to this sum.
+// The sum that a Get, a byte and the check come to.
 const SUM: usize = 0x55;
 
 const GET: u8 = 7;
 
-// A frame of one data byte: colon, command, two digits each for the byte and the check, newline.
+// How long a frame of one data byte is: colon, command, two digits each for the byte and the check, newline.
 const LEN: usize = 7;
 
-// The line for all bytes.
+// Prints the line for all bytes.
 pub fn all() {
     let mut agreed = 0;
     let mut byte = 0;
@@ -32,12 +32,12 @@ pub fn all() {
     );
 }
 
-// The check beside a byte.
+// Returns the check that goes with a byte.
 fn check_of(byte: usize) -> usize {
     (BYTES + SUM - GET as usize - byte % BYTES) % BYTES
 }
 
-// The frame of a byte by the plain rule.
+// Returns the frame of a byte by the plain rule.
 fn frame_of(byte: usize) -> [u8; LEN] {
     let check = check_of(byte);
     [
@@ -51,17 +51,17 @@ fn frame_of(byte: usize) -> [u8; LEN] {
     ]
 }
 
-// The low byte of a number.
+// Returns the low byte of a number.
 fn low(n: usize) -> u8 {
     (n % BYTES) as u8
 }
 
-// Whether a frame is at the front of what was lent.
+// Returns whether a frame is at the front of what was lent.
 fn is_front(out: [u8; FRAME_ROOM], due: [u8; LEN]) -> bool {
     check::same(&out[0..LEN], &due)
 }
 
-// Whether the writer makes that frame.
+// Returns whether `write_frame` writes that frame.
 fn is_written(byte: usize) -> bool {
     let mut out = [0u8; FRAME_ROOM];
     let written = wire::write_frame(GET, &[low(byte)], &mut out);
@@ -71,12 +71,12 @@ fn is_written(byte: usize) -> bool {
     }
 }
 
-// The first byte of what was lent.
+// Returns the first byte of what was lent.
 fn first(into: [u8; MOST_DATA]) -> u8 {
     into[0]
 }
 
-// Whether the reader takes it back as that byte.
+// Returns whether `read_frame` gives that byte back.
 fn is_read(byte: usize) -> bool {
     let due = frame_of(byte);
     let mut into = [0u8; MOST_DATA];

@@ -1,11 +1,11 @@
-// All ids looked up, against a plain search through the places.
+// All ids looked up, each compared with a plain search through the places.
 use crate::by_hand;
 use crate::say;
 use settings::COUNT;
 
 const IDS: usize = 65536;
 
-// The line for all ids.
+// Prints the line for all ids.
 pub fn all() {
     let mut settings = 0;
     let mut agreed = 0;
@@ -24,7 +24,7 @@ pub fn all() {
     );
 }
 
-// The first place with an id, or past the table.
+// Returns the first place with an id, or one past the table.
 fn search(id: u16) -> usize {
     let mut place = 0;
     while place < COUNT {

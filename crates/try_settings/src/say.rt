@@ -7,7 +7,7 @@ const TWO_BYTES: usize = 65536;
 
 const MILLION: usize = 1000000;
 
-// A text, with the next number in place of each '#', and of each '@' as an id.
+// Prints a text, with the next number in place of each '#', and as an id in place of each '@'.
 pub fn text(text: &[u8], numbers: [usize; NUMBERS]) {
     let mut used = 0;
     let mut i = 0;
@@ -17,12 +17,12 @@ pub fn text(text: &[u8], numbers: [usize; NUMBERS]) {
     }
 }
 
-// A text with one number, or none.
+// Prints a text with one number, or none.
 pub fn one(words: &[u8], number: usize) {
     text(words, [number, 0, 0, 0]);
 }
 
-// Prints one part of a text, and answers how many numbers are used then.
+// Prints one part of a text, and returns how many numbers are used then.
 fn part(byte: u8, numbers: [usize; NUMBERS], used: usize) -> usize {
     let at = used % NUMBERS;
     if byte == b'#' {
@@ -37,13 +37,13 @@ fn part(byte: u8, numbers: [usize; NUMBERS], used: usize) -> usize {
     used
 }
 
-// Four digits with capital letters, as document 01 writes an id.
+// Prints four digits with capital letters, as document 01 writes an id.
 fn id(n: usize) {
     let digits = [digit(n / 4096), digit(n / 256), digit(n / 16), digit(n)];
     io::write_all(STDOUT_FILENO, &digits);
 }
 
-// The last hex digit of a number.
+// Returns the last hex digit of a number.
 pub fn digit(n: usize) -> u8 {
     let last = n % 16;
     if last < 10 {
@@ -52,17 +52,17 @@ pub fn digit(n: usize) -> u8 {
     b'A' + (last - 10) as u8
 }
 
-// The distance of two numbers.
+// Returns the distance of two numbers.
 pub fn apart(a: usize, b: usize) -> usize {
     if a < b { b - a } else { a - b }
 }
 
-// A number at the calls' width.
+// Returns a number in 16 bits, as the calls take it.
 pub fn short(n: usize) -> u16 {
     if n < TWO_BYTES { n as u16 } else { 0 }
 }
 
-// One more; the remainder keeps the sum from wrapping and changes no count up to 65536.
+// Returns a count with one more, if it is due. The remainder keeps the sum from wrapping and changes no count up to 65536.
 pub fn more(count: usize, is_due: bool) -> usize {
     if is_due { count % MILLION + 1 } else { count }
 }

@@ -1,5 +1,5 @@
-// All wished numbers of one setting beside one number of its partner: `nearest` and `set` against a plain search that goes up through
-// the numbers. What is accepted is what `set` accepts; the line shows it as runs.
+// All wished numbers of one setting beside one number of its partner: `nearest` and `set`, compared with a plain search that goes up
+// through the numbers. What is accepted is what `set` accepts; the printed line shows it as runs.
 use crate::by_hand;
 use crate::say;
 use settings::Number;
@@ -8,12 +8,12 @@ use tables::Table;
 
 const WISHED: usize = 65536;
 
-// Farther from every number than any two numbers are apart.
+// A number farther from every number than any two numbers are apart.
 const NOWHERE: usize = 1000000;
 
 const NUMBER_NOT_ALLOWED: u8 = 10;
 
-// A setting and its partner's number, which both hold in the table: equal numbers agree.
+// A setting beside its partner's number. The two of a pair both hold that number in the table, since equal numbers agree.
 pub struct Case {
     pub table: Table,
     pub place: usize,
@@ -28,7 +28,7 @@ struct Seen {
     agreed: usize,
 }
 
-// The line of one sweep.
+// Prints the line of one sweep.
 pub fn line(case: Case) {
     let first = next(case, 0);
     say::text(b"@ takes #", [case.id as usize, first, 0, 0]);
@@ -54,7 +54,7 @@ fn up(case: Case, first: usize) -> usize {
     seen.agreed
 }
 
-// One wished number.
+// Compares the calls with the search for one wished number.
 fn turn(case: Case, seen: Seen, wished: usize) -> Seen {
     let above = ahead(case, seen, wished);
     let below = last(seen.below, above, wished);
@@ -70,7 +70,7 @@ fn turn(case: Case, seen: Seen, wished: usize) -> Seen {
     }
 }
 
-// The next accepted number from here. Where it jumps, a run has ended.
+// Returns the next accepted number from here. Where it jumps, a run has ended.
 fn ahead(case: Case, seen: Seen, wished: usize) -> usize {
     if wished <= seen.above {
         return seen.above;
@@ -82,7 +82,7 @@ fn ahead(case: Case, seen: Seen, wished: usize) -> usize {
     above
 }
 
-// The end of a run and the start of the next; no run reaches 65535, so each has its end here.
+// Prints the end of a run and the start of the next. No run reaches 65535, so each has its end here.
 fn jump(below: usize, above: usize) {
     if above < WISHED {
         say::text(b"..# #", [below, above, 0, 0]);
@@ -91,7 +91,7 @@ fn jump(below: usize, above: usize) {
     }
 }
 
-// The first accepted number from here on.
+// Returns the first accepted number from here on.
 fn next(case: Case, from: usize) -> usize {
     let mut n = from;
     while n < WISHED {
@@ -103,7 +103,7 @@ fn next(case: Case, from: usize) -> usize {
     NOWHERE
 }
 
-// Whether a Set of the number is accepted.
+// Returns whether a Set of the number is accepted.
 fn accepts(case: Case, number: u16) -> bool {
     let change = case.table.set(case.place, number);
     let answer = change.answer;
@@ -113,12 +113,12 @@ fn accepts(case: Case, number: u16) -> bool {
     }
 }
 
-// The last accepted number up to here.
+// Returns the last accepted number up to here.
 fn last(below: usize, above: usize, wished: usize) -> usize {
     if above == wished { wished } else { below }
 }
 
-// The nearer of two numbers, the smaller on a tie.
+// Returns the nearer of two numbers, the smaller on a tie.
 fn closer(wished: usize, below: usize, above: usize) -> usize {
     if say::apart(wished, above) < say::apart(wished, below) {
         above
@@ -127,7 +127,7 @@ fn closer(wished: usize, below: usize, above: usize) -> usize {
     }
 }
 
-// Both calls answer the due number, which is the wished one exactly where that is accepted.
+// Returns whether both calls answer the due number, which is the wished one exactly where that is accepted.
 fn agrees(case: Case, wished: u16, due: u16) -> bool {
     let table = case.table;
     let change = table.set(case.place, wished);
@@ -137,7 +137,7 @@ fn agrees(case: Case, wished: u16, due: u16) -> bool {
         & by_hand::is_right(table, change, case.place, wished)
 }
 
-// A number, and the one that is due.
+// Returns whether an answer is the number that is due.
 fn is_number(answer: Number, due: u16) -> bool {
     match answer {
         Number::Is(n) => n == due,
@@ -145,7 +145,7 @@ fn is_number(answer: Number, due: u16) -> bool {
     }
 }
 
-// Accepted where the wished number is due, else refused 10 with the one that is.
+// Returns whether an answer is right: accepted where the wished number is due, else refused 10 with the one that is.
 fn is_answer(answer: Answer, wished: u16, due: u16) -> bool {
     match answer {
         Answer::Accepted => due == wished,

@@ -12,10 +12,10 @@ const CHARGE: [u16; 4] = [0, 1, 495, 990];
 
 const HEAT: [u16; 4] = [0, 17400, 25000, 37200];
 
-// Without a partner its number is unused, whatever it is.
+// The partner's number of a setting that has no partner, which is unused whatever it is.
 const UNUSED: u16 = 65535;
 
-// Every setting.
+// Sweeps every setting.
 pub fn all() {
     pair(0x0320, 0x0321, VOLTS);
     pair(0x0322, 0x0323, VOLTS);
@@ -27,7 +27,7 @@ pub fn all() {
     alone(by_hand::place(0xEEF5), COUNT);
 }
 
-// The two of a pair, each beside some numbers of the other.
+// Sweeps the two of a pair, each beside some numbers of the other.
 fn pair(first: u16, second: u16, numbers: [u16; 4]) {
     let mut i = 0;
     while i < 4 {
@@ -37,7 +37,7 @@ fn pair(first: u16, second: u16, numbers: [u16; 4]) {
     }
 }
 
-// One setting beside one number of its partner.
+// Sweeps one setting beside one number of its partner.
 fn beside(id: u16, other: u16, partner: u16) {
     say::text(b"beside @ at #: ", [other as usize, partner as usize, 0, 0]);
     let place = by_hand::place(id);
@@ -50,7 +50,7 @@ fn beside(id: u16, other: u16, partner: u16) {
     });
 }
 
-// The settings from one place to before another.
+// Sweeps the settings from one place to before another.
 fn alone(from: usize, to: usize) {
     let mut place = from;
     while place < to {

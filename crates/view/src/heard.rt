@@ -9,7 +9,7 @@ use crate::state;
 use crate::values;
 use reply::Heeded;
 
-// The value of a good reply.
+// Returns what the value of a good reply comes to.
 fn on_value(id: u16, value: &[u8]) -> Sight
     ensures { λ r. ⌜ r ≡ onHeeded id (now (value .entry)) Heeded.Good ⌝ }
 {
@@ -19,7 +19,7 @@ fn on_value(id: u16, value: &[u8]) -> Sight
     Sight::Strange(id)
 }
 
-// A frame, as an answer to the Get of the due id.
+// Returns what a frame comes to, as an answer to the Get of the due id.
 fn on_frame(id: u16, command: u8, bytes: &[u8]) -> Sight
     ensures { λ r. ⌜ r ≡ sightAt id command (now (bytes .entry)) ⌝ }
 {
@@ -31,7 +31,7 @@ fn on_frame(id: u16, command: u8, bytes: &[u8]) -> Sight
     }
 }
 
-// A frame that comes to a viewer; after the last id nothing is due.
+// Returns what a frame comes to for a viewer. After the last id nothing is due.
 pub(crate) fn by(viewer: Viewer, command: u8, bytes: &[u8]) -> Sight
     ensures { λ r. ⌜ r ≡ sightOf viewer command (now (bytes .entry)) ⌝ }
 {

@@ -17,7 +17,7 @@ pub struct Viewer {
     pub understood: usize,
 }
 
-// What is next: the id that is due; nothing, all were answered; or document 01's number of the refusal.
+// What is next: the id that is due; nothing, as all were answered; or document 01's number of the refusal.
 pub enum Next {
     Waiting(u16),
     Done,
@@ -46,15 +46,15 @@ impl Viewer {
         state::told(state::begun(), Sight::Nothing)
     }
 
-    // Whether a start and replies give the viewer.
+    // Returns whether a start and replies give the viewer.
     pub fn is_allowed(self) -> bool
         ensures { λ r. ⌜ r ≡ allowed self ⌝ }
     {
         (self.understood <= self.answered) & (self.answered <= COUNT)
     }
 
-    // A frame was read, of this command and these data. A Get reply of the due id moves on, any other frame keeps waiting. Refuses 12 for a
-    // viewer that no start and replies give.
+    // Takes a frame of this command and these data. A Get reply of the due id moves on, and on any other frame the viewer waits on. Refuses
+    // 12 for a viewer that no start and replies give.
     pub fn reply(self, command: u8, bytes: &[u8]) -> Viewed
         ensures { λ r. ⌜ r ≡ viewing self command (now (bytes .entry)) ⌝ }
     {

@@ -1,11 +1,10 @@
-// A serial number: whether a value is one.
 ghost use mathlib.Core.Path.{_≡_};
 ghost use Rattle.who.specs.Parts.{serialFits};
 ghost use Rattle.view.specs.Values.{serialWidth, serialReads};
 use who::Identity;
 use who::Verdict;
 
-// Whether a board can have it: the same test as where a board is named.
+// Returns whether a board can have this serial, by the same test that names a board.
 fn fits(serial: &[u8]) -> bool
     ensures { λ r. ⌜ r ≡ serialFits (now (serial .entry)) ⌝ }
 {
@@ -17,7 +16,7 @@ fn fits(serial: &[u8]) -> bool
     }
 }
 
-// Returns how many bytes the value of a serial has.
+// Returns how many bytes the value of a serial has: a zero byte ends it where it has under 32.
 fn width_of(len: usize) -> usize
     ensures { λ r. ⌜ r ≡ serialWidth len ⌝ }
 {
@@ -27,7 +26,7 @@ fn width_of(len: usize) -> usize
     len
 }
 
-// Whether a value is a serial, which ends at the first zero byte, and nothing more.
+// Returns whether a value is a serial, which ends at the first zero byte, and nothing more.
 pub(crate) fn is_serial(value: &[u8]) -> bool
     ensures { λ r. ⌜ r ≡ serialReads (now (value .entry)) ⌝ }
 {

@@ -61,7 +61,7 @@ pub(crate) fn told(viewer: Viewer, sight: Sight) -> Viewed
     }
 }
 
-// Returns a viewer that is not allowed as it was.
+// Refuses a viewer that is not allowed by 12, and gives it back as it was.
 pub(crate) fn stray(viewer: Viewer) -> Viewed
     ensures { λ r. ⌜ r ≡ calls.stray viewer ⌝ }
 {
@@ -72,7 +72,7 @@ pub(crate) fn stray(viewer: Viewer) -> Viewed
     }
 }
 
-// Returns how many ids are answered.
+// Returns how many ids a frame answered.
 fn answers(sight: Sight) -> usize
     ensures { λ r. ⌜ (r ≡ calls.answers sight) × (r ≤ 1) ⌝ }
 {
@@ -83,7 +83,7 @@ fn answers(sight: Sight) -> usize
     }
 }
 
-// Returns how many of them with a value that is understood.
+// Returns how many ids a frame answered with a value that is understood.
 fn shows(sight: Sight) -> usize
     ensures { λ r. ⌜ (r ≡ calls.shows sight) × (r ≤ 1) ⌝ }
 {

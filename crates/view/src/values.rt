@@ -1,14 +1,14 @@
-// Which values are understood.
+// The form that each read-only value must have to be understood. The words for it are in `sentences`.
 ghost use mathlib.Core.Path.{_≡_};
 ghost use Rattle.view.specs.Values.{productFits, widthOf, isUnderstood};
 use crate::serial;
 
-// What comes before and after a product.
+// The bytes before and after a product.
 const INSTANCE: u8 = 0;
 
 const RESERVED: u8 = 0xFF;
 
-// Whether a value has the form of a product: four bytes, of which the outer two are fixed.
+// Returns whether a value has the form of a product: four bytes, of which the outer two are fixed.
 fn is_product(value: &[u8]) -> bool
     ensures { λ r. ⌜ r ≡ productFits (now (value .entry)) ⌝ }
 {
@@ -18,7 +18,7 @@ fn is_product(value: &[u8]) -> bool
     (value[0] == INSTANCE) & (value[3] == RESERVED)
 }
 
-// Returns how wide the version and the readings are.
+// Returns how many bytes the version and the readings have.
 fn width_of(id: u16) -> usize
     ensures { λ r. ⌜ r ≡ widthOf id ⌝ }
 {
@@ -31,7 +31,7 @@ fn width_of(id: u16) -> usize
     2
 }
 
-// Whether a value has the form that its id has.
+// Returns whether a value has the form that its id has.
 pub(crate) fn is_understood(id: u16, value: &[u8]) -> bool
     ensures { λ r. ⌜ r ≡ isUnderstood id (now (value .entry)) ⌝ }
 {

@@ -1,4 +1,5 @@
-// Who a board is, what it measures, and what of it is read out. Every call takes anything, and its promise fixes its answer (specs/Calls.antt).
+// Who a board is, what it measures, and what of it is read out. Every call takes anything, and its promise fixes its answer
+// (specs/Calls.antt).
 ghost use mathlib.Core.Path.{_≡_};
 ghost use Rattle.who.specs.Parts.{identityAllowed, noReadings};
 ghost use Rattle.who.specs.Calls.{naming, readingOut};
@@ -15,7 +16,7 @@ pub struct Identity {
     pub serial: [u8; paper::MOST_SERIAL],
 }
 
-// Whether something was accepted, or document 01's number of the refusal.
+// That something was accepted, or document 01's number of the refusal.
 pub enum Verdict {
     Accepted,
     Refused(u8),
@@ -49,7 +50,7 @@ pub struct Looked {
 }
 
 impl Identity {
-    // The identity of a product, a version and a serial: 12 for a serial over 32 bytes or with a byte outside 0x20..0x7E, and then
+    // Returns the identity of a product, a version and a serial: 12 for a serial over 32 bytes or with a byte outside 0x20..0x7E, and then
     // product and version 0 and an empty serial.
     pub fn named(product: u16, version: u16, serial: &[u8]) -> Named
         ensures { λ r. ⌜ r ≡ naming product version (now (serial .entry)) ⌝ }
@@ -66,7 +67,7 @@ impl Identity {
         }
     }
 
-    // Whether the serial fits, with 0 past its length.
+    // Returns whether the serial fits, with 0 past its length.
     pub fn is_allowed(self) -> bool
         ensures { λ r. ⌜ r ≡ identityAllowed self ⌝ }
     {
@@ -75,7 +76,7 @@ impl Identity {
 }
 
 impl Readings {
-    // No readings: all 0.
+    // Returns the readings of a board that has measured nothing: all 0.
     pub fn nothing() -> Readings
         ensures { λ r. ⌜ r ≡ noReadings ⌝ }
     {
@@ -89,7 +90,7 @@ impl Readings {
     }
 }
 
-// The value of a read-only id: 12 for an identity that is not allowed, then 7 for an id that is not read-only.
+// Returns the value of a read-only id: 12 for an identity that is not allowed, then 7 for an id that is not read-only.
 pub fn read_only(identity: Identity, readings: Readings, id: u16) -> Looked
     ensures { λ r. ⌜ r ≡ readingOut identity readings id ⌝ }
 {

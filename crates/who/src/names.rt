@@ -1,4 +1,4 @@
-// Identities.
+// Which identities are allowed. The array is 0 past the serial's length, so that an identity has one form.
 ghost use mathlib.Core.Path.{_≡_};
 ghost use mathlib.Core.Bool.{_&&_};
 ghost use lib.Dec.{leb};
@@ -11,14 +11,14 @@ ghost use Rattle.who.specs.Parts.{serialFits, identityOf, identityAllowe
 use crate::Identity;
 use crate::numbers;
 
-// A byte from one end to another.
+// Returns whether a byte is from low to high, both included.
 fn is_within(low: u8, b: u8, high: u8) -> bool
     ensures { λ r. ⌜ r ≡ (leb low b && leb b high) ⌝ }
 {
     (low <= b) & (b <= high)
 }
 
-// Every byte is: those of a serial, and the zeros after it.
+// Returns whether every byte is from low to high. It serves the bytes of a serial, and the zeros after it.
 fn all_within(bytes: &[u8], low: u8, high: u8) -> bool
     ensures { λ r. ⌜ r ≡ every (λ b. leb low b && leb b high) (now (bytes .entry)) ⌝ }
 {
@@ -31,7 +31,7 @@ fn all_within(bytes: &[u8], low: u8, high: u8) -> bool
     all
 }
 
-// A serial that a board can be started with.
+// Returns whether a board can be started with this serial.
 pub(crate) fn serial_fits(serial: &[u8]) -> bool
     ensures { λ r. ⌜ r ≡ serialFits (now (serial .entry)) ⌝ }
 {
@@ -39,7 +39,7 @@ pub(crate) fn serial_fits(serial: &[u8]) -> bool
         & all_within(serial, numbers::FIRST_PRINTED, numbers::LAST_PRINTED)
 }
 
-// An array with some bytes at its front, and zeros behind.
+// Returns an array with some bytes at its front, and zeros after them.
 pub(crate) fn front(from: &[u8]) -> [u8; paper::MOST_SERIAL]
     requires { ⌜ length (now from) ≤ mostSerial ⌝ }
     ensures { λ r. ⌜ r ≡ frontOf mostSerial (now (from .entry)) ⌝ }
@@ -49,7 +49,7 @@ pub(crate) fn front(from: &[u8]) -> [u8; paper::MOST_SERIAL]
     array
 }
 
-// The identity of a product, a version and a serial.
+// Returns the identity of a product, a version and a serial.
 pub(crate) fn identity_of(product: u16, version: u16, serial: &[u8]) -> Identity
     requires { ⌜ length (now serial) ≤ mostSerial ⌝ }
     ensures { λ r. ⌜ r ≡ identityOf product version (now (serial .entry)) ⌝ }
@@ -62,7 +62,7 @@ pub(crate) fn identity_of(product: u16, version: u16, serial: &[u8]) -> Identity
     }
 }
 
-// The identity of a board whose start was refused.
+// Returns the identity of a board whose start was refused.
 pub(crate) fn nobody() -> Identity
     ensures { λ r. ⌜ r ≡ noIdentity ⌝ }
 {
@@ -74,7 +74,7 @@ pub(crate) fn nobody() -> Identity
     }
 }
 
-// An identity whose serial fits, with 0 past its length.
+// Returns whether an identity's serial fits, with 0 past its length.
 pub(crate) fn is_identity(identity: Identity) -> bool
     ensures { λ r. ⌜ r ≡ identityAllowed identity ⌝ }
 {

@@ -1,6 +1,6 @@
-// The numbers that document 01 fixes for a board's identity and for what is read out of it.
+// Document 01's rule for the bytes of a serial.
 
-// A serial has at most 32 bytes of 0x20..0x7E, and no read-only value has more.
+// The first and the last byte that a serial may have.
 pub(crate) const FIRST_PRINTED: u8 = 0x20;
 
 pub(crate) const LAST_PRINTED: u8 = 0x7E;

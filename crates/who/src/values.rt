@@ -16,7 +16,7 @@ use crate::Value;
 use crate::Verdict;
 use crate::names;
 
-// An id that is read-only.
+// Returns the answer for an id that is read-only.
 fn found(value: Value) -> Looked
     ensures { λ r. ⌜ r ≡ record { verdict = Verdict.Accepted; value = value } ⌝ }
 {
@@ -26,7 +26,7 @@ fn found(value: Value) -> Looked
     }
 }
 
-// A refusal comes with no value.
+// Refuses an id, with no value.
 pub(crate) fn refused(number: u8) -> Looked
     ensures { λ r. ⌜ r ≡ noValue number ⌝ }
 {
@@ -39,7 +39,7 @@ pub(crate) fn refused(number: u8) -> Looked
     }
 }
 
-// The value that some bytes are.
+// Returns the value that some bytes are.
 fn value_of(from: &[u8]) -> Value
     requires { ⌜ length (now from) ≤ mostSerial ⌝ }
     ensures { λ r. ⌜ r ≡ valueOf (now (from .entry)) ⌝ }
@@ -50,7 +50,7 @@ fn value_of(from: &[u8]) -> Value
     }
 }
 
-// A number in two bytes.
+// Returns a number in two bytes.
 fn two(n: u16) -> Value
     ensures { λ r. ⌜ r ≡ valueOf (little 2 n) ⌝ }
 {
@@ -58,7 +58,7 @@ fn two(n: u16) -> Value
     value_of(&number)
 }
 
-// A number in four bytes.
+// Returns a number in four bytes.
 fn four(n: u32) -> Value
     ensures { λ r. ⌜ r ≡ valueOf (little 4 n) ⌝ }
 {
@@ -66,7 +66,7 @@ fn four(n: u32) -> Value
     value_of(&number)
 }
 
-// 0100: a zero byte, the product, FF.
+// Returns the value of 0100: a zero byte, the product, FF.
 fn product_value(identity: Identity) -> Value
     ensures { λ r. ⌜ r ≡ valueOf (productValue identity) ⌝ }
 {
@@ -75,7 +75,7 @@ fn product_value(identity: Identity) -> Value
     value_of(&four)
 }
 
-// 010A: the serial, and a zero byte after it if it has under 32. Past its length the array is 0 already.
+// Returns the value of 010A: the serial, and a zero byte after it if it has under 32. Past its length the array is 0 already.
 fn serial_value(identity: Identity) -> Value
     requires { ⌜ identityAllowed identity ≡ true ⌝ }
     ensures { λ r. ⌜ r ≡ valueOf (serialValue identity) ⌝ }
@@ -91,7 +91,7 @@ fn serial_value(identity: Identity) -> Value
     Value { len, bytes }
 }
 
-// The value of a read-only id.
+// Returns the value of a read-only id, and 7 for any other.
 pub(crate) fn looked(identity: Identity, readings: Readings, id: u16) -> Looked
     requires { ⌜ identityAllowed identity ≡ true ⌝ }
     ensures { λ r. ⌜ r ≡ lookedOf (readOnly identity readings id) ⌝ }

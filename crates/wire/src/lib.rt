@@ -1,5 +1,5 @@
-// Frames of document 01, for both ends of the line: a frame written, and a frame read whole. Every call takes anything, and its promise
-// fixes its answer and every lent byte (specs/Calls.antt).
+// Frames of document 01, for both ends of the serial line: a frame written, and a whole frame parsed. Every call takes anything, and its
+// promise fixes its answer and every lent byte (specs/Calls.antt).
 ghost use Rattle.laws.specs.Lists.{every};
 ghost use Rattle.laws.specs.Promise.{Gives};
 ghost use Rattle.wire.specs.Digits.{nibble, isDigit};
@@ -25,20 +25,20 @@ pub enum Written {
     Refused(u8),
 }
 
-// What the whole-frame reader answers: the frame's command and how many data bytes it has, or the number of the refusal.
+// What parsing a whole frame answers: the frame's command and how many data bytes it has, or the number of the refusal.
 pub enum Read {
     Frame { command: u8, len: usize },
     Refused(u8),
 }
 
-// Both digits of a byte, the high nibble first.
+// Returns both digits of a byte, the high nibble first.
 pub fn pair_of(byte: u8) -> Pair
     ensures { λ r. ⌜ r ≡ pairOf byte ⌝ }
 {
     digits::pair_of(byte)
 }
 
-// Returns the nibble that a digit stands for, and 16 for any other character.
+// Returns the nibble of a digit, and 16 for any other character.
 pub fn nibble_of(c: u8) -> u8
     ensures { λ r. ⌜ r ≡ nibble c ⌝ }
 {
@@ -48,14 +48,14 @@ pub fn nibble_of(c: u8) -> u8
     digits::nibble_of(c)
 }
 
-// Whether every character is a digit.
+// Returns whether every character is a digit.
 pub fn all_digits(chars: &[u8]) -> bool
     ensures { λ r. ⌜ r ≡ every isDigit (now (chars .entry)) ⌝ }
 {
     reader::all_digits(chars)
 }
 
-// Writes the frame of a command and its data to the front of `out`. Refuses 11 under 75 bytes of room, then 12 for a nibble over 15 or
+// Writes the frame of a command and its data to the front of `out`. Refuses 11 under 75 bytes of room, then 12 for a command over 15 or
 // over 35 data bytes; then nothing is written.
 pub fn write_frame(command: u8, bytes: &[u8], out: &mut [u8]) -> Written
     ensures { λ r. ⌜ Gives Written (writing command (now (bytes .entry)) (length (now (out .entry)))) (now (out .entry)) r (now (out .exit)) ⌝ }
@@ -72,8 +72,8 @@ pub fn write_frame(command: u8, bytes: &[u8], out: &mut [u8]) -> Written
     Written::Len(writer::put_frame(command, bytes, out))
 }
 
-// Reads one whole frame, from its colon to its newline, and puts its data at the front of `into`. Refuses 11 under 35 bytes of room,
-// then 2 for a slice not so enclosed, then 1 to 4 on the characters between.
+// Reads one whole frame, from its colon to its newline, and puts its data at the front of `into`. Refuses 11 under 35 bytes of room, then 2
+// for a slice that a colon and a newline do not enclose, then 1 to 4 for the characters between.
 pub fn read_frame(frame: &[u8], into: &mut [u8]) -> Read
     ensures { λ r. ⌜ Gives Read (parsing (now (frame .entry)) (length (now (into .entry)))) (now (into .entry)) r (now (into .exit)) ⌝ }
 {
@@ -86,8 +86,8 @@ pub fn read_frame(frame: &[u8], into: &mut [u8]) -> Read
     read_chars(&frame[1..frame.len() - 1], into)
 }
 
-// Reads the characters between a frame's colon and its newline, where they stand without the two, and puts the data at the front of
-// `into`. Refuses 11 under 35 bytes of room, then 1 to 4 on the characters.
+// Reads the characters between a frame's colon and its newline, without those two, and puts the data at the front of `into`. Refuses 11
+// under 35 bytes of room, then 1 to 4 for the characters.
 pub fn read_chars(chars: &[u8], into: &mut [u8]) -> Read
     ensures { λ r. ⌜ Gives Read (parsingChars (now (chars .entry)) (length (now (into .entry)))) (now (into .entry)) r (now (into .exit)) ⌝ }
 {

@@ -1,4 +1,4 @@
-// The reading of an ended frame's characters.
+// What document 01, "Frames", asks of a frame's characters, and the data that they carry.
 ghost use Prim.Native.Nat.{_+_, _*_, _≤_, _<_, _%_, _/_, _-_};
 ghost use mathlib.Core.Path.{_≡_};
 ghost use mathlib.Core.Bool.{true, false};
@@ -13,9 +13,10 @@ use crate::Read;
 use crate::digits;
 use crate::writer;
 
+// The data bytes and the check byte.
 const MOST_PAYLOAD: usize = 36;
 
-// Begun by a colon and ended by a newline.
+// Returns whether a frame begins with a colon and ends with a newline.
 pub(crate) fn well_enclosed(frame: &[u8]) -> bool
     ensures { λ r. ⌜ r ≡ wellEnclosed (now (frame .entry)) ⌝ }
 {
@@ -25,7 +26,7 @@ pub(crate) fn well_enclosed(frame: &[u8]) -> bool
     frame[0] == paper::COLON && frame[frame.len() - 1] == paper::NEWLINE
 }
 
-// Every character is a digit. There is no early way out, so that the compiler may look at many at a time.
+// Returns whether every character is a digit. It has no early return, so that the compiler may look at many characters at a time.
 pub(crate) fn all_digits(chars: &[u8]) -> bool
     ensures { λ r. ⌜ r ≡ every isDigit (now (chars .entry)) ⌝ }
 {
@@ -38,14 +39,14 @@ pub(crate) fn all_digits(chars: &[u8]) -> bool
     all
 }
 
-// Under 3 characters, or an even count.
+// Returns whether this many characters are no frame: under 3, or an even count.
 pub(crate) fn bad_count(n: usize) -> bool
     ensures { λ r. ⌜ r ≡ badCount n ⌝ }
 {
     n < 3 || n % 2 == 0
 }
 
-// The bytes after the command, the check byte last, at the front of an array that has room for them all.
+// Returns the bytes after the command, the check byte last, at the front of an array that has room for them all.
 fn payload_of(chars: &[u8]) -> [u8; MOST_PAYLOAD]
     requires { ⌜ (length (now chars) ≤ 73) × (every isDigit (now chars) ≡ true) ⌝ }
     ensures { λ r. ⌜ (length r ≡ 36) × (take (length (payloadOf (now (chars .entry)))) r ≡ payloadOf (now (chars .entry))) ⌝ }
@@ -59,7 +60,7 @@ fn payload_of(chars: &[u8]) -> [u8; MOST_PAYLOAD]
     payload
 }
 
-// What an odd number of digits say: 4, or the data to the front of `into`.
+// Reads an odd number of digits, and puts their data at the front of `into`. Refuses 4 where the sum is wrong; then nothing is written.
 pub(crate) fn read_digits(chars: &[u8], into: &mut [u8]) -> Read
     requires { ⌜ (length (now chars) ≤ 73) × (every isDigit (now chars) ≡ true) × (badCount (length (now chars)) ≡ false) × (35 ≤ length (now into)) ⌝ }
     ensures { λ r. ⌜ Gives Read (readAs (bodySays (now (chars .entry)))) (now (into .entry)) r (now (into .exit)) ⌝ }

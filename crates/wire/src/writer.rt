@@ -1,4 +1,3 @@
-// The frame writer.
 ghost use Prim.Native.Nat.{_+_, _*_, _≤_, _<_, _%_};
 ghost use mathlib.Core.Path.{_≡_};
 ghost use mathlib.Core.List.{[], _∷_};
@@ -9,7 +8,7 @@ ghost use Rattle.laws.specs.Promise.{overlaid};
 ghost use Rattle.wire.specs.Frame.{frame, check, digitsOf};
 use crate::digits;
 
-// The sum of some bytes, modulo 256.
+// Returns the sum of some bytes, modulo 256.
 pub(crate) fn sum_of(bytes: &[u8]) -> usize
     ensures { λ r. ⌜ r ≡ sumOf (now (bytes .entry)) % 256 ⌝ }
 {
@@ -22,7 +21,7 @@ pub(crate) fn sum_of(bytes: &[u8]) -> usize
     sum
 }
 
-// The check byte that brings command and data to the total.
+// Returns the check byte that brings command and data to the total.
 fn check_of(command: u8, bytes: &[u8]) -> u8
     ensures { λ r. ⌜ r ≡ check command (now (bytes .entry)) ⌝ }
 {
@@ -30,7 +29,7 @@ fn check_of(command: u8, bytes: &[u8]) -> u8
     ((paper::TOTAL + (256 - sum % 256)) % 256) as u8
 }
 
-// A byte's two digits at a place.
+// Puts a byte's two digits at a place.
 fn put_byte(out: &mut [u8], at: usize, byte: u8)
     requires { ⌜ at + 1 < length (now out) ⌝ }
     ensures { λ r. ⌜ now (out .exit) ≡ sets (now (out .entry)) at (digitsOf (byte ∷ [])) ⌝ }
@@ -40,7 +39,7 @@ fn put_byte(out: &mut [u8], at: usize, byte: u8)
     out[at + 1] = pair.low;
 }
 
-// The digits of some bytes from a place on.
+// Puts the digits of some bytes from a place on.
 fn put_bytes(out: &mut [u8], at: usize, bytes: &[u8])
     requires { ⌜ at + 2 * length (now bytes) ≤ length (now out) ⌝ }
     ensures { λ r. ⌜ now (out .exit) ≡ sets (now (out .entry)) at (digitsOf (now (bytes .entry))) ⌝ }
@@ -52,7 +51,7 @@ fn put_bytes(out: &mut [u8], at: usize, bytes: &[u8])
     }
 }
 
-// The whole frame at the buffer's front, and its length.
+// Puts the whole frame at the buffer's front, and returns its length.
 pub(crate) fn put_frame(command: u8, bytes: &[u8], out: &mut [u8]) -> usize
     requires { ⌜ (command < 16) × (length (now bytes) ≤ 35) × (75 ≤ length (now out)) ⌝ }
     ensures { λ r. ⌜ (r ≡ length (frame command (now (bytes .entry)))) × (now (out .exit) ≡ overlaid (frame command (now (bytes .entry))) (now (out .entry))) ⌝ }
