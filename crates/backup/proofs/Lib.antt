@@ -4,5 +4,6 @@ pub mod Calls
 pub mod Listing
 pub mod Lining
 pub mod RoundTrip
+pub mod Answering
 pub mod Theorems
 pub mod Same

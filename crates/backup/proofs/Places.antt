@@ -11,7 +11,7 @@ use Rattle.settings.specs.Columns.{count}
 use Rattle.backup.specs.Text.{placesFrom, places, header}
 use Rattle.backup.specs.Laws.{arePlaces}
 
-from-length : (left k : ℕ) → length (placesFrom left k) ≡ left
+pub from-length : (left k : ℕ) → length (placesFrom left k) ≡ left
 unfolding placesFrom
 from-length zero k = refl
 from-length (suc left) k = ap suc (from-length left (suc k))

@@ -218,11 +218,11 @@ from-filled (suc left) k s t long sum e =
     from-filled left (suc k) (changed s k (numberAt t k)) t (length-set (s .numbers) k (numberAt t k) ∙ long) (omega arith)
     (take-suc-set (s .numbers) k (numberAt t k) here ∙ ap (λ (l : List ℕ). l ++ numberAt t k ∷ []) e ∙ sym (take-suc (t .numbers) k 0 less))
 
-all-filled : (t : Table) → length (t .numbers) ≡ count → filled places factory t ≡ t
+pub all-filled : (t : Table) → length (t .numbers) ≡ count → filled places factory t ≡ t
 unfolding places
 all-filled t long = from-filled count 0 factory t (sym long) (omega (arith, long)) refl
 
-text-is : (t : Table) → textFor header places t ≡ textOf t
+pub text-is : (t : Table) → textFor header places t ≡ textOf t
 unfolding textOf
 text-is t = refl
 

@@ -4,14 +4,21 @@ use Rattle.wire.specs.Digits.{digit}
 use Rattle.lines.specs.Numbers.{decimalFrom}
 use Rattle.rows.specs.Row.{rowOf}
 use Rattle.backup.specs.Text.{linesFor, textFor, placesFrom, places, header, textOf}
-use Rattle.backup.specs.Laws.{ReadExactly, RefusedInOrder, WrittenIsRead, ReadIsWritten, TextIsShort, FactoryIsPrinted}
+use Rattle.backup.specs.Laws.{ReadExactly, RefusedInOrder, AnsweredExactly, WrittenExactly, WrittenIsRead, ReadIsWritten, TextIsShort, FactoryIsPrinted}
 use Rattle.backup.proofs.RoundTrip.{read-exactly, refused-order, written-read, read-written, text-fits}
+use Rattle.backup.proofs.Answering as answering
 
 pub text-is-read-exactly : ReadExactly
 text-is-read-exactly = read-exactly
 
 pub refused-in-order : RefusedInOrder
 refused-in-order = refused-order
+
+pub answered-exactly : AnsweredExactly
+answered-exactly = answering.answered-exactly
+
+pub written-exactly : WrittenExactly
+written-exactly = answering.written-exactly
 
 pub written-is-read : WrittenIsRead
 written-is-read = written-read

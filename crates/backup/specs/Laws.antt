@@ -1,25 +1,31 @@
 -- What is proved of the definitions, as statements to hold against the paper. Each is proved under its name in proofs/Theorems.antt.
 -- Assumes nothing.
-use Prim.Native.Nat.{ℕ, _+_, _≤_, _<_}
+use Prim.Native.Nat.{ℕ, suc, _+_, _≤_, _<_}
 use Prim.Native.String.{String}
 use mathlib.Core.Path.{_≡_}
+use mathlib.Core.Logic.{_↔_}
 use mathlib.Core.Bool.{Bool, true, false, _&&_}
 use mathlib.Core.List.{List, [], _∷_, _++_}
 use lib.ListN.{length}
 use lib.Dec.{ltb}
 use Rattle.laws.specs.Lists.{every}
-use Rattle.settings.specs.Columns.{count}
+use Rattle.laws.specs.Promise.{Given}
+use Rattle.settings.specs.Columns.{count, idAt}
 use Rattle.settings.specs.Rules.{inRange}
 use Rattle.tables.specs.Rules.{allowed, numberAt, changed, factory}
 use Rattle.tables.specs.declared.Table.{Table}
 use Rattle.lines.specs.Lines.{chars}
+use Rattle.rows.specs.Row.{rowOf}
 use Rattle.rows.specs.Calls.{judging}
+use Rattle.rows.specs.Laws.{Judges}
 use Rattle.rows.specs.declared.Judged.{Judged}
 use Rattle.paper.specs.Numbers as paper
 use Rattle.paper.specs.Numbers.{textRoom}
-use Rattle.backup.specs.Text.{textFor, textOf, good, refused, saysFor}
-use Rattle.wire.specs.Calls.{writtenAs}
-use Rattle.backup.specs.Calls.{writing, parsing, readAs}
+use Rattle.wire.specs.Calls.{unwritten, writtenAs}
+use Rattle.wire.specs.declared.Written.{Written}
+use Rattle.backup.specs.Text.{textFor, header, textOf, good, refused, saysFor}
+use Rattle.backup.specs.Calls.{writing, readAs, parsing}
+use Rattle.backup.specs.declared.Backup.{Backup}
 
 -- 1. A text with any first line and lines for any places of the table that ascend: it is read as a table exactly when that table is allowed,
 -- has factory numbers at every other place, and the text is byte for byte the one that is made for it.
@@ -54,11 +60,49 @@ abbrev pub RefusedInOrder : Type 0
 RefusedInOrder = (header done : List ℕ) (table : Table) (rest : List ℕ) → arePlaces done ≡ true → every (λ k. inRange k (numberAt table k)) done ≡ true
     → IsRefused header done table rest
 
--- 2. Reading a written backup gives the table back. (A table has its numbers in every value of the type, which `length` says.)
+-- 2. The same of the call itself, by the bytes of the text. Its good lines: the first line, and one for each of the first settings with these
+-- numbers, each in its own range; then the rest.
+abbrev pub rowsOf : ℕ → List ℕ → List ℕ
+rowsOf k [] = []
+rowsOf k (n ∷ later) = rowOf (idAt k) n ++ rowsOf (suc k) later
+
+abbrev pub inRanges : ℕ → List ℕ → Bool
+inRanges k [] = true
+inRanges k (n ∷ later) = inRange k n && inRanges (suc k) later
+
+pub record Good (text numbers rest : List ℕ) : Type 0 where
+  pub in-ranges : inRanges 0 numbers ≡ true
+  pub text-is : text ≡ header ++ (rowsOf 0 numbers ++ rest)
+
+-- Every text has one answer, and each is given exactly when its case holds: 13 at line 1; after good lines 14, 15 or 16 as the next one is
+-- judged (`Judges` of rows), with its line; when all lines are good, 18 where bytes follow; when none follow, 17 where the table is not
+-- allowed, which is by a pair, as every number is in its range; else the text is that of an allowed table, which is given.
+pub data Answers (text : List ℕ) : Backup → Type 0 where
+  other-header : ((rest : List ℕ) → text ≡ header ++ rest → ⊥) → Answers text (readAs (refused paper.otherHeader 1))
+  at-line : {numbers rest : List ℕ} {number : ℕ} → Good text numbers rest → length numbers < count → Judges (length numbers) rest (Judged.Refused number)
+      → Answers text (readAs (refused number (2 + length numbers)))
+  more-bytes : {numbers rest : List ℕ} → Good text numbers rest → length numbers ≡ count → 0 < length rest → Answers text (readAs (refused paper.moreBytes 0))
+  a-pair : {numbers : List ℕ} → Good text numbers [] → length numbers ≡ count → allowed (record { numbers = numbers }) ≡ false
+      → Answers text (readAs (refused paper.pairDisagrees 0))
+  a-table : {table : Table} → length (table .numbers) ≡ count → allowed table ≡ true → text ≡ textOf table → Answers text (readAs (good table))
+
+abbrev pub AnsweredExactly : Type 0
+AnsweredExactly = (text : List ℕ) (answer : Backup) → (parsing text ≡ answer) ↔ Answers text answer
+
+-- Writing: 11 exactly where the room is short; with room, 12 exactly where the table is not allowed; else its text.
+pub data Writes (table : Table) (room : ℕ) : Given Written → Type 0 where
+  short : room < textRoom → Writes table room (unwritten paper.shortBuffer)
+  not-allowed : textRoom ≤ room → allowed table ≡ false → Writes table room (unwritten paper.notAllowed)
+  its-text : textRoom ≤ room → allowed table ≡ true → Writes table room (writtenAs (textOf table))
+
+abbrev pub WrittenExactly : Type 0
+WrittenExactly = (table : Table) (room : ℕ) (answer : Given Written) → (writing table room ≡ answer) ↔ Writes table room answer
+
+-- 3. Reading a written backup gives the table back. (A table has its numbers in every value of the type, which `length` says.)
 abbrev pub WrittenIsRead : Type 0
 WrittenIsRead = (table : Table) → length (table .numbers) ≡ count → allowed table ≡ true → parsing (textOf table) ≡ readAs (good table)
 
--- 3. A text that is read without refusal is byte for byte the one that the writer makes for the table read, and that table is allowed.
+-- 4. A text that is read without refusal is byte for byte the one that the writer makes for the table read, and that table is allowed.
 pub record Text (table : Table) (text : List ℕ) : Type 0 where
   pub is-allowed : allowed table ≡ true
   pub is-whole : length (table .numbers) ≡ count
@@ -67,11 +111,11 @@ pub record Text (table : Table) (text : List ℕ) : Type 0 where
 abbrev pub ReadIsWritten : Type 0
 ReadIsWritten = (text : List ℕ) (table : Table) → parsing text ≡ readAs (good table) → Text table text
 
--- 4. Every text fits the room that writing needs.
+-- 5. Every text fits the room that writing needs.
 abbrev pub TextIsShort : Type 0
 TextIsShort = (table : Table) → allowed table ≡ true → length (textOf table) ≤ textRoom
 
--- 5. "The factory table is exactly these 27 lines": the two fields of each as they are printed there, a tab (9) between them and a newline
+-- 6. "The factory table is exactly these 27 lines": the two fields of each as they are printed there, a tab (9) between them and a newline
 -- (10) after them.
 pub data Row : Type 0 where
   row : (first second : String) → Row

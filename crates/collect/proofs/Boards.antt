@@ -1,6 +1,5 @@
 -- A board that answers every Get is read; so every allowed state is reached. Assumes nothing.
 use mathlib.Core.Path.{_≡_, refl, sym, ap, ap₂, subst, _∙_}
-use mathlib.Core.Logic.{inl}
 use mathlib.Core.Bool.{Bool, true, false, _&&_}
 use mathlib.Core.List.{List, [], _∷_, _++_, append-nil}
 use Prim.Native.Nat.{ℕ, suc, _+_, _-_, _^_, _≤_, _<_}
@@ -42,7 +41,7 @@ valued-takes l k v n wide is f = rw (eq-eqb (length v) (widthAt k) wide, is, f)
 reply-taken : (l : List ℕ) (k n : ℕ) → k < count → fits l k n ≡ true → intakeOf l k (heard getCode (goodReply k n)) ≡ Intake.Takes n
 reply-taken l k n h f =
     let number : fromLittle (little (widthAt k) n) ≡ n = little-is-read (widthAt k) n (fits-room l k n h f) in
-    let good : heeding getCode (idAt k) getCode (goodReply k n) ≡ Heeded.Good = said-heeded getCode (idAt k) (inl refl) (rows-hold k h .id-holds) Status.Good (little (widthAt k) n) in
+    let good : heeding getCode (idAt k) getCode (goodReply k n) ≡ Heeded.Good = said-heeded getCode (idAt k) (rows-hold k h .id-holds) refl Status.Good (little (widthAt k) n) in
     sym (heeded-is l k getCode (goodReply k n) Heeded.Good good) ∙ valued-takes l k (little (widthAt k) n) n (length-little (widthAt k) n) number f
 
 pub board-run : (more l : List ℕ) → AllFit (l ++ more) → length (l ++ more) ≤ count → run (held l) (replies (length l) more) ≡ held (l ++ more)

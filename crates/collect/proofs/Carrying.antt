@@ -1,6 +1,6 @@
 -- What is taken of an event is what it carries. Assumes nothing.
 use mathlib.Core.Path.{_≡_, refl, sym, ap, _∙_}
-use mathlib.Core.Logic.{_≢_, inl}
+use mathlib.Core.Logic.{_≢_}
 use mathlib.Core.Bool.{Bool, true, false, cond, _&&_}
 use mathlib.Core.List.{List, [], _∷_, _++_}
 use Prim.Native.Nat.{ℕ, _<_}
@@ -74,17 +74,17 @@ module _ (l : List ℕ) (k : ℕ) (bytes : List ℕ) (small : every (λ b. ltb b
 module _ (l : List ℕ) (k command : ℕ) (bytes : List ℕ) (small : Bytes bytes) where
   said-carries : (h : Heeded) → Says getCode (idAt k) command bytes h → onHeeded l k (rest bytes) h ≡ carries l k (heard command bytes)
   unfolding carries
-  said-carries Heeded.Good (says-good is are) =
+  said-carries Heeded.Good (says-good stated is are) =
       rw (said-answers getCode (idAt k) command bytes Status.Good is are) (good-told l k bytes (small .below) are)
-  said-carries (Heeded.Bad status) (says-bad bad is are) =
+  said-carries (Heeded.Bad status) (says-bad bad stated is are) =
       rw (said-answers getCode (idAt k) command bytes status is are) (other-flag l k bytes (small .below) status bad are)
-  said-carries Heeded.Waits (says-nothing none) = rw (none-answers getCode (idAt k) command bytes none)
+  said-carries Heeded.Waits (says-nothing none) = rw (none-answers getCode (idAt k) command bytes (λ status. none status refl))
 
   heard-carries : k < count → intakeOf l k (heard command bytes) ≡ carries l k (heard command bytes)
   heard-carries h =
       let heeded = heeding getCode (idAt k) command bytes in
       sym (heeded-is l k command bytes heeded refl)
-      ∙ said-carries heeded (heed-is-said getCode (idAt k) command bytes (inl refl) (rows-hold k h .id-holds) small)
+      ∙ said-carries heeded (heed-is-said getCode (idAt k) command bytes (rows-hold k h .id-holds) small)
 
 refused-carries : (l : List ℕ) (k : ℕ) → intakeOf l k refusedFrame ≡ carries l k refusedFrame
 unfolding intakeOf carries

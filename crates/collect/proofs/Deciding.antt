@@ -1,20 +1,17 @@
 -- The setting at a place, the numbers that fit it, and what a frame decides. Assumes nothing.
-use mathlib.Core.Path.{_≡_, refl, sym, ap, _∙_}
+use mathlib.Core.Path.{_≡_, sym, ap, _∙_}
 use mathlib.Core.Logic.{_≢_}
-use mathlib.Core.Bool.{Bool, true, false, cond, false≢true}
-use mathlib.Core.List.{List, [], _∷_}
-use Prim.Native.Nat.{ℕ, zero, suc, _+_, _-_, _≤_, _<_}
-use native.Mathlib.Nat.{le-of-suc-le-suc}
+use mathlib.Core.Bool.{true, false}
+use mathlib.Core.List.{List}
+use Prim.Native.Nat.{ℕ, _+_, _-_, _≤_, _<_}
 use native.Mathlib.Omega.{arith}
-use borrow.Author.Tests.{lt-ltb, le-ltb, ltb-false, eq-eqb, ne-eqb}
+use borrow.Author.Tests.{lt-ltb, le-ltb, eq-eqb, ne-eqb}
 use lib.ListN.{length, getD, drop, length-drop}
-use lib.Dec.{ltb}
 use Rattle.paper.specs.Numbers.{getCode}
 use Rattle.endian.specs.Numbers.{fromLittle}
-use Rattle.settings.specs.Columns.{count, ids, idAt, widths, widthAt, partnerIds, partnerAt}
-use Rattle.settings.specs.Calls.{settingAt, placing, allowing}
+use Rattle.settings.specs.Columns.{count, idAt, widthAt, partnerAt}
+use Rattle.settings.specs.Calls.{settingAt, allowing}
 use Rattle.settings.specs.declared.Setting.{Setting}
-use Rattle.settings.specs.declared.Found.{Found}
 use Rattle.settings.proofs.Theorems.{rows-hold}
 use Rattle.reply.specs.Replies.{rest}
 use Rattle.reply.specs.Calls.{heeding}

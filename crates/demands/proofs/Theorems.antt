@@ -33,7 +33,7 @@ pub set-is-understood : SetIsUnderstood
 set-is-understood = set-understood
 
 pub count-is-matched : CountIsMatched
-count-is-matched = follow.count-is-matched
+count-is-matched = follow.count-is-told
 
 -- demand 3
 pub board-decides : BoardDecides

@@ -92,6 +92,7 @@ pub record SetRead (k n : ℕ) (more : List ℕ) : Type 0 where
 abbrev pub SetIsUnderstood : Type 0
 SetIsUnderstood = (k n : ℕ) (more : List ℕ) → k < count → n < 256 ^ widthAt k → SetRead k n more
 
--- 4. For any events at a follower, its confirmed count is the number that matched the Set then due, by `matched`, which has no follower in it.
+-- 4. For any events on a stream, the count that the last of a row of calls on a follower tells is the number of them that matched the Set then
+-- due, by `matched`, which has no follower in it.
 abbrev pub CountIsMatched : Type 0
-CountIsMatched = follow.CountIsMatched
+CountIsMatched = follow.CountIsTold

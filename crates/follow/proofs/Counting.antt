@@ -25,7 +25,7 @@ use Rattle.restore.proofs.Theorems.{due-tells}
 use Rattle.restore.proofs.Rows.{due-is}
 use Rattle.reply.specs.Events.{Event, OnStream, a-frame, a-refusal, a-silence}
 use Rattle.follow.specs.Following.{effectOf, standing, moved, after, advanced, begun, followerAllowed}
-use Rattle.follow.specs.Laws.{run, matches, ends, matched}
+use Rattle.follow.specs.Laws.{run, matches, ends, matched, isEnded}
 use Rattle.follow.specs.declared.Follower.{Follower}
 use Rattle.follow.specs.declared.Standing.{Standing}
 use Rattle.follow.specs.declared.effect.Effect.{Effect}
@@ -111,14 +111,14 @@ module _ (from to : Table) (ok : bothAllowed from to ≡ true) where
   pub waits-moves : (n : ℕ) (w : Wanted) → dueIn from to n ≡ Due.Set w → (e : Event) → advanced (at n false) e ≡ moved (at n false) (effectOf (Request.Set w) e)
   waits-moves n w due e = sym (advanced-is (at n false) e (Standing.Waiting (Request.Set w)) (sym (standing-is (at n false) (Due.Set w) due)))
 
-  -- what is confirmed is what matched of the Sets that were left
-  counted : (n : ℕ) (l : List Wanted) (events : List Event) → drop n (dueSets from to) ≡ l → OnStream events
-      → run (at n false) events .confirmed ≡ n + matched l events
-  unfolding matched
-  counted n [] events e r = ap (λ (f : Follower). f .confirmed) (stays (at n false) (none-stays n false (due-left n [] e)) events) ∙ sym (add-zero n)
-  counted n (w ∷ l) [] e r = sym (add-zero n)
-  counted n (w ∷ l) (x ∷ more) e r = by (matches w x) (ends w x) refl refl
-      (counted (suc n) l more (drop-next (dueSets from to) l n w e) (later r)) (counted n (w ∷ l) more e (later r))
+  -- what is confirmed is what matched of the Sets that were left, and it has stopped where one of them was ended
+  goes-as : (n : ℕ) (l : List Wanted) (events : List Event) → drop n (dueSets from to) ≡ l → OnStream events
+      → run (at n false) events ≡ at (n + matched l events) (isEnded l events)
+  unfolding matched isEnded
+  goes-as n [] events e r = stays (at n false) (none-stays n false (due-left n [] e)) events ∙ ap (λ (k : ℕ). at k false) (sym (add-zero n))
+  goes-as n (w ∷ l) [] e r = ap (λ (k : ℕ). at k false) (sym (add-zero n))
+  goes-as n (w ∷ l) (x ∷ more) e r = by (matches w x) (ends w x) refl refl
+      (goes-as (suc n) l more (drop-next (dueSets from to) l n w e) (later r)) (goes-as n (w ∷ l) more e (later r))
     where
       due : dueIn from to n ≡ Due.Set w
       due = due-left n (w ∷ l) e
@@ -126,19 +126,22 @@ module _ (from to : Table) (ok : bothAllowed from to ≡ true) where
       moves : advanced (at n false) x ≡ moved (at n false) (cond (matches w x) Effect.Confirms (cond (ends w x) Effect.Stops Effect.Waits))
       moves = waits-moves n w due x ∙ ap (moved (at n false)) (effect-is w (sound-due n w due) x (first r))
 
-      by : (s t : Bool) → matches w x ≡ s → ends w x ≡ t → run (at (suc n) false) more .confirmed ≡ suc n + matched l more
-          → run (at n false) more .confirmed ≡ n + matched (w ∷ l) more
-          → run (advanced (at n false) x) more .confirmed ≡ n + cond (matches w x) (suc (matched l more)) (cond (ends w x) zero (matched (w ∷ l) more))
-      by true t m d confirmed waited = rw (moves, m) (confirmed ∙ next n (matched l more))
+      by : (s t : Bool) → matches w x ≡ s → ends w x ≡ t → run (at (suc n) false) more ≡ at (suc n + matched l more) (isEnded l more)
+          → run (at n false) more ≡ at (n + matched (w ∷ l) more) (isEnded (w ∷ l) more)
+          → run (advanced (at n false) x) more
+          ≡ at (n + cond (matches w x) (suc (matched l more)) (cond (ends w x) zero (matched (w ∷ l) more)))
+          (cond (matches w x) (isEnded l more) (cond (ends w x) true (isEnded (w ∷ l) more)))
+      by true t m d confirmed waited = rw (moves, m) (confirmed ∙ ap (λ (k : ℕ). at k (isEnded l more)) (next n (matched l more)))
       by false true m d confirmed waited =
-          rw (moves, m, d) (ap (λ (f : Follower). f .confirmed) (stays (at n true) (stopped-stays n w due) more) ∙ sym (add-zero n))
+          rw (moves, m, d) (stays (at n true) (stopped-stays n w due) more ∙ ap (λ (k : ℕ). at k true) (sym (add-zero n)))
       by false false m d confirmed waited = rw (moves, m, d) waited
 
-  pub count-matched : (events : List Event) → OnStream events → run (at 0 false) events .confirmed ≡ matched (dueSets from to) events
-  count-matched events r = counted 0 (dueSets from to) events refl r ∙ zero-add (matched (dueSets from to) events)
+  pub run-is : (events : List Event) → OnStream events → run (at 0 false) events ≡ at (matched (dueSets from to) events) (isEnded (dueSets from to) events)
+  run-is events r =
+      goes-as 0 (dueSets from to) events refl r ∙ ap (λ (k : ℕ). at k (isEnded (dueSets from to) events)) (zero-add (matched (dueSets from to) events))
 
   -- the followers of these tables that are allowed
-  going-allowed : (n : ℕ) → n ≤ length (dueSets from to) → followerAllowed (at n false) ≡ true
+  pub going-allowed : (n : ℕ) → n ≤ length (dueSets from to) → followerAllowed (at n false) ≡ true
   unfolding followerAllowed
   going-allowed n h = rw (ok, le-leb n (length (dueSets from to)) h)
 

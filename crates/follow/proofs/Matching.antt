@@ -1,6 +1,5 @@
 -- An event, in bytes and by what it says to the Set that is due: the same of both says whether it confirms, stops or waits. Assumes nothing.
 use mathlib.Core.Path.{_≡_, refl, sym, ap, ap₂, _∙_}
-use mathlib.Core.Logic.{inr}
 use mathlib.Core.Bool.{Bool, true, false, cond, false≢true}
 use mathlib.Core.List.{List}
 use Prim.Native.Nat.{ℕ, _^_, _<_}
@@ -71,25 +70,25 @@ module _ (due : Wanted) (sound : Sound due) (command : ℕ) (bytes : List ℕ) (
 
   said-effect : (h : Heeded) → Says setCode id command bytes h → onHeeded due (rest bytes) h
       ≡ cond (matches due (heard command bytes)) Effect.Confirms (cond (ends due (heard command bytes)) Effect.Stops Effect.Waits)
-  said-effect Heeded.Good (says-good is are) = by (carries due (rest bytes)) refl
+  said-effect Heeded.Good (says-good stated is are) = by (carries due (rest bytes)) refl
     where
       by : (b : Bool) → carries due (rest bytes) ≡ b → cond b Effect.Confirms Effect.Stops
           ≡ cond (matches due (heard command bytes)) Effect.Confirms (cond (ends due (heard command bytes)) Effect.Stops Effect.Waits)
       by true e = rw (own-bytes is are e)
       by false e =
           rw (no-test (matches due (heard command bytes)) (λ m. false≢true (sym e ∙ own-carried m)), said-answers setCode id command bytes Status.Good is are)
-  said-effect (Heeded.Bad status) (says-bad bad is are) =
+  said-effect (Heeded.Bad status) (says-bad bad stated is are) =
       rw (no-test (matches due (heard command bytes)) (λ m. bad (own-flag status are m)), said-answers setCode id command bytes status is are)
   said-effect Heeded.Waits (says-nothing none) =
       let other : matches due (heard command bytes) ≡ false =
-      no-test (matches due (heard command bytes)) (λ m. none Status.Good (matches-said m .0) (matches-said m .1 ∙ ap (said id 0) (sym (ap (drop 3) (matches-said m .1))))) in
-      rw (other, none-answers setCode id command bytes none)
+      no-test (matches due (heard command bytes)) (λ m. none Status.Good refl (matches-said m .0) (matches-said m .1 ∙ ap (said id 0) (sym (ap (drop 3) (matches-said m .1))))) in
+      rw (other, none-answers setCode id command bytes (λ status. none status refl))
 
   heard-effect : onReply due command bytes
       ≡ cond (matches due (heard command bytes)) Effect.Confirms (cond (ends due (heard command bytes)) Effect.Stops Effect.Waits)
   heard-effect =
       sym (heeded-is due command bytes (heeding setCode id command bytes) refl)
-      ∙ said-effect (heeding setCode id command bytes) (heed-is-said setCode id command bytes (inr refl) (sound .id-fits) small)
+      ∙ said-effect (heeding setCode id command bytes) (heed-is-said setCode id command bytes (sound .id-fits) small)
 
 -- so any event, read or in bytes
 pub data AsRead : Event → Type 0 where

@@ -65,7 +65,7 @@ pub record Last (from to : Table) (n : ℕ) : Type 0 where
   pub both-allowed : bothAllowed from to ≡ true
   pub none : length (dueSets from to) ≤ n
 
-abbrev Known : (from to : Table) (n : ℕ) → Due → Type 0
+abbrev pub Known : (from to : Table) (n : ℕ) → Due → Type 0
 Known from to n (Due.Set due) = Next from to n due
 Known from to n Due.Nothing = Last from to n
 Known from to n (Due.Refused number) = bothAllowed from to ≡ false

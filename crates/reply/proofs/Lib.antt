@@ -2,6 +2,7 @@
 pub mod Choices
 pub mod Hearing
 pub mod Origins
+pub mod Dividing
 pub mod Measures
 pub mod Lengths
 pub mod Heeding

@@ -1,15 +1,16 @@
 -- What is proved of the definitions, as statements to hold against the paper. Each is proved under its name in proofs/Theorems.antt.
 -- Assumes nothing.
-use Prim.Native.Nat.{ℕ, _*_, _^_, _≤_, _<_}
+use Prim.Native.Nat.{ℕ, suc, _*_, _^_, _≤_, _<_}
 use mathlib.Core.Path.{_≡_}
-use mathlib.Core.Logic.{_≢_, _⊎_}
+use mathlib.Core.Logic.{_≢_}
 use mathlib.Core.Bool.{Bool, true, false, cond, _||_}
 use mathlib.Core.List.{List, [], _∷_}
 use mathlib.Core.Option.{some}
 use lib.ListN.{length}
 use lib.Dec.{eqb}
-use lib.IntN.{ℤ, pos}
+use lib.IntN.{ℤ, pos, negsuc}
 use lib.Signed.{mag}
+use lib.Ieee.{Float, binary64, round}
 use Rattle.paper.specs.Numbers as paper
 use Rattle.endian.specs.Numbers.{little, complement}
 use Rattle.laws.specs.Lists.{Bytes}
@@ -18,7 +19,6 @@ use Rattle.who.specs.Values.{readOnly}
 use Rattle.who.specs.declared.Identity.{Identity}
 use Rattle.who.specs.declared.Readings.{Readings}
 use Rattle.reply.specs.Replies.{flagOf, rest}
-use Rattle.reply.specs.Units.{over}
 use Rattle.reply.specs.Calls.{parsing, heeding, showing}
 use Rattle.reply.specs.declared.Status.{Status}
 use Rattle.reply.specs.declared.Reply.{Reply}
@@ -76,40 +76,48 @@ pub record Told (status : Status) (id : ℕ) (bytes : List ℕ) : Type 0 where
 abbrev pub ReadIsSaid : Type 0
 ReadIsSaid = (status : Status) (id : ℕ) (bytes : List ℕ) → Bytes bytes → Told status id bytes
 
--- 3. What a frame says to the Get or Set of an id that is due, in bytes: good exactly where the command is the code asked and the data are
--- the id, flag 00 and a value; bad where the flag is that of another status; and else it waits.
+-- 3. What a frame says to the request of a code and an id that is due, in bytes. Replies of three codes have a status: to a request of one of
+-- these it is good exactly where the command is the code asked and the data are the id, flag 00 and a value; bad where the flag is that of
+-- another status; and everything else waits, as everything does to a request of another code.
+abbrev pub hasStatus : ℕ → Bool
+hasStatus code = eqb code paper.getCode || (eqb code paper.setCode || eqb code paper.asyncCode)
+
 pub data Says (code id command : ℕ) (bytes : List ℕ) : Heeded → Type 0 where
-  says-good : command ≡ code → bytes ≡ said id 0 (rest bytes) → Says code id command bytes Heeded.Good
-  says-bad : {status : Status} → status ≢ Status.Good → command ≡ code → bytes ≡ said id (flagOf status) (rest bytes) → Says code id command bytes (Heeded.Bad status)
-  says-nothing : ((status : Status) → command ≡ code → bytes ≢ said id (flagOf status) (rest bytes)) → Says code id command bytes Heeded.Waits
+  says-good : hasStatus code ≡ true → command ≡ code → bytes ≡ said id 0 (rest bytes) → Says code id command bytes Heeded.Good
+  says-bad : {status : Status} → status ≢ Status.Good → hasStatus code ≡ true → command ≡ code → bytes ≡ said id (flagOf status) (rest bytes)
+      → Says code id command bytes (Heeded.Bad status)
+  says-nothing : ((status : Status) → hasStatus code ≡ true → command ≡ code → bytes ≢ said id (flagOf status) (rest bytes)) → Says code id command bytes Heeded.Waits
 
 abbrev pub HeedIsSaid : Type 0
-HeedIsSaid =
-    (code id command : ℕ) (bytes : List ℕ) → (code ≡ paper.getCode) ⊎ (code ≡ paper.setCode) → id < 256 ^ 2 → Bytes bytes
-    → Says code id command bytes (heeding code id command bytes)
+HeedIsSaid = (code id command : ℕ) (bytes : List ℕ) → id < 256 ^ 2 → Bytes bytes → Says code id command bytes (heeding code id command bytes)
 
 -- and what does not wait has the first three bytes, whatever the data are
 abbrev pub HeededIsLong : Type 0
 HeededIsLong = (code id command : ℕ) (bytes : List ℕ) → heeding code id command bytes ≢ Heeded.Waits → 3 ≤ length bytes
 
--- 4. A reading that a board sends is shown as its whole number, divided once. (`mag` is the distance to 0, or of a negative number to -1: twice
--- it below 256 ^ 2 is any number of 16 bits with a sign.)
+-- 4. A reading that a board sends is shown as the exact quotient of its whole number and the steps of the unit, "rounded by that one
+-- division": to the nearest double, a tie to the even one, by `round` of the logic's Ieee, which takes a sign, a numerator and a denominator.
+abbrev pub quotient : ℤ → ℕ → Float
+quotient (pos n) steps = round binary64 false n steps
+quotient (negsuc n) steps = round binary64 true (suc n) steps
+
+-- (`mag` is the distance to 0, or of a negative number to -1: twice it below 256 ^ 2 is any number of 16 bits with a sign.)
 pub record Narrow (x : ℤ) : Type 0 where
-  pub volts-shown : showing paper.voltageId (little 2 (complement 2 x)) ≡ Shown.Volts (over x 100)
-  pub amperes-shown : showing paper.currentId (little 2 (complement 2 x)) ≡ Shown.Amperes (over x 10)
+  pub volts-shown : showing paper.voltageId (little 2 (complement 2 x)) ≡ Shown.Volts (quotient x 100)
+  pub amperes-shown : showing paper.currentId (little 2 (complement 2 x)) ≡ Shown.Amperes (quotient x 10)
 
 abbrev pub NarrowIsShown : Type 0
 NarrowIsShown = (x : ℤ) → 2 * mag x < 256 ^ 2 → Narrow x
 
 pub record Wide (x : ℤ) : Type 0 where
-  pub fine-shown : showing paper.fineId (little 4 (complement 4 x)) ≡ Shown.Amperes (over x 1000)
-  pub amp-hours-shown : showing paper.consumedId (little 4 (complement 4 x)) ≡ Shown.AmpHours (over x 10)
+  pub fine-shown : showing paper.fineId (little 4 (complement 4 x)) ≡ Shown.Amperes (quotient x 1000)
+  pub amp-hours-shown : showing paper.consumedId (little 4 (complement 4 x)) ≡ Shown.AmpHours (quotient x 10)
 
 abbrev pub WideIsShown : Type 0
 WideIsShown = (x : ℤ) → 2 * mag x < 256 ^ 4 → Wide x
 
 abbrev pub PlainIsShown : Type 0
-PlainIsShown = (n : ℕ) → n < 256 ^ 2 → showing paper.chargeId (little 2 n) ≡ Shown.Percent (over (pos n) 100)
+PlainIsShown = (n : ℕ) → n < 256 ^ 2 → showing paper.chargeId (little 2 n) ≡ Shown.Percent (quotient (pos n) 100)
 
 -- So the box shows what the board measured: the value with which a board answers a Get of a reading, shown, is the number that it holds, in
 -- steps of the unit.
@@ -122,11 +130,11 @@ pub record Within (readings : Readings) : Type 0 where
 
 abbrev pub measured : Readings → ℕ → Shown
 measured readings id =
-    cond (eqb id paper.voltageId) (Shown.Volts (over (readings .voltage) 100))
-    (cond (eqb id paper.currentId) (Shown.Amperes (over (readings .current) 10))
-    (cond (eqb id paper.fineId) (Shown.Amperes (over (readings .fine) 1000))
-    (cond (eqb id paper.consumedId) (Shown.AmpHours (over (readings .consumed) 10))
-    (cond (eqb id paper.chargeId) (Shown.Percent (over (pos (readings .charge)) 100))
+    cond (eqb id paper.voltageId) (Shown.Volts (quotient (readings .voltage) 100))
+    (cond (eqb id paper.currentId) (Shown.Amperes (quotient (readings .current) 10))
+    (cond (eqb id paper.fineId) (Shown.Amperes (quotient (readings .fine) 1000))
+    (cond (eqb id paper.consumedId) (Shown.AmpHours (quotient (readings .consumed) 10))
+    (cond (eqb id paper.chargeId) (Shown.Percent (quotient (pos (readings .charge)) 100))
     (Shown.Refused paper.unknownId)))))
 
 abbrev pub BoardIsShown : Type 0

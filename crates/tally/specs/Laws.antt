@@ -2,6 +2,7 @@
 -- Assumes nothing.
 use Prim.Native.Nat.{ℕ, zero, _+_, _/_, _≤_}
 use mathlib.Core.Path.{_≡_}
+use mathlib.Core.Logic.{_↔_}
 use mathlib.Core.Bool.{Bool, true, false, cond, not, _&&_}
 use mathlib.Core.List.{List, [], _∷_}
 use lib.ListN.{length}
@@ -9,8 +10,9 @@ use Rattle.settings.specs.Columns.{count}
 use Rattle.restore.specs.Order.{dueSets}
 use Rattle.follow.specs.Following.{standing}
 use Rattle.follow.specs.declared.Standing.{Standing}
-use Rattle.tally.specs.Results.{Result, restored, silent, notBegun, nothing, fits, most}
+use Rattle.tally.specs.Results.{Result, restored, silent, notBegun, nothing, fits, most, tallyAllowed}
 use Rattle.tally.specs.Calls.{counting}
+use Rattle.tally.specs.AsHeld.{Within}
 use Rattle.tally.specs.declared.Tally.{Tally}
 
 -- the tally after a row of trailers, one call for each
@@ -124,3 +126,7 @@ allFit (r ∷ more) = fits r && allFit more
 
 abbrev pub AllAreCounted : Type 0
 AllAreCounted = (results : List Result) → length results ≤ mostTrailers → allFit results ≡ true → SumsUp results (tallied nothing results)
+
+-- 3. A tally is allowed exactly where none of its seven counts is over a million.
+abbrev pub AllowedIsWithin : Type 0
+AllowedIsWithin = (t : Tally) → (tallyAllowed t ≡ true) ↔ Within t

@@ -1,7 +1,7 @@
 -- A row of replies: the viewer that it gives, and its counts. Assumes nothing.
-use mathlib.Core.Path.{_≡_, refl, sym, ap, subst, _∙_}
+use mathlib.Core.Path.{_≡_, refl, sym, _∙_}
 use mathlib.Core.Logic.{_↔_}
-use mathlib.Core.Bool.{Bool, true, false, cond, false≢true}
+use mathlib.Core.Bool.{Bool, true, false, cond}
 use mathlib.Core.List.{List, [], _∷_}
 use Prim.Native.Nat.{ℕ, _+_, _≤_, _<_}
 use native.Mathlib.Omega.{arith}
@@ -12,8 +12,8 @@ use lib.Dec.{ltb, leb}
 use Rattle.laws.proofs.Bools.{and-left, and-right, both}
 use Rattle.laws.proofs.Lists.{drop-turn}
 use Rattle.view.specs.Values.{ids, count, idAt}
-use Rattle.view.specs.Calls.{sightAt, sightOf, answers, shows, moved, begun, allowed, nextOf, told, stray, starting, viewing}
-use Rattle.view.specs.Laws.{Frame, calls, sightFor, counted, Counts, CountsAreTrue}
+use Rattle.view.specs.Calls.{sightAt, sightOf, answers, shows, moved, begun, allowed, nextOf, told, starting, viewing}
+use Rattle.view.specs.Laws.{Frame, calls, sightFor, counted, CountsAreTrue}
 use Rattle.view.specs.declared.Viewer.{Viewer}
 use Rattle.view.specs.declared.Next.{Next}
 use Rattle.view.specs.declared.Sight.{Sight}

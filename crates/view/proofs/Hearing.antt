@@ -1,6 +1,6 @@
 -- What a frame says of the due id. Assumes nothing.
 use mathlib.Core.Path.{_≡_, refl, sym, ap, ap₂, _∙_}
-use mathlib.Core.Logic.{_≢_, _↔_, inl}
+use mathlib.Core.Logic.{_≢_, _↔_}
 use mathlib.Core.Bool.{Bool, true, false, cond}
 use mathlib.Core.List.{List}
 use Prim.Native.Nat.{ℕ, _≤_}
@@ -54,25 +54,25 @@ module _ (id : ℕ) (value : List ℕ) where
 module _ (id command : ℕ) (bytes : List ℕ) where
   seen-nothing : (h : Heeded) → Says getCode id command bytes h
       → (onHeeded id (rest bytes) h ≡ Sight.Nothing) ↔ ((status : Status) → command ≡ getCode → bytes ≢ said id (flagOf status) (rest bytes))
-  seen-nothing h (says-nothing none) = (λ e. none, λ n. refl)
-  seen-nothing h (says-good is are) = (λ e. absurd (something id (rest bytes) (isUnderstood id (rest bytes)) e), λ n. absurd (n Status.Good is are))
-  seen-nothing h (says-bad {status} other is are) = (λ e. let z : _≡_ {A = ℕ} 0 1 = cc in absurd (omega arith), λ n. absurd (n status is are))
+  seen-nothing h (says-nothing none) = (λ e. λ status. none status refl, λ n. refl)
+  seen-nothing h (says-good stated is are) = (λ e. absurd (something id (rest bytes) (isUnderstood id (rest bytes)) e), λ n. absurd (n Status.Good is are))
+  seen-nothing h (says-bad {status} other stated is are) = (λ e. let z : _≡_ {A = ℕ} 0 1 = cc in absurd (omega arith), λ n. absurd (n status is are))
 
   seen-understood : (h : Heeded) → Says getCode id command bytes h → onHeeded id (rest bytes) h ≡ Sight.Understood id → Understands id command bytes
   seen-understood h (says-nothing none) e = let z : _≡_ {A = ℕ} 0 1 = cc in absurd (omega arith)
-  seen-understood h (says-good is are) e = record { is-get = is; is-good = are; has-value = good id (rest bytes) Heeded.Good id e .has-value }
-  seen-understood h (says-bad other is are) e = let z : _≡_ {A = ℕ} 0 1 = cc in absurd (omega arith)
+  seen-understood h (says-good stated is are) e = record { is-get = is; is-good = are; has-value = good id (rest bytes) Heeded.Good id e .has-value }
+  seen-understood h (says-bad other stated is are) e = let z : _≡_ {A = ℕ} 0 1 = cc in absurd (omega arith)
 
 pub sight-is-seen : SightIsSeen
 unfolding sightAt
 sight-is-seen id command bytes room small =
     let h = heeding getCode id command bytes in
-    let says = heed-is-said getCode id command bytes (inl refl) room small in
+    let says = heed-is-said getCode id command bytes room small in
     record {
       nothing-when = seen-nothing id command bytes h says;
       understood-when = (
         seen-understood id command bytes h says,
-        λ u. ap (onHeeded id (rest bytes)) (ap₂ (heeding getCode id) (u .is-get) (u .is-good) ∙ said-heeded getCode id (inl refl) room Status.Good (rest bytes)) ∙ rw (u .has-value),
+        λ u. ap (onHeeded id (rest bytes)) (ap₂ (heeding getCode id) (u .is-get) (u .is-good) ∙ said-heeded getCode id room refl Status.Good (rest bytes)) ∙ rw (u .has-value),
       );
     }
 

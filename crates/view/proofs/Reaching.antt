@@ -1,6 +1,5 @@
 -- Every allowed viewer is reached: the ids answered well first, then the others not. Assumes nothing.
 use mathlib.Core.Path.{_≡_, refl, sym, ap, ap₂, _∙_}
-use mathlib.Core.Logic.{inl}
 use mathlib.Core.Bool.{Bool, true, false}
 use mathlib.Core.List.{List, [], _∷_, _++_}
 use Prim.Native.Nat.{ℕ, zero, suc, _+_, _^_, _≤_, _<_}
@@ -51,7 +50,7 @@ unfolding sightOf
 replied k u status h =
     let small : idAt k < 256 ^ 2 = ltb-true (idAt k) (256 ^ 2) (upTo-at count (λ i. ltb (idAt i) (256 ^ 2)) refl k h) in
     rw (lt-ltb k count h)
-    (sym (heeded-is (idAt k) (valueAt k) getCode (replyAt k status .bytes) _ (said-heeded getCode (idAt k) (inl refl) small status (valueAt k)) refl))
+    (sym (heeded-is (idAt k) (valueAt k) getCode (replyAt k status .bytes) _ (said-heeded getCode (idAt k) small refl status (valueAt k)) refl))
 
 calls-append : (frames : List Frame) (last : Viewed) (f : Frame) → calls last (frames ++ f ∷ []) ≡ viewing (calls last frames .viewer) (f .command) (f .bytes)
 calls-append [] last f = refl
