@@ -5,6 +5,7 @@ pub mod Deciding
 pub mod Listing
 pub mod Feeding
 pub mod Understanding
+pub mod Replies
 pub mod Shams
 pub mod Lines
 pub mod Theorems

@@ -44,7 +44,8 @@ use Rattle.follow.proofs.Theorems.{count-is-matched}
 use Rattle.demands.specs.Sets.{isComplete, isValid, makes, made}
 use Rattle.demands.specs.Talk.{Deed, calls}
 use Rattle.demands.specs.Demand3.{Decides}
-use Rattle.demands.specs.Shams.{GetsHeld, SetsStored, TakesToTheEnd, HearsToTheEnd, Counts, refusesAll, answersAlike, storesNothing, firstSetAlone, neverChanges, takesAll, hearsAll, sentCount, ShamsFall, RealPass}
+use Rattle.demands.specs.Demand2.{GetsHeld, SetsStored}
+use Rattle.demands.specs.Shams.{TakesToTheEnd, HearsToTheEnd, Counts, refusesAll, answersAlike, storesNothing, firstSetAlone, neverChanges, takesAll, hearsAll, sentCount, ShamsFall, RealPass}
 use Rattle.demands.proofs.Deciding.{board-decides}
 
 -- the place of the capacity, and a table with another capacity
