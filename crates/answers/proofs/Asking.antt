@@ -1,6 +1,8 @@
 -- A good Get answers the number held, a good Set stores what it answers, and one that is not allowed names the nearest. Assumes nothing.
-use mathlib.Core.Path.{_≡_, refl, sym, _∙_}
+use mathlib.Core.Path.{_≡_, refl, sym, ap, _∙_}
+use mathlib.Core.Bool.{true}
 use mathlib.Core.List.{[]}
+use mathlib.Core.Option.{some}
 use Prim.Native.Nat.{ℕ, zero, suc, _^_, _≤_, _<_}
 use native.Mathlib.Omega.{arith}
 use lib.ListN.{length}
@@ -8,16 +10,22 @@ use Rattle.endian.proofs.Little.{length-little}
 use Rattle.endian.proofs.Theorems.{little-is-read}
 use Rattle.settings.specs.Columns.{count, idAt, widthAt}
 use Rattle.tables.specs.Rules.{partnerNumber}
-use Rattle.settings.specs.Calls.{settingAt}
+use Rattle.settings.specs.Calls.{settingAt, finding}
+use Rattle.settings.specs.declared.Found.{Found}
 use Rattle.settings.proofs.Theorems.{rows-hold, find-is-found, allowed-has-room}
 use Rattle.tables.proofs.Theorems.{refused-names-nearest}
 use Rattle.tables.proofs.Tables.{set-accepted}
 use Rattle.endian.specs.Numbers.{little, fromLittle}
 use Rattle.paper.specs.Numbers.{setCode}
-use Rattle.answers.specs.Answers.{said, setsSetting, frameAnswer}
-use Rattle.answers.specs.Laws.{GetAnswersHeld, SetStoresIt, SetRefusedNamesNearest}
+use Rattle.who.specs.Values.{readOnly}
+use Rattle.who.specs.Laws.{isSome}
+use Rattle.who.proofs.Theorems.{held-is-read-out}
+use Rattle.answers.specs.Answers.{said, getsOther, setsSetting, frameAnswer}
+use Rattle.answers.specs.Refusals.{isReadOnly}
+use Rattle.answers.specs.Laws.{GetAnswersHeld, GetAnswersReadOnly, SetStoresIt, SetRefusedNamesNearest}
 use Rattle.answers.specs.declared.Core.{Core}
 use Rattle.answers.proofs.Deciding.{gets-is, sets-is, sets-right}
+use Rattle.answers.proofs.Refusing.{found-is, read-only-is, read-only-other, read-only-small}
 
 id-back : (k : ℕ) → k < count → idAt k ≡ fromLittle (little 2 (idAt k))
 id-back k h = sym (little-is-read 2 (idAt k) (rows-hold k h .id-holds))
@@ -25,6 +33,16 @@ id-back k h = sym (little-is-read 2 (idAt k) (rows-hold k h .id-holds))
 pub get-held : GetAnswersHeld
 unfolding frameAnswer
 get-held core k h = sym (gets-is core (said (idAt k) 0 []) refl refl (id-back k h) (find-is-found k h))
+
+-- a read-only id is no setting, and has two bytes
+pub get-read-only : GetAnswersReadOnly
+unfolding frameAnswer
+get-read-only core id value held =
+    let out : readOnly (core .identity) (core .readings) id ≡ some value = held-is-read-out (core .identity) (core .readings) id value held in
+    let known : isReadOnly id ≡ true = sym (read-only-is core id) ∙ ap isSome out in
+    let none-found : finding id ≡ Found.Nothing = found-is id ∙ rw (read-only-other id known) in
+    let two : id ≡ fromLittle (little 2 id) = sym (little-is-read 2 id (read-only-small id known)) in
+    sym (gets-is core (said id 0 []) refl refl two none-found) ∙ ap (getsOther core id) out
 
 -- a Set of a setting in its own width
 module _ (core : Core) (k n : ℕ) (h : k < count) where

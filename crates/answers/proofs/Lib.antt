@@ -4,6 +4,8 @@ pub mod Found
 pub mod Deciding
 pub mod Fitting
 pub mod Making
+pub mod Refusing
+pub mod Telling
 pub mod Asking
 pub mod Theorems
 pub mod Same

@@ -1,8 +1,10 @@
 -- The statements of specs/Laws.antt, proved. Assumes nothing.
-use Rattle.answers.specs.Laws.{RepliesFit, RefusedStays, AnswerMakes, IdentityStays, MakesKeepsAllowed, GetAnswersHeld, SetStoresIt, SetRefusedNamesNearest}
+use Rattle.answers.specs.Laws.{RepliesFit, RefusedStays, AnswerMakes, IdentityStays, MakesKeepsAllowed, GetAnswersHeld, GetAnswersReadOnly, SetStoresIt, SetRefusedNamesNearest, RefusalGivenWhen, OutcomeAndReply}
 use Rattle.answers.proofs.Fitting
 use Rattle.answers.proofs.Making.{refused-stays, answer-makes, identity-stays, makes-allowed}
-use Rattle.answers.proofs.Asking.{get-held, set-stores, set-names}
+use Rattle.answers.proofs.Asking.{get-held, get-read-only, set-stores, set-names}
+use Rattle.answers.proofs.Refusing.{refusal-given}
+use Rattle.answers.proofs.Telling.{outcome-reply}
 
 pub replies-fit : RepliesFit
 replies-fit = Fitting.replies-fit
@@ -22,8 +24,17 @@ makes-keeps-allowed = makes-allowed
 pub get-answers-held : GetAnswersHeld
 get-answers-held = get-held
 
+pub get-answers-read-only : GetAnswersReadOnly
+get-answers-read-only = get-read-only
+
 pub set-stores-it : SetStoresIt
 set-stores-it = set-stores
 
 pub set-refused-names-nearest : SetRefusedNamesNearest
 set-refused-names-nearest = set-names
+
+pub refusal-given-when : RefusalGivenWhen
+refusal-given-when = refusal-given
+
+pub outcome-and-reply : OutcomeAndReply
+outcome-and-reply = outcome-reply

@@ -2,19 +2,24 @@
 -- Assumes nothing.
 use Prim.Native.Nat.{ℕ, _^_, _<_}
 use mathlib.Core.Path.{_≡_}
-use mathlib.Core.Bool.{true, false}
-use mathlib.Core.List.{List, []}
+use mathlib.Core.Bool.{true, false, not}
+use mathlib.Core.List.{List, [], _∷_}
 use lib.ListN.{length}
 use Rattle.paper.specs.Numbers as paper
+use Rattle.laws.specs.Lists.{Bytes}
 use Rattle.wire.specs.Laws.{Writable}
+use Rattle.wire.specs.Refusals.{row, firstOf}
 use Rattle.settings.specs.Columns.{count, idAt, widthAt}
 use Rattle.settings.specs.Rules.{allowedFor, Nearest}
 use Rattle.tables.specs.Rules.{allowed, numberAt, partnerNumber, changed}
 use Rattle.tables.specs.declared.Table.{Table}
 use Rattle.who.specs.Parts.{identityAllowed}
+use Rattle.who.specs.Laws.{Holds}
 use Rattle.endian.specs.Numbers.{little}
 use Rattle.paper.specs.Numbers.{getCode, setCode}
-use Rattle.answers.specs.Answers.{withTable, Sent, silent, sent, error, staying, said, frameAnswer, makes}
+use Rattle.answers.specs.Answers.{coreAllowed, withTable, Sent, silent, sent, error, staying, said, frameAnswer, makes}
+use Rattle.answers.specs.Refusals.{rows, numberOf, Told}
+use Rattle.answers.specs.Calls.{answering}
 use Rattle.answers.specs.declared.Core.{Core}
 use Rattle.answers.specs.declared.Outcome.{Outcome}
 
@@ -53,6 +58,12 @@ GetAnswersHeld =
     (core : Core) (k : ℕ) → k < count
     → frameAnswer core getCode (said (idAt k) paper.noFlags []) ≡ staying core Outcome.Answered (sent getCode (said (idAt k) paper.goodFlag (little (widthAt k) (numberAt (core .table) k))))
 
+-- and a Get of a read-only id the value that it holds
+abbrev pub GetAnswersReadOnly : Type 0
+GetAnswersReadOnly =
+    (core : Core) (id : ℕ) (value : List ℕ) → Holds (core .identity) (core .readings) id value
+    → frameAnswer core getCode (said id paper.noFlags []) ≡ staying core Outcome.Answered (sent getCode (said id paper.goodFlag value))
+
 -- 5. A good Set answers what it stored and stores what it answered, that setting alone; one that is not allowed stores nothing, and answers
 -- flag 04 and the nearest allowed number.
 abbrev pub SetStoresIt : Type 0
@@ -66,3 +77,15 @@ SetRefusedNamesNearest =
     → allowedFor k n (partnerNumber (core .table) k) ≡ false
     → (m : ℕ) × Nearest k n (partnerNumber (core .table) k) m
     × (frameAnswer core setCode (said (idAt k) paper.noFlags (little (widthAt k) n)) ≡ staying core (Outcome.Refused paper.numberNotAllowed) (sent setCode (said (idAt k) paper.parameterFlag (little (widthAt k) m))))
+
+-- 6. Refusals 5 to 10 are "given exactly when" their condition holds and none before it does, 12 before them, and no other number is.
+abbrev pub RefusalGivenWhen : Type 0
+RefusalGivenWhen =
+    (core : Core) (command : ℕ) (bytes : List ℕ)
+    → numberOf (answering core command bytes .outcome) ≡ firstOf (row 12 (not (coreAllowed core)) ∷ rows core command bytes)
+
+-- 7. The outcome, the reply and the board afterwards belong together. (Data are bytes in every value of the type.)
+abbrev pub OutcomeAndReply : Type 0
+OutcomeAndReply =
+    (core : Core) (command : ℕ) (bytes : List ℕ) → Bytes bytes
+    → let d = answering core command bytes in Told core command bytes (d .outcome) (d .reply) (d .core)

@@ -6,5 +6,6 @@ pub mod Pieces
 pub mod Keeping
 pub mod Replying
 pub mod Giving
+pub mod Judging
 pub mod Theorems
 pub mod Same

@@ -6,7 +6,7 @@ use Prim.Native.Nat.{ℕ, _≤_, _<_}
 use native.Mathlib.Omega.{arith}
 use borrow.Author.Tests.{leb-true}
 use lib.ListN.{length, take}
-use lib.Seq.{take-length}
+use lib.Seq.{take-length, set-getD}
 use Rattle.laws.specs.Promise.{Given}
 use Rattle.wire.specs.Digits.{digit}
 use Rattle.wire.specs.Frame.{check, body, frame}
@@ -21,20 +21,24 @@ use Rattle.stream.proofs.Streams.{taken-within}
 use Rattle.stream.proofs.Theorems.{written-is-heard, heard-is-writable}
 use Rattle.settings.specs.Columns.{count, idAt, widthAt}
 use Rattle.settings.proofs.Theorems.{rows-hold}
+use Rattle.tables.specs.Rules.{numberAt}
+use Rattle.tables.proofs.Tables.{allowed-at}
 use Rattle.endian.specs.Numbers.{little}
 use Rattle.answers.specs.Requests.{getRequest, setRequest}
 use Rattle.paper.specs.Numbers.{getCode, setCode}
-use Rattle.answers.specs.Answers.{coreAllowed, Sent, silent, sent, error, Decision, said, frameAnswer}
+use Rattle.answers.specs.Answers.{coreAllowed, withTable, Sent, silent, sent, error, Decision, said, frameAnswer}
 use Rattle.answers.specs.declared.Core.{Core}
+use Rattle.answers.specs.declared.Outcome.{Outcome}
 use Rattle.answers.specs.Laws.{Fits, a-frame, an-error}
 use Rattle.answers.specs.Laws as fitting
-use Rattle.answers.proofs.Theorems.{replies-fit, get-answers-held, set-stores-it, set-refused-names-nearest}
+use Rattle.answers.proofs.Theorems.{replies-fit, get-answers-held, get-answers-read-only, set-stores-it, set-refused-names-nearest}
 use Rattle.endian.proofs.Little.{length-little, bytes-little}
 use Rattle.answers.proofs.Deciding.{identity-allowed, table-allowed}
 use Rattle.answers.proofs.Fitting.{writable-said}
 use Rattle.board.specs.Parts.{boardAllowed}
 use Rattle.board.specs.Calls.{errorFrame, replyBytes, endedIn, deciding, decidedBy, heardBy, answering}
-use Rattle.board.specs.Laws.{Readable, ReplyIsRead, atRest, WholeIsAnswered, GetAnswersHeld, SetStoresIt, SetRefusedNamesNearest}
+use Rattle.board.specs.Refusals.{Readable}
+use Rattle.board.specs.Laws.{atRest, WholeIsAnswered, comesTo, GetAnswersHeld, GetAnswersReadOnly, SetStoresIt, SetOfEqualIsAccepted, SetRefusedNamesNearest}
 use Rattle.board.specs.declared.Board.{Board}
 use Rattle.board.specs.declared.Answered.{Answered}
 use Rattle.board.proofs.Pieces.{core-allowed, answering-short, answering-stray, answering-heard}
@@ -79,14 +83,11 @@ decided-fits core ok (good command bytes ∷ rest) (whole w others) =
     replies-fit core command bytes (identity-allowed core ok) (omega arith)
 decided-fits core ok (refused number ∷ rest) w = an-error
 
-heard-readable : (board : Board) (piece : List ℕ) → boardAllowed board ≡ true → Readable (deciding (board .core) (endedIn (board .held) piece) .reply) (heardBy board piece .written)
+pub heard-readable : (board : Board) (piece : List ℕ) → boardAllowed board ≡ true → Readable (deciding (board .core) (endedIn (board .held) piece) .reply) (heardBy board piece .written)
 unfolding heardBy decidedBy
 heard-readable board piece ok =
     let u = stream.unfinished (board .held) in
     readable _ (decided-fits (board .core) (core-allowed board ok) (endedIn (board .held) piece) (heard-is-writable u (take (taken u piece) piece)))
-
-pub reply-read : ReplyIsRead
-reply-read board piece room ok h = rw (answering-heard board piece room h ok) (heard-readable board piece ok)
 
 -- the bounds of a call on any board with any room
 pub record Bounded (piece : List ℕ) (room : ℕ) (given : Given Answered) : Type 0 where
@@ -119,13 +120,19 @@ module _ (board : Board) (command : ℕ) (bytes : List ℕ) (rest : atRest board
 pub whole-answered : WholeIsAnswered
 whole-answered board command bytes room ok rest w h = answering-heard board (frame command bytes) room h ok ∙ whole-heard board command bytes rest w
 
--- a Get and a Set of a setting
+-- a Get of an id
+module _ (board : Board) (id : ℕ) (rest : atRest board) (ok : boardAllowed board ≡ true) (room : ℕ) (enough : 75 ≤ room) where
+  get-writable : Writable getCode (said id 0 [])
+  get-writable = writable-said getCode id 0 [] (leb-true 7 15 refl) (leb-true 1 256 refl) (leb-true 0 32 refl) refl
+
+  get-whole : (d : Decision) → frameAnswer (board .core) getCode (said id 0 []) ≡ d
+      → answering board (getRequest id) room ≡ decidedBy (board .held) d (length (getRequest id))
+  get-whole d e = whole-answered board getCode (said id 0 []) room ok rest get-writable enough ∙ rw e
+
+-- a Set of a setting
 module _ (board : Board) (k : ℕ) (h : k < count) (rest : atRest board) (ok : boardAllowed board ≡ true) (room : ℕ) (enough : 75 ≤ room) where
   settled : widthAt k ≤ 2
   settled = rows-hold k h .width-most
-
-  get-writable : Writable getCode (said (idAt k) 0 [])
-  get-writable = writable-said getCode (idAt k) 0 [] (leb-true 7 15 refl) (leb-true 1 256 refl) (leb-true 0 32 refl) refl
 
   set-writable : (n : ℕ) → Writable setCode (said (idAt k) 0 (little (widthAt k) n))
   set-writable n =
@@ -137,19 +144,28 @@ module _ (board : Board) (k : ℕ) (h : k < count) (rest : atRest board) (ok : b
       → answering board (setRequest k n) room ≡ decidedBy (board .held) d (length (setRequest k n))
   set-whole n d e = whole-answered board setCode (said (idAt k) 0 (little (widthAt k) n)) room ok rest (set-writable n) enough ∙ rw e
 
-  get-whole : (d : Decision) → frameAnswer (board .core) getCode (said (idAt k) 0 []) ≡ d
-      → answering board (getRequest (idAt k)) room ≡ decidedBy (board .held) d (length (getRequest (idAt k)))
-  get-whole d e = whole-answered board getCode (said (idAt k) 0 []) room ok rest get-writable enough ∙ rw e
-
 pub get-held : GetAnswersHeld
 unfolding decidedBy
 get-held board k room ok rest h enough =
-    get-whole board k h rest ok room enough _ (get-answers-held (board .core) k h)
+    get-whole board (idAt k) rest ok room enough _ (get-answers-held (board .core) k h)
+
+pub get-read-only : GetAnswersReadOnly
+unfolding decidedBy
+get-read-only board id value room ok rest enough held =
+    get-whole board id rest ok room enough _ (get-answers-read-only (board .core) id value held)
 
 pub set-stores : SetStoresIt
 unfolding decidedBy
 set-stores board k n room ok rest h enough fits =
     set-whole board k h rest ok room enough n _ (set-stores-it (board .core) k n (table-allowed (board .core) (core-allowed board ok)) h fits)
+
+pub set-equal : SetOfEqualIsAccepted
+set-equal board k room ok rest h enough =
+    let table = board .core .table in
+    let fits = allowed-at table (table-allowed (board .core) (core-allowed board ok)) k h in
+    set-stores board k (numberAt table k) room ok rest h enough fits
+    ∙ ap (λ (l : List ℕ). comesTo board (withTable (board .core) (record { numbers = l })) Outcome.Answered (setRequest k (numberAt table k)) (setRequest k (numberAt table k)))
+    (set-getD (table .numbers) k 0)
 
 pub set-names : SetRefusedNamesNearest
 unfolding decidedBy

@@ -18,7 +18,7 @@ use Rattle.who.specs.declared.Named.{Named}
 use Rattle.who.proofs.Identities.{serial-back, identity-fits, nobody-allowed, named-accepted, named-refused}
 use Rattle.board.specs.Parts.{freshBoard, sampleFits, readingsOf, boardAllowed}
 use Rattle.board.specs.Calls.{refusedStart, starting, storing}
-use Rattle.board.specs.Laws.{StartIsAllowed, StartHoldsIt, StoreStores, StoreKeepsAllowed}
+use Rattle.board.specs.Laws.{StartIsAllowed, StartHoldsIt, StartIsRefused, StoreStores, StoreKeepsAllowed}
 use Rattle.board.specs.declared.Board.{Board}
 use Rattle.board.specs.declared.Sample.{Sample}
 
@@ -56,6 +56,12 @@ start-holds product version serial table fits ok =
       readings-are = rw is;
       held-is = rw is;
     }
+
+-- a refused start is that of nobody with the factory table
+pub start-back : StartIsRefused
+unfolding serialFits noIdentity refusedStart
+start-back product version serial table e =
+    start-refused product version serial table e ∙ rw (start-accepted 0 0 [] factory (both _ _ refl factory-is-allowed))
 
 fresh-allowed : (identity : Identity) (table : Table) → identityAllowed identity ≡ true → allowed table ≡ true → boardAllowed (freshBoard identity table) ≡ true
 unfolding boardAllowed coreAllowed freshBoard

@@ -3,31 +3,34 @@
 use Prim.Native.Nat.{ℕ, _^_, _≤_, _<_}
 use mathlib.Core.Path.{_≡_}
 use mathlib.Core.Logic.{_↔_}
-use mathlib.Core.Bool.{true, false}
-use mathlib.Core.List.{List, [], _∷_}
+use mathlib.Core.Bool.{true, false, _&&_}
+use mathlib.Core.List.{List, []}
 use lib.ListN.{length}
 use lib.IntN.{pos, negsuc}
 use Rattle.paper.specs.Numbers as paper
 use Rattle.laws.specs.Promise.{Given}
 use Rattle.paper.specs.Numbers.{frameRoom, mostSerial, getCode, setCode}
 use Rattle.wire.specs.Frame.{frame}
-use Rattle.wire.specs.Parsing.{Ended, good}
-use Rattle.stream.specs.Stream.{outside, framesOf, leftBy}
+use Rattle.wire.specs.Refusals.{firstOf}
+use Rattle.stream.specs.Stream.{outside}
 use Rattle.stream.specs.Calls.{mostHeld, heldOf}
 use Rattle.wire.specs.Laws.{Writable}
 use Rattle.settings.specs.Columns.{count, idAt, widthAt}
 use Rattle.settings.specs.Rules.{allowedFor, Nearest}
-use Rattle.tables.specs.Rules.{allowed, numberAt, partnerNumber, changed}
+use Rattle.tables.specs.Rules.{factory, allowed, numberAt, partnerNumber, changed}
 use Rattle.tables.specs.declared.Table.{Table}
+use Rattle.who.specs.Laws.{Holds}
 use Rattle.who.specs.Parts.{serialFits, serialOf, noReadings}
 use Rattle.endian.specs.Numbers.{little}
-use Rattle.answers.specs.Answers.{withTable, withReadings, Sent, silent, sent, error, said, frameAnswer}
+use Rattle.answers.specs.Answers.{withTable, withReadings, said, frameAnswer}
 use Rattle.answers.specs.declared.Core.{Core}
 use Rattle.answers.specs.Requests.{getRequest, setRequest}
+use Rattle.answers.specs.Refusals.{numberOf}
 use Rattle.who.specs.declared.Verdict.{Verdict}
 use Rattle.answers.specs.declared.Outcome.{Outcome}
 use Rattle.board.specs.Parts.{within, sampleFits, readingsOf, boardAllowed}
-use Rattle.board.specs.Calls.{starting, storing, endedIn, deciding, decidedBy, answering}
+use Rattle.board.specs.Calls.{starting, storing, decidedBy, answering}
+use Rattle.board.specs.Refusals.{callRows, Replied}
 use Rattle.board.specs.declared.Board.{Board}
 use Rattle.board.specs.declared.Sample.{Sample}
 use Rattle.board.specs.declared.Handed.{Handed}
@@ -51,6 +54,12 @@ StartHoldsIt =
     (product version : ℕ) (serial : List ℕ) (table : Table) → serialFits serial ≡ true → allowed table ≡ true
     → Started product version serial table (starting product version serial table)
 
+-- "A refused start (12) returns product and version 0, an empty serial and the factory table", and else as a start does.
+abbrev pub StartIsRefused : Type 0
+StartIsRefused =
+    (product version : ℕ) (serial : List ℕ) (table : Table) → (serialFits serial && allowed table) ≡ false
+    → starting product version serial table ≡ record { board = starting 0 0 [] factory .board; verdict = Verdict.Refused 12 }
+
 -- 2. Readings that fit are stored, and a board stays what it was in all else: allowed if it was.
 pub record Stored (board : Board) (given : Sample) : Type 0 where
   pub accepted : storing board given .verdict ≡ Verdict.Accepted
@@ -59,6 +68,12 @@ pub record Stored (board : Board) (given : Sample) : Type 0 where
 
 abbrev pub StoreStores : Type 0
 StoreStores = (board : Board) (given : Sample) → boardAllowed board ≡ true → sampleFits given ≡ true → Stored board given
+
+-- "one that does not fit its width is refused (12) and none of the five changes"
+abbrev pub StoreIsRefused : Type 0
+StoreIsRefused =
+    (board : Board) (given : Sample) → (boardAllowed board && sampleFits given) ≡ false
+    → storing board given ≡ record { board = board; verdict = Verdict.Refused 12 }
 
 abbrev pub StoreKeepsAllowed : Type 0
 StoreKeepsAllowed = (board : Board) (given : Sample) → boardAllowed board ≡ true → boardAllowed (storing board given .board) ≡ true
@@ -75,21 +90,10 @@ RefusalKeeps =
     (board : Board) (piece : List ℕ) (room number : ℕ) → answering board piece room .answer .outcome ≡ Outcome.Refused number
     → answering board piece room .answer .board .core ≡ board .core
 
--- 5. Every reply is at most 75 bytes, and the other end reads in it the frame that was meant and no other; none where nothing is sent.
-abbrev pub meant : Sent → List Ended
-meant silent = []
-meant (sent command bytes) = good command bytes ∷ []
-meant error = good paper.errorCode (0xAA ∷ 0xAA ∷ []) ∷ []
-
-pub record Readable (reply : Sent) (bytes : List ℕ) : Type 0 where
-  pub short : length bytes ≤ frameRoom
-  pub frames-are : framesOf bytes ≡ meant reply
-  pub none-left : leftBy bytes ≡ outside
-
-abbrev pub ReplyIsRead : Type 0
-ReplyIsRead =
-    (board : Board) (piece : List ℕ) (room : ℕ) → boardAllowed board ≡ true → frameRoom ≤ room
-    → Readable (deciding (board .core) (endedIn (board .held) piece) .reply) (answering board piece room .written)
+-- 5. The outcome, the bytes written and what the board holds afterwards belong together, and the other end reads in the bytes the frame that
+-- was meant and no other: for every board, piece and room.
+abbrev pub OutcomeAndReply : Type 0
+OutcomeAndReply = (board : Board) (piece : List ℕ) (room : ℕ) → Replied board piece (answering board piece room)
 
 -- 6. A whole frame, handed to an allowed board that is not inside one, is answered as such: all of it is taken and no frame is begun.
 abbrev pub atRest : Board → Type 0
@@ -116,12 +120,26 @@ GetAnswersHeld =
     → answering board (getRequest (idAt k)) room
     ≡ comesTo board (board .core) Outcome.Answered (frame getCode (said (idAt k) paper.goodFlag (little (widthAt k) (numberAt (board .core .table) k)))) (getRequest (idAt k))
 
+-- A Get of a read-only id answers the value that it holds, and changes nothing.
+abbrev pub GetAnswersReadOnly : Type 0
+GetAnswersReadOnly =
+    (board : Board) (id : ℕ) (value : List ℕ) (room : ℕ) → boardAllowed board ≡ true → atRest board → frameRoom ≤ room
+    → Holds (board .core .identity) (board .core .readings) id value
+    → answering board (getRequest id) room ≡ comesTo board (board .core) Outcome.Answered (frame getCode (said id paper.goodFlag value)) (getRequest id)
+
 -- 8. A good Set answers what it stored and stores what it answered, that number alone: its reply is the request itself.
 abbrev pub SetStoresIt : Type 0
 SetStoresIt =
     (board : Board) (k n room : ℕ) → boardAllowed board ≡ true → atRest board → k < count → frameRoom ≤ room
     → allowedFor k n (partnerNumber (board .core .table) k) ≡ true
     → answering board (setRequest k n) room ≡ comesTo board (withTable (board .core) (changed (board .core .table) k n)) Outcome.Answered (setRequest k n) (setRequest k n)
+
+-- "Setting an equal number is accepted", and nothing changes.
+abbrev pub SetOfEqualIsAccepted : Type 0
+SetOfEqualIsAccepted =
+    (board : Board) (k room : ℕ) → boardAllowed board ≡ true → atRest board → k < count → frameRoom ≤ room
+    → let request = setRequest k (numberAt (board .core .table) k) in
+    answering board request room ≡ comesTo board (board .core) Outcome.Answered request request
 
 -- 9. A Set of a number that is not allowed stores nothing, and answers flag 04 and the nearest allowed number.
 abbrev pub SetRefusedNamesNearest : Type 0
@@ -152,3 +170,8 @@ pub record Typed (board : Board) : Type 0 where
 
 abbrev pub AllowedIsGiven : Type 0
 AllowedIsGiven = (board : Board) → Typed board → (boardAllowed board ≡ true) ↔ Given-by board
+
+-- 11. Every refusal is "given exactly when" its condition holds and none before it does, and no other number is given: for every board,
+-- piece and room.
+abbrev pub RefusalGivenWhen : Type 0
+RefusalGivenWhen = (board : Board) (piece : List ℕ) (room : ℕ) → numberOf (answering board piece room .answer .outcome) ≡ firstOf (callRows board piece room)

@@ -49,9 +49,9 @@ use Rattle.follow.specs.Laws.{matched}
 use Rattle.follow.proofs.Theorems.{count-is-told}
 use Rattle.demands.specs.Sets.{anySetting, isComplete, isValid, makes, made}
 use Rattle.demands.specs.Talk.{Deed, stores, calls, Talk, Way, plainly, talkBy}
-use Rattle.demands.specs.Demand2.{HearsWritten}
+use Rattle.demands.specs.Demand2.{HearsWritten, GetsHeld, SetsStored}
 use Rattle.demands.specs.Demand3.{Decides}
-use Rattle.demands.specs.Shams.{GetsHeld, SetsStored, TakesToTheEnd, HearsToTheEnd, Counts, RefusesAll, AnswersAlike, KeepsItsTable, firstSetAlone, TakesUnseen, HearsUnseen, unheard, leavesDigits, ShamsFall, RefusingDecides, RealPass}
+use Rattle.demands.specs.Shams.{TakesToTheEnd, HearsToTheEnd, Counts, RefusesAll, AnswersAlike, KeepsItsTable, firstSetAlone, TakesUnseen, HearsUnseen, unheard, leavesDigits, ShamsFall, RefusingDecides, RealPass}
 use Rattle.demands.proofs.Deciding.{stores-keeps, board-decides}
 use Rattle.demands.proofs.Understanding.{heard-written}
 

@@ -1,11 +1,13 @@
 -- The statements of specs/, proved. Assumes nothing.
-use Rattle.demands.specs.Demand2.{WrittenIsRead, WrittenIsHeard, ReadIsWritten, RepliesAreUnderstood, GetIsUnderstood, SetIsUnderstood, CountIsMatched}
+use Rattle.demands.specs.Demand2.{WrittenIsRead, WrittenIsHeard, ReadIsWritten, RepliesAreUnderstood, GetIsUnderstood, SetIsUnderstood, CountIsMatched, GoodAreAnswered, RefusalGivenWhen, OutcomeAndReply}
 use Rattle.demands.specs.Demand3.{BoardDecides, AnyCutting, CuttingChangesNothing, EmptyChangesNothing, AllIsTaken, OneSetForEach, DueIsNext, OneCallForEach, ListIsAccepted, ListIsConfirmed}
 use Rattle.demands.specs.Shams.{ShamsFall, RefusingDecides, RealPass}
 use Rattle.demands.specs.Lines.{ThirteenHold}
 use Rattle.wire.proofs.Theorems as wire
+use Rattle.board.proofs.Theorems as board
 use Rattle.follow.proofs.Theorems as follow
-use Rattle.demands.proofs.Understanding.{heard-written, replies-understood, get-understood, set-understood}
+use Rattle.demands.proofs.Understanding.{heard-written, get-understood, set-understood}
+use Rattle.demands.proofs.Replies.{replies-understood}
 use Rattle.demands.proofs.Deciding as deciding
 use Rattle.demands.proofs.Cuts.{cutting-read, changes-nothing, empty-nothing, taking-all}
 use Rattle.demands.proofs.Listing.{one-for-each, due-next}
@@ -22,6 +24,21 @@ written-is-heard = heard-written
 
 pub read-is-written : ReadIsWritten
 read-is-written = wire.read-is-written
+
+pub good-are-answered : GoodAreAnswered
+good-are-answered =
+    record {
+      gets = board.get-answers-held;
+      read-only-gets = board.get-answers-read-only;
+      sets = board.set-stores-it;
+      equal-sets = board.set-of-equal-is-accepted;
+    }
+
+pub refusal-given-when : RefusalGivenWhen
+refusal-given-when = board.refusal-given-when
+
+pub outcome-and-reply : OutcomeAndReply
+outcome-and-reply = board.outcome-and-reply
 
 pub replies-are-understood : RepliesAreUnderstood
 replies-are-understood = replies-understood

@@ -1,7 +1,7 @@
 -- Demand 2. "A frame written by one end is read by the other as the same command and data, and a frame read whole is byte for byte the one the
 -- writer makes for them. The number of confirmed settings is the number of replies that matched the Set due when they came." Each statement
 -- is proved under its name in proofs/Theorems.antt. Assumes nothing.
-use Prim.Native.Nat.{ℕ, _^_, _≤_, _<_}
+use Prim.Native.Nat.{ℕ, _^_, _%_, _≤_, _<_}
 use mathlib.Core.Path.{_≡_}
 use mathlib.Core.Bool.{true}
 use mathlib.Core.List.{List, [], _∷_, _++_}
@@ -9,24 +9,34 @@ use lib.ListN.{length, take}
 use Rattle.paper.specs.Numbers as paper
 use Rattle.laws.specs.Promise.{Given}
 use Rattle.laws.specs.Cutting as Cutting
-use Rattle.laws.specs.Cutting.{Offer}
-use Rattle.paper.specs.Numbers.{mostNibble, mostData, getCode, setCode}
+use Rattle.laws.specs.Cutting.{Offer, Step, ready}
+use Rattle.paper.specs.Numbers.{mostNibble, mostData, getCode, setCode, frameRoom}
 use Rattle.wire.specs.Frame.{frame}
 use Rattle.endian.specs.Numbers.{little, fromLittle}
-use Rattle.wire.specs.Parsing.{good}
-use Rattle.stream.specs.Stream.{framesOf, leftBy}
+use Rattle.wire.specs.Parsing.{good, Ended}
+use Rattle.stream.specs.Stream.{framesOf, leftBy, outside}
 use Rattle.stream.specs.Calls.{mostHeld, heldOf, unfinished, allowed}
 use Rattle.stream.specs.Laws.{brokenIn, stepOf}
 use Rattle.stream.specs.declared.Held.{Held}
 use Rattle.stream.specs.declared.Heard.{Heard}
 use Rattle.wire.specs.Laws as wire
 use Rattle.laws.specs.Lists.{Bytes}
-use Rattle.settings.specs.Columns.{count, widthAt}
-use Rattle.answers.specs.Answers.{Sent, silent, sent, error, said}
+use Rattle.settings.specs.Columns.{count, idAt, widthAt}
+use Rattle.settings.specs.Rules.{allowedFor}
+use Rattle.tables.specs.Rules.{numberAt, partnerNumber, changed}
+use Rattle.who.specs.Laws.{Holds}
+use Rattle.answers.specs.Answers.{withTable, Sent, silent, sent, error, said}
 use Rattle.answers.specs.Requests.{getRequest, setData, setRequest}
 use Rattle.answers.specs.declared.Core.{Core}
-use Rattle.board.specs.Calls.{endedIn, deciding}
-use Rattle.listen.specs.Hearing.{boxHearing}
+use Rattle.board.specs.Calls.{endedIn, deciding, answering}
+use Rattle.listen.specs.Hearing.{boxHearing, boxHears}
+use Rattle.answers.specs.declared.Outcome.{Outcome}
+use Rattle.board.specs.Parts.{boardAllowed}
+use Rattle.board.specs.Refusals.{Says}
+use Rattle.board.specs.Laws as board
+use Rattle.board.specs.Laws.{atRest, comesTo}
+use Rattle.board.specs.declared.Board.{Board}
+use Rattle.board.specs.declared.Answered.{Answered}
 use Rattle.reply.specs.Replies.{flagOf, rest}
 use Rattle.reply.specs.Calls.{parsing}
 use Rattle.reply.specs.declared.Status.{Status}
@@ -59,23 +69,78 @@ WrittenIsHeard = HearsWritten boxHearing
 abbrev pub ReadIsWritten : Type 0
 ReadIsWritten = wire.ReadIsWritten
 
--- 3. Every reply that a board gives, the error frame among them, is read by the box as the kind, status, id and value that the board meant.
--- (The law reply-is-read of `board` says that the frames of a reply's bytes are the one that was decided on and no other; a version has its
--- two bytes in every value of the type.)
-pub data Understood : Sent → Type 0 where
-  no-reply : Understood silent
-  as-error : parsing paper.errorCode (0xAA ∷ 0xAA ∷ []) ≡ Reply.Error 0xAAAA → Understood error
-  as-done : (bytes : List ℕ) → parsing paper.doneCode bytes ≡ Reply.Done → Understood (sent paper.doneCode bytes)
-  as-unknown : (command : ℕ) → parsing paper.unknownCode (command ∷ []) ≡ Reply.Unknown command → Understood (sent paper.unknownCode (command ∷ []))
-  as-ping : (version : ℕ) → parsing paper.pongCode (little 2 version) ≡ Reply.Ping version → Understood (sent paper.pongCode (little 2 version))
-  as-get : (status : Status) (id : ℕ) (value : List ℕ) → parsing paper.getCode (said id (flagOf status) value) ≡ Reply.Get status id
-      → rest (said id (flagOf status) value) ≡ value → Understood (sent paper.getCode (said id (flagOf status) value))
-  as-set : (status : Status) (id : ℕ) (value : List ℕ) → parsing paper.setCode (said id (flagOf status) value) ≡ Reply.Set status id
-      → rest (said id (flagOf status) value) ≡ value → Understood (sent paper.setCode (said id (flagOf status) value))
+-- 3. "Frames, commands, replies and flags follow the published HEX protocol as the papers fix it". Good Gets and Sets, said of any way of
+-- answering a piece of input, and met by the board's own call: the reply is the number now held; the value of each of the eight read-only
+-- ids, in its width; the request itself, with that number stored and nothing else changed. "Setting an equal number is accepted."
+abbrev pub GetsHeld : (Board → List ℕ → ℕ → Given Answered) → Type 0
+GetsHeld answer =
+    (board : Board) (k room : ℕ) → boardAllowed board ≡ true → atRest board → k < count → frameRoom ≤ room
+    → answer board (getRequest (idAt k)) room
+    ≡ comesTo board (board .core) Outcome.Answered (frame getCode (said (idAt k) 0 (little (widthAt k) (numberAt (board .core .table) k)))) (getRequest (idAt k))
+
+abbrev pub ReadOnlyHeld : (Board → List ℕ → ℕ → Given Answered) → Type 0
+ReadOnlyHeld answer =
+    (board : Board) (id : ℕ) (value : List ℕ) (room : ℕ) → boardAllowed board ≡ true → atRest board → frameRoom ≤ room
+    → Holds (board .core .identity) (board .core .readings) id value
+    → answer board (getRequest id) room ≡ comesTo board (board .core) Outcome.Answered (frame getCode (said id 0 value)) (getRequest id)
+
+abbrev pub SetsStored : (Board → List ℕ → ℕ → Given Answered) → Type 0
+SetsStored answer =
+    (board : Board) (k n room : ℕ) → boardAllowed board ≡ true → atRest board → k < count → frameRoom ≤ room
+    → allowedFor k n (partnerNumber (board .core .table) k) ≡ true
+    → answer board (setRequest k n) room ≡ comesTo board (withTable (board .core) (changed (board .core .table) k n)) Outcome.Answered (setRequest k n) (setRequest k n)
+
+abbrev pub EqualsAccepted : (Board → List ℕ → ℕ → Given Answered) → Type 0
+EqualsAccepted answer =
+    (board : Board) (k room : ℕ) → boardAllowed board ≡ true → atRest board → k < count → frameRoom ≤ room
+    → let request = setRequest k (numberAt (board .core .table) k) in
+    answer board request room ≡ comesTo board (board .core) Outcome.Answered request request
+
+pub record GoodAreAnswered : Type 0 where
+  pub gets : GetsHeld answering
+  pub read-only-gets : ReadOnlyHeld answering
+  pub sets : SetsStored answering
+  pub equal-sets : EqualsAccepted answering
+
+-- Every refusal is "given exactly when" its condition holds and none before it does, in the order "11, 12, then 1 to 10 as listed", and no
+-- other number is given; and the outcome, the reply's bytes and what the board holds afterwards belong together: for every board, piece and
+-- room. The conditions and the replies are those of specs/Refusals of `wire`, `answers` and `board`.
+abbrev pub RefusalGivenWhen : Type 0
+RefusalGivenWhen = board.RefusalGivenWhen
+
+abbrev pub OutcomeAndReply : Type 0
+OutcomeAndReply = board.OutcomeAndReply
+
+-- The bytes that a board's call writes, handed to the box's call in any cutting that takes them all, are read as what the board meant: no
+-- frame where nothing was sent, and else one, in which the box reads the kind, the status, the id and the value, the command that was not
+-- known, the version inside response 5, the version or the product inside response 1. (A u16 has two
+-- bytes in every value of its type, so it is its own remainder by 256 ^ 2.)
+pub data Understood : Sent → List Ended → Type 0 where
+  no-reply : Understood silent []
+  as-error : {code : ℕ} {bytes : List ℕ} → parsing code bytes ≡ Reply.Error 0xAAAA → Understood error (good code bytes ∷ [])
+  as-done : {code : ℕ} {bytes : List ℕ} (number : ℕ) → parsing code bytes ≡ Reply.Done → fromLittle bytes ≡ number % 256 ^ 2
+      → Understood (sent paper.doneCode (little 2 number)) (good code bytes ∷ [])
+  as-unknown : {code : ℕ} {bytes : List ℕ} (command : ℕ) → parsing code bytes ≡ Reply.Unknown command
+      → Understood (sent paper.unknownCode (command ∷ [])) (good code bytes ∷ [])
+  as-ping : {code : ℕ} {bytes : List ℕ} (version : ℕ) → parsing code bytes ≡ Reply.Ping (version % 256 ^ 2)
+      → Understood (sent paper.pongCode (little 2 version)) (good code bytes ∷ [])
+  as-get : {code : ℕ} {bytes : List ℕ} (status : Status) (id : ℕ) (value : List ℕ) → parsing code bytes ≡ Reply.Get status id → rest bytes ≡ value
+      → Understood (sent paper.getCode (said id (flagOf status) value)) (good code bytes ∷ [])
+  as-set : {code : ℕ} {bytes : List ℕ} (status : Status) (id : ℕ) (value : List ℕ) → parsing code bytes ≡ Reply.Set status id → rest bytes ≡ value
+      → Understood (sent paper.setCode (said id (flagOf status) value)) (good code bytes ∷ [])
+
+pub record Understands (board : Board) (piece : List ℕ) (given : Given Answered) (heard : Step Held Ended) : Type 0 where
+  pub reply : Sent
+  pub says : Says board piece (given .answer .outcome) reply (given .answer .board .core)
+  pub understood : Understood reply (heard .events)
+  pub none-left : heard .state ≡ heldOf outside
 
 abbrev pub RepliesAreUnderstood : Type 0
 RepliesAreUnderstood =
-    (core : Core) (held : Held) (piece : List ℕ) → core .identity .version < 256 ^ 2 → Understood (deciding core (endedIn held piece) .reply)
+    (board : Board) (piece : List ℕ) (room : ℕ) (offers : List (Offer ℕ))
+    → let given = answering board piece room in
+    let heard = Cutting.calls boxHears (heldOf outside) (given .written) offers in
+    heard .taken ≡ length (given .written) → Understands board piece given heard
 
 -- Every request that the box writes is read by a board as that request: a Get of its id; a complete Set of its setting to its number.
 abbrev pub GetIsUnderstood : Type 0

@@ -3,32 +3,25 @@
 -- fakes the rest (demand 3, [..]). A box that invents its confirmed or taken count falls to demand 2's reply count and the frame-end rule. A
 -- never-changing table would keep ranges and pairs, so demand 3 always includes the Sets." What is asked, said of any way of answering; the
 -- shams; and that none of them meets it, while the board and the follower do. Assumes nothing.
-use Prim.Native.Nat.{ℕ, _≤_, _<_}
+use Prim.Native.Nat.{ℕ, _≤_}
 use mathlib.Core.Path.{_≡_}
 use mathlib.Core.Bool.{Bool, true, false, cond, _&&_, _||_}
 use mathlib.Core.List.{List, [], _∷_}
 use lib.ListN.{length, take}
 use lib.Dec.{eqb}
 use Rattle.laws.specs.Promise.{Given}
-use Rattle.paper.specs.Numbers.{mostData, frameRoom, getCode, setCode, colon}
-use Rattle.wire.specs.Frame.{frame}
+use Rattle.paper.specs.Numbers.{mostData, frameRoom, setCode, colon}
 use Rattle.wire.specs.Parsing.{Ended, good, refused}
-use Rattle.endian.specs.Numbers.{little}
 use Rattle.stream.specs.Stream.{taken}
 use Rattle.stream.specs.Calls as stream
 use Rattle.stream.specs.Calls.{unfinished}
 use Rattle.stream.specs.declared.Held.{Held}
 use Rattle.stream.specs.declared.Heard.{Heard}
-use Rattle.settings.specs.Columns.{count, idAt, widthAt}
-use Rattle.settings.specs.Rules.{allowedFor}
-use Rattle.tables.specs.Rules.{numberAt, partnerNumber, changed}
 use Rattle.tables.specs.declared.Table.{Table}
-use Rattle.answers.specs.Answers.{withTable, said}
-use Rattle.answers.specs.Requests.{getRequest, setRequest}
+use Rattle.answers.specs.Answers.{withTable}
 use Rattle.answers.specs.declared.Outcome.{Outcome}
 use Rattle.board.specs.Parts.{boardAllowed}
 use Rattle.board.specs.Calls.{storing, answering, unanswered}
-use Rattle.board.specs.Laws.{atRest, comesTo}
 use Rattle.board.specs.declared.Board.{Board}
 use Rattle.board.specs.declared.Answered.{Answered}
 use Rattle.listen.specs.Hearing.{boxHearing}
@@ -39,21 +32,8 @@ use Rattle.follow.specs.Calls as following
 use Rattle.follow.specs.Laws as follow
 use Rattle.follow.specs.Laws.{matched}
 use Rattle.demands.specs.Talk.{Way, plainly, framesAt}
-use Rattle.demands.specs.Demand2.{HearsWritten}
+use Rattle.demands.specs.Demand2.{HearsWritten, GetsHeld, SetsStored}
 use Rattle.demands.specs.Demand3.{Decides}
-
--- demand 2, good Gets and Sets: the reply is the number now held, and the request itself with the number stored
-abbrev pub GetsHeld : (Board → List ℕ → ℕ → Given Answered) → Type 0
-GetsHeld answer =
-    (board : Board) (k room : ℕ) → boardAllowed board ≡ true → atRest board → k < count → frameRoom ≤ room
-    → answer board (getRequest (idAt k)) room
-    ≡ comesTo board (board .core) Outcome.Answered (frame getCode (said (idAt k) 0 (little (widthAt k) (numberAt (board .core .table) k)))) (getRequest (idAt k))
-
-abbrev pub SetsStored : (Board → List ℕ → ℕ → Given Answered) → Type 0
-SetsStored answer =
-    (board : Board) (k n room : ℕ) → boardAllowed board ≡ true → atRest board → k < count → frameRoom ≤ room
-    → allowedFor k n (partnerNumber (board .core .table) k) ≡ true
-    → answer board (setRequest k n) room ≡ comesTo board (withTable (board .core) (changed (board .core .table) k n)) Outcome.Answered (setRequest k n) (setRequest k n)
 
 -- the frame-end rule
 abbrev pub TakesToTheEnd : (Board → List ℕ → ℕ → Given Answered) → Type 0

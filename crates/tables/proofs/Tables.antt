@@ -2,11 +2,12 @@
 use mathlib.Core.Path.{_≡_, refl, sym, ap, _∙_}
 use mathlib.Core.Logic.{_≢_}
 use mathlib.Core.Bool.{Bool, true, false}
+use mathlib.Core.List.{List}
 use Prim.Native.Nat.{ℕ, _≤_, _<_}
 use native.Mathlib.Omega.{arith}
 use borrow.Author.Tests.{lt-ltb, le-ltb, ltb-true, ltb-false, eqb-true, eqb-false}
 use lib.ListN.{length, length-set}
-use lib.Seq.{getD-set-same, getD-set-other}
+use lib.Seq.{set-getD, getD-set-same, getD-set-other}
 use lib.Dec.{ltb, eqb}
 use Rattle.laws.proofs.Bools.{or-second}
 use Rattle.laws.proofs.Lists.{upTo-at, upTo-all}
@@ -23,7 +24,7 @@ use Rattle.settings.proofs.Windows.{nearest-found, allowed-range, allowed-agree
 use Rattle.settings.proofs.Pairs.{partner-agrees, agrees-exchange}
 use Rattle.tables.specs.Rules.{allowed, numberAt, partnerNumber, changed}
 use Rattle.tables.specs.Calls.{setTo}
-use Rattle.tables.specs.Laws.{SetKeepsAllowed, RefusedKeeps, SetKeepsCount, SetChangesOne, SetStores, RefusedNamesNearest, PairsHaveAnOrder}
+use Rattle.tables.specs.Laws.{SetKeepsAllowed, RefusedKeeps, SetKeepsCount, SetChangesOne, SetStores, EqualIsAccepted, RefusedNamesNearest, PairsHaveAnOrder}
 use Rattle.tables.specs.declared.Table.{Table}
 use Rattle.tables.specs.declared.Answer.{Answer}
 
@@ -142,6 +143,11 @@ set-one t k n j apart = by (allowed t) (ltb k count) (allowedFor k n (partnerNum
 pub set-stores : SetStores
 set-stores t k n long ok h fits =
     rw (set-accepted t k n ok h fits) (refl, here t k n ok h long fits)
+
+pub equal-accepted : EqualIsAccepted
+equal-accepted t k ok h =
+    set-accepted t k (numberAt t k) ok h (allowed-at t ok k h)
+    ∙ ap (λ (l : List ℕ). record { answer = Answer.Accepted; table = record { numbers = l } }) (set-getD (t .numbers) k 0)
 
 pub refused-names : RefusedNamesNearest
 refused-names t k n ok h small e =

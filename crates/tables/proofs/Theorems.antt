@@ -5,11 +5,14 @@ use Rattle.settings.specs.Rules.{allAllowed}
 use Rattle.settings.proofs.Windows.{allowed-both}
 use Rattle.settings.proofs.Theorems.{rows-hold}
 use Rattle.tables.specs.Rules.{allowed}
-use Rattle.tables.specs.Laws.{SetStores, RefusedNamesNearest, SetKeepsAllowed, RefusedKeeps, SetKeepsCount, SetChangesOne, FactoryIsAllowed, PairsHaveAnOrder}
-use Rattle.tables.proofs.Tables.{set-stores, refused-names, set-allowed, refused-keeps, set-count, set-one, pairs-order}
+use Rattle.tables.specs.Laws.{SetStores, EqualIsAccepted, RefusedNamesNearest, SetKeepsAllowed, RefusedKeeps, SetKeepsCount, SetChangesOne, FactoryIsAllowed, PairsHaveAnOrder}
+use Rattle.tables.proofs.Tables.{set-stores, equal-accepted, refused-names, set-allowed, refused-keeps, set-count, set-one, pairs-order}
 
 pub set-stores-it : SetStores
 set-stores-it = set-stores
+
+pub equal-is-accepted : EqualIsAccepted
+equal-is-accepted = equal-accepted
 
 pub refused-names-nearest : RefusedNamesNearest
 refused-names-nearest = refused-names

@@ -20,6 +20,10 @@ SetStores =
     (t : Table) (k n : ℕ) → length (t .numbers) ≡ count → allowed t ≡ true → k < count → allowedFor k n (partnerNumber t k) ≡ true
     → (setTo t k n .answer ≡ Answer.Accepted) × (numberAt (setTo t k n .table) k ≡ n)
 
+-- "Setting an equal number is accepted", and the table stays as it was.
+abbrev pub EqualIsAccepted : Type 0
+EqualIsAccepted = (t : Table) (k : ℕ) → allowed t ≡ true → k < count → setTo t k (numberAt t k) ≡ record { answer = Answer.Accepted; table = t }
+
 abbrev pub RefusedNamesNearest : Type 0
 RefusedNamesNearest =
     (t : Table) (k n : ℕ) → allowed t ≡ true → k < count → n < 2 ^ 16 → allowedFor k n (partnerNumber t k) ≡ false

@@ -1,11 +1,11 @@
 -- Read-only values: they are bytes, and few enough for a reply. Assumes nothing.
-use mathlib.Core.Path.{_≡_, refl, _∙_}
-use mathlib.Core.Bool.{Bool, true, false, cond}
-use mathlib.Core.List.{List, [], _∷_, _++_}
+use mathlib.Core.Path.{_≡_, refl, sym, ap, subst, _∙_}
+use mathlib.Core.Bool.{Bool, true, false, cond, _||_}
+use mathlib.Core.List.{List, [], _∷_, _++_, append-nil}
 use mathlib.Core.Option.{Option, none, some}
 use Prim.Native.Nat.{ℕ, _+_, _≤_, _<_}
 use native.Mathlib.Omega.{arith}
-use borrow.Author.Tests.{lt-ltb, ltb-true, leb-true}
+use borrow.Author.Tests.{lt-ltb, le-ltb, ltb-true, ltb-false, leb-true, eqb-true}
 use lib.Dec.{leb, ltb, eqb}
 use lib.ListN.{length, take, length-append, length-take}
 use Rattle.laws.specs.Lists.{every, byte}
@@ -17,7 +17,7 @@ use Rattle.who.specs.Parts.{printed, serialOf, identityAllowed}
 use Rattle.who.specs.Values.{productValue, serialValue, readOnly}
 use Rattle.paper.specs.Numbers.{notAllowed}
 use Rattle.who.specs.Calls.{valueOf, noValue, lookedOf, readingOut}
-use Rattle.who.specs.Laws.{Small, small-none, small-some, ValuesFit, NothingReadsZero}
+use Rattle.who.specs.Laws.{Small, small-none, small-some, ValuesFit, NothingReadsZero, product, serial-under, serial-full, version, voltage, current, fine, consumed, charge, HeldIsReadOut, Holds, ReadOutIsHeld, isSome, EightAreReadOut}
 use Rattle.who.specs.declared.Identity.{Identity}
 use Rattle.who.specs.declared.Readings.{Readings}
 use Rattle.who.proofs.Serials.{serial-within}
@@ -100,3 +100,60 @@ values-small identity readings id ok = small-read identity ok readings id
 pub nothing-zero : NothingReadsZero
 unfolding readOnly
 nothing-zero identity = (refl, refl, refl, refl, refl)
+
+-- id by id
+pub held-out : HeldIsReadOut
+unfolding readOnly serialValue
+held-out identity readings id value product = refl
+held-out identity readings id value (serial-under h) = rw (lt-ltb (identity .len) 32 h)
+held-out identity readings id value (serial-full e) = rw (le-ltb (identity .len) 32 (omega arith)) (ap some (append-nil (serialOf identity)))
+held-out identity readings id value version = refl
+held-out identity readings id value voltage = refl
+held-out identity readings id value current = refl
+held-out identity readings id value fine = refl
+held-out identity readings id value consumed = refl
+held-out identity readings id value charge = refl
+
+module _ (identity : Identity) (readings : Readings) (id : ℕ) where
+  -- what is found is held, where the first that is found is and so is what is found after it
+  abbrev Finds : Option (List ℕ) → Type 0
+  Finds o = (value : List ℕ) → o ≡ some value → Holds identity readings id value
+
+  one-held : (at : ℕ) (v : List ℕ) (o : Option (List ℕ)) → Holds identity readings at v → Finds o → Finds (cond (eqb id at) (some v) o)
+  one-held at v o held later = by (eqb id at) refl
+    where
+      by : (b : Bool) → eqb id at ≡ b → Finds (cond b (some v) o)
+      by true e value found =
+          let is : v ≡ value = cc in
+          subst (λ (l : List ℕ). Holds identity readings id l) is (subst (λ (i : ℕ). Holds identity readings i v) (sym (eqb-true id at e)) held)
+      by false e value found = later value found
+
+  serial-held : identityAllowed identity ≡ true → Holds identity readings 0x010A (serialValue identity)
+  unfolding serialValue
+  serial-held ok = by (ltb (identity .len) 32) refl
+    where
+      by : (b : Bool) → ltb (identity .len) 32 ≡ b → Holds identity readings 0x010A (serialOf identity ++ cond b (0 ∷ []) [])
+      by true e = serial-under (ltb-true (identity .len) 32 e)
+      by false e =
+          let most : identity .len ≤ 32 = serial-within identity ok in
+          let least : 32 ≤ identity .len = ltb-false (identity .len) 32 e in
+          rw (append-nil (serialOf identity)) (serial-full (omega arith))
+
+  finds : identityAllowed identity ≡ true → Finds (readOnly identity readings id)
+  unfolding readOnly
+  finds ok =
+      one-held 0x0100 _ _ product (one-held 0x010A _ _ (serial-held ok) (one-held 0xEEF9 _ _ version (one-held 0xED8D _ _ voltage (one-held 0xED8F _ _ current
+      (one-held 0xED8C _ _ fine (one-held 0xEEFF _ _ consumed (one-held 0x0FFF _ none charge (λ value e. let z : _≡_ {A = ℕ} 0 1 = cc in absurd (omega arith)))))))))
+
+pub out-held : ReadOutIsHeld
+out-held identity readings id value ok e = finds identity readings id ok value e
+
+found-or : (b : Bool) (v : List ℕ) (o : Option (List ℕ)) {rest : Bool} → isSome o ≡ rest → isSome (cond b (some v) o) ≡ (b || rest)
+found-or true v o e = refl
+found-or false v o e = e
+
+pub eight-out : EightAreReadOut
+unfolding readOnly
+eight-out identity readings id =
+    found-or (eqb id 0x0100) _ _ (found-or (eqb id 0x010A) _ _ (found-or (eqb id 0xEEF9) _ _ (found-or (eqb id 0xED8D) _ _ (found-or (eqb id 0xED8F) _ _
+    (found-or (eqb id 0xED8C) _ _ (found-or (eqb id 0xEEFF) _ _ (found-or (eqb id 0x0FFF) _ none refl)))))))

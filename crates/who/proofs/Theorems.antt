@@ -1,7 +1,7 @@
 -- The statements of specs/Laws.antt, proved. Assumes nothing.
-use Rattle.who.specs.Laws.{NamedIsAllowed, SerialIsKept, ValuesFit, NothingReadsZero}
+use Rattle.who.specs.Laws.{NamedIsAllowed, SerialIsKept, ValuesFit, NothingReadsZero, HeldIsReadOut, ReadOutIsHeld, EightAreReadOut}
 use Rattle.who.proofs.Identities.{named-allowed, serial-back}
-use Rattle.who.proofs.ReadOut.{values-small, nothing-zero}
+use Rattle.who.proofs.ReadOut.{values-small, nothing-zero, held-out, out-held, eight-out}
 
 pub named-is-allowed : NamedIsAllowed
 named-is-allowed = named-allowed
@@ -14,3 +14,12 @@ values-fit = values-small
 
 pub nothing-reads-zero : NothingReadsZero
 nothing-reads-zero = nothing-zero
+
+pub held-is-read-out : HeldIsReadOut
+held-is-read-out = held-out
+
+pub read-out-is-held : ReadOutIsHeld
+read-out-is-held = out-held
+
+pub eight-are-read-out : EightAreReadOut
+eight-are-read-out = eight-out

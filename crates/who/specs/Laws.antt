@@ -1,16 +1,17 @@
 -- What is proved of the definitions, as statements to hold against the paper. Each is proved under its name in proofs/Theorems.antt.
 -- Assumes nothing.
-use Prim.Native.Nat.{ℕ, _≤_}
+use Prim.Native.Nat.{ℕ, _/_, _%_, _≤_, _<_}
 use mathlib.Core.Path.{_≡_}
-use mathlib.Core.Bool.{true}
-use mathlib.Core.List.{List}
+use mathlib.Core.Bool.{Bool, true, false}
+use mathlib.Core.List.{List, [], _∷_, _++_}
 use mathlib.Core.Option.{Option, none, some}
 use lib.ListN.{length, replicate}
 use Rattle.paper.specs.Numbers as paper
 use Rattle.laws.specs.Lists.{every, byte}
 use Rattle.paper.specs.Numbers.{mostSerial}
 use Rattle.who.specs.Parts.{identityOf, serialOf, identityAllowed, noReadings}
-use Rattle.who.specs.Values.{readOnly}
+use Rattle.endian.specs.Numbers.{little, complement}
+use Rattle.who.specs.Values.{readOnly, readOnlyIds, among}
 use Rattle.who.specs.Calls.{naming}
 use Rattle.who.specs.declared.Identity.{Identity}
 use Rattle.who.specs.declared.Readings.{Readings}
@@ -39,3 +40,37 @@ NothingReadsZero =
     × (readOnly identity noReadings paper.fineId ≡ some (replicate 4 0))
     × (readOnly identity noReadings paper.consumedId ≡ some (replicate 4 0))
     × (readOnly identity noReadings paper.chargeId ≡ some (replicate 2 0))
+
+-- 4. Document 01, "Read-only values", id by id: what each of the eight holds, as bytes, and that it is what is read out; and no other id is
+-- read out.
+pub data Holds (identity : Identity) (readings : Readings) : ℕ → List ℕ → Type 0 where
+  -- "0100: four bytes 00, product low, product high, FF"
+  product : Holds identity readings 0x0100 (0x00 ∷ (identity .product % 256) ∷ (identity .product / 256 % 256) ∷ 0xFF ∷ [])
+  -- "010A: serial, 0 to 32 bytes [..], one zero byte after it if under 32"
+  serial-under : identity .len < 32 → Holds identity readings 0x010A (serialOf identity ++ 0 ∷ [])
+  serial-full : identity .len ≡ 32 → Holds identity readings 0x010A (serialOf identity)
+  -- "EEF9: version, 2 bytes"
+  version : Holds identity readings 0xEEF9 (little 2 (identity .version))
+  -- "ED8D signed 16, 0.01 V; ED8F signed 16, 0.1 A; ED8C signed 32, 0.001 A; EEFF signed 32, 0.1 Ah; 0FFF unsigned 16, 0.01 %"; "Negative
+  -- ones go out in two's complement."
+  voltage : Holds identity readings 0xED8D (little 2 (complement 2 (readings .voltage)))
+  current : Holds identity readings 0xED8F (little 2 (complement 2 (readings .current)))
+  fine : Holds identity readings 0xED8C (little 4 (complement 4 (readings .fine)))
+  consumed : Holds identity readings 0xEEFF (little 4 (complement 4 (readings .consumed)))
+  charge : Holds identity readings 0x0FFF (little 2 (readings .charge))
+
+abbrev pub HeldIsReadOut : Type 0
+HeldIsReadOut =
+    (identity : Identity) (readings : Readings) (id : ℕ) (value : List ℕ) → Holds identity readings id value → readOnly identity readings id ≡ some value
+
+abbrev pub ReadOutIsHeld : Type 0
+ReadOutIsHeld =
+    (identity : Identity) (readings : Readings) (id : ℕ) (value : List ℕ) → identityAllowed identity ≡ true
+    → readOnly identity readings id ≡ some value → Holds identity readings id value
+
+abbrev pub isSome : Option (List ℕ) → Bool
+isSome none = false
+isSome (some value) = true
+
+abbrev pub EightAreReadOut : Type 0
+EightAreReadOut = (identity : Identity) (readings : Readings) (id : ℕ) → isSome (readOnly identity readings id) ≡ among id readOnlyIds

@@ -1,6 +1,6 @@
 -- The read-only values as bytes. Document 01, "Read-only values". Assumes nothing.
 use Prim.Native.Nat.{ℕ}
-use mathlib.Core.Bool.{cond}
+use mathlib.Core.Bool.{Bool, false, cond, _||_}
 use mathlib.Core.List.{List, [], _∷_, _++_}
 use mathlib.Core.Option.{Option, none, some}
 use lib.Dec.{eqb, ltb}
@@ -32,3 +32,11 @@ readOnly identity readings id =
     (cond (eqb id paper.consumedId) (some (little 4 (complement 4 (readings .consumed))))
     (cond (eqb id paper.chargeId) (some (little 2 (readings .charge)))
     none)))))))
+
+-- the eight ids
+abbrev pub readOnlyIds : List ℕ
+readOnlyIds = 0x0100 ∷ 0x010A ∷ 0xEEF9 ∷ 0xED8D ∷ 0xED8F ∷ 0xED8C ∷ 0xEEFF ∷ 0x0FFF ∷ []
+
+abbrev pub among : ℕ → List ℕ → Bool
+among id [] = false
+among id (x ∷ more) = eqb id x || among id more

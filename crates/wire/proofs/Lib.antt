@@ -4,5 +4,6 @@ pub mod Bytes
 pub mod Frames
 pub mod Answers
 pub mod RoundTrip
+pub mod Refusing
 pub mod Same
 pub mod Theorems

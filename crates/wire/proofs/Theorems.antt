@@ -1,9 +1,22 @@
 -- The statements of specs/Laws.antt, proved. Assumes nothing.
-use Rattle.wire.specs.Laws.{WrittenIsRead, ReadIsWritten}
+use Rattle.wire.specs.Laws.{WrittenIsRead, ReadIsWritten, WrittenSums, ReadSums, FaultGivenWhen, ReadGivenWhen}
 use Rattle.wire.proofs.RoundTrip.{frame-says, slice-written}
+use Rattle.wire.proofs.Refusing
 
 pub written-is-read : WrittenIsRead
 written-is-read = frame-says
 
 pub read-is-written : ReadIsWritten
 read-is-written = slice-written
+
+pub written-sums : WrittenSums
+written-sums = Refusing.written-sums
+
+pub read-sums : ReadSums
+read-sums = Refusing.read-sums
+
+pub fault-given-when : FaultGivenWhen
+fault-given-when = Refusing.fault-given
+
+pub read-given-when : ReadGivenWhen
+read-given-when = Refusing.read-given

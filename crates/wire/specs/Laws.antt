@@ -1,14 +1,18 @@
 -- What is proved of the definitions, as statements to hold against the papers. Each is proved under its name in proofs/Theorems.antt.
 -- Assumes nothing.
-use Prim.Native.Nat.{ℕ, _≤_}
+use Prim.Native.Nat.{ℕ, _+_, _%_, _≤_, _<_}
 use mathlib.Core.Path.{_≡_}
-use mathlib.Core.List.{List}
+use mathlib.Core.Bool.{not}
+use mathlib.Core.List.{List, [], _∷_, _++_}
 use lib.ListN.{length}
-use Rattle.laws.specs.Lists.{Bytes}
-use Rattle.paper.specs.Numbers.{mostNibble, mostData, frameRoom}
-use Rattle.wire.specs.Frame.{frame}
-use Rattle.wire.specs.Parsing.{good}
-use Rattle.wire.specs.Calls.{writing, writtenAs, parsing, readAs}
+use lib.Dec.{ltb}
+use Rattle.laws.specs.Lists.{Bytes, sumOf}
+use Rattle.paper.specs.Numbers.{colon, newline, mostNibble, mostData, frameRoom}
+use Rattle.wire.specs.Digits.{digit}
+use Rattle.wire.specs.Frame.{digitsOf, frame}
+use Rattle.wire.specs.Parsing.{good, bodySays, brokenSays}
+use Rattle.wire.specs.Refusals.{row, firstOf, faults, faultOf, refusalOf}
+use Rattle.wire.specs.Calls.{writing, writtenAs, wellEnclosed, between, parsing, readAs}
 
 -- 1. Demand 2: "A frame written by one end is read by the other as the same command and data": read whole. (On the stream: `stream`.)
 abbrev pub WrittenIsRead : Type 0
@@ -27,3 +31,29 @@ pub record Writable (command : ℕ) (bytes : List ℕ) : Type 0 where
   pub nibble : command ≤ mostNibble
   pub few : length bytes ≤ mostData
   pub small : Bytes bytes
+
+-- 3. "Command, data bytes and check sum to 0x55 modulo 256": in every frame that the writer makes, and in every frame read whole.
+pub record Sums (slice : List ℕ) (command : ℕ) (bytes : List ℕ) : Type 0 where
+  pub check : ℕ
+  pub is-byte : check < 256
+  pub slice-is : slice ≡ colon ∷ digit command ∷ digitsOf (bytes ++ check ∷ []) ++ newline ∷ []
+  pub sums : (command + sumOf bytes + check) % 256 ≡ 0x55
+
+abbrev pub WrittenSums : Type 0
+WrittenSums = (command : ℕ) (bytes : List ℕ) (room : ℕ) (slice : List ℕ) → writing command bytes room ≡ writtenAs slice → Sums slice command bytes
+
+abbrev pub ReadSums : Type 0
+ReadSums = (slice : List ℕ) (room : ℕ) (command : ℕ) (bytes : List ℕ) → parsing slice room ≡ readAs (good command bytes) → Sums slice command bytes
+
+-- 4. Refusals 1 to 4 are "given exactly when" their condition holds and none before it does: of the characters of a frame that a newline
+-- ended, or a colon; and of a slice, where 11 and the enclosing come first.
+abbrev pub FaultGivenWhen : Type 0
+FaultGivenWhen =
+    (chars : List ℕ)
+    → (faultOf (bodySays chars) ≡ firstOf (faults chars newline))
+    × (faultOf (brokenSays (length chars)) ≡ firstOf (faults chars colon))
+
+abbrev pub ReadGivenWhen : Type 0
+ReadGivenWhen =
+    (slice : List ℕ) (room : ℕ)
+    → refusalOf (parsing slice room .answer) ≡ firstOf (row 11 (ltb room 35) ∷ row 2 (not (wellEnclosed slice)) ∷ faults (between slice) newline)

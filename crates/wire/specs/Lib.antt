@@ -3,5 +3,6 @@
 pub mod Digits
 pub mod Frame
 pub mod Parsing
+pub mod Refusals
 pub mod Calls
 pub mod Laws

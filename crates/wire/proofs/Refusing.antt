@@ -1,0 +1,93 @@
+-- The sum of a frame, and refusals 1 to 4 by their rows. Assumes nothing.
+use mathlib.Core.Path.{_≡_, refl, ap, subst, _∙_}
+use mathlib.Core.Bool.{Bool, true, false, not, _||_, cond}
+use mathlib.Core.List.{List, [], _∷_}
+use mathlib.Core.Option.{Option, none, some}
+use Prim.Native.Nat.{ℕ}
+use native.Mathlib.Omega.{arith}
+use borrow.Author.Tests.{leb-true}
+use lib.ListN.{length}
+use lib.Dec.{ltb}
+use Rattle.laws.specs.Promise.{Given}
+use Rattle.laws.specs.Lists.{every}
+use Rattle.paper.specs.Numbers.{newline}
+use Rattle.wire.specs.Digits.{isDigit}
+use Rattle.wire.specs.Frame.{check, body, frame}
+use Rattle.wire.specs.Parsing.{Ended, good, refused, commandOf, dataOf, badCount, sumsUp, bodySays, brokenSays}
+use Rattle.wire.specs.Refusals.{isHex, firstOf, faults, faultOf, refusalOf}
+use Rattle.wire.specs.Calls.{writing, writtenAs, unwritten, wholeSays, wellEnclosed, between, parsing, readAs}
+use Rattle.wire.specs.Laws.{Sums, WrittenSums, ReadSums, FaultGivenWhen, ReadGivenWhen}
+use Rattle.wire.specs.declared.Written.{Written}
+use Rattle.wire.proofs.Nibbles.{digit-test}
+use Rattle.wire.proofs.Frames.{check-sums, check-byte}
+use Rattle.wire.proofs.RoundTrip.{slice-written}
+
+frame-sums : (command : ℕ) (bytes : List ℕ) → Sums (frame command bytes) command bytes
+unfolding frame body
+frame-sums command bytes =
+    record { check = check command bytes; is-byte = check-byte command bytes; slice-is = refl; sums = check-sums command bytes }
+
+pub written-sums : WrittenSums
+unfolding writing
+written-sums command bytes room slice e = by (ltb room 75) (ltb 15 command || ltb 35 (length bytes)) e
+  where
+    never : (number : ℕ) → unwritten number ≡ writtenAs slice → Sums slice command bytes
+    never number w =
+        let a : Written.Refused number ≡ Written.Len (length slice) = ap (λ (g : Given Written). g .answer) w in
+        let z : _≡_ {A = ℕ} 0 1 = cc in absurd (omega arith)
+
+    by : (short over : Bool) → cond short (unwritten 11) (cond over (unwritten 12) (writtenAs (frame command bytes))) ≡ writtenAs slice
+        → Sums slice command bytes
+    by true over w = never 11 w
+    by false true w = never 12 w
+    by false false w = subst (λ (l : List ℕ). Sums l command bytes) (ap (λ (g : Given Written). g .written) w) (frame-sums command bytes)
+
+pub read-sums : ReadSums
+read-sums slice room command bytes e = written-sums command bytes 75 slice (slice-written slice room command bytes e 75 (leb-true 75 75 refl))
+
+-- the digits of the paper are those that are read
+hex-digits : (chars : List ℕ) → every isHex chars ≡ every isDigit chars
+hex-digits [] = refl
+hex-digits (c ∷ chars) = rw (digit-test c, hex-digits chars)
+
+-- the rows and the definition ask the same tests in the same order
+body-rows : (long digits odd sums : Bool) (command : ℕ) (bytes : List ℕ)
+    → faultOf (cond long (refused 1) (cond (not digits) (refused 2) (cond odd (refused 3) (cond (not sums) (refused 4) (good command bytes)))))
+    ≡ cond long (some 1) (cond (not digits || false) (some 2) (cond odd (some 3) (cond (not sums) (some 4) none)))
+body-rows true digits odd sums command bytes = refl
+body-rows false false odd sums command bytes = refl
+body-rows false true true sums command bytes = refl
+body-rows false true false false command bytes = refl
+body-rows false true false true command bytes = refl
+
+broken-rows : (long digits : Bool) (rest : Option ℕ)
+    → faultOf (cond long (refused 1) (refused 2)) ≡ cond long (some 1) (cond (not digits || true) (some 2) rest)
+broken-rows true digits rest = refl
+broken-rows false false rest = refl
+broken-rows false true rest = refl
+
+pub fault-given : FaultGivenWhen
+unfolding bodySays brokenSays
+fault-given chars = (
+  rw hex-digits (body-rows (ltb 73 (length chars)) (every isDigit chars) (badCount (length chars)) (sumsUp chars) (commandOf chars) (dataOf chars)),
+  broken-rows (ltb 73 (length chars)) (every isHex chars) _,
+)
+
+-- a slice, by the same rows after its own two
+read-says : (e : Ended) → refusalOf (readAs e .answer) ≡ faultOf e
+read-says (good command bytes) = refl
+read-says (refused number) = refl
+
+pub read-given : ReadGivenWhen
+unfolding parsing wholeSays
+read-given slice room = by (ltb room 35) (wellEnclosed slice)
+  where
+    rest : Option ℕ
+    rest = firstOf (faults (between slice) newline)
+
+    by : (short well : Bool)
+        → refusalOf (cond short (readAs (refused 11)) (readAs (cond well (bodySays (between slice)) (refused 2))) .answer)
+        ≡ cond short (some 11) (cond (not well) (some 2) rest)
+    by true well = refl
+    by false false = refl
+    by false true = read-says (bodySays (between slice)) ∙ fault-given (between slice) .0

@@ -1,0 +1,47 @@
+-- Document 01, "Numbers of refusal": rows 1 to 4, each with its condition alone, no other number in it. Assumes nothing.
+use Prim.Native.Nat.{ℕ, _+_, _%_}
+use mathlib.Core.Bool.{Bool, cond, not, _&&_, _||_}
+use mathlib.Core.List.{List, [], _∷_}
+use mathlib.Core.Option.{Option, none, some}
+use lib.ListN.{length}
+use lib.Dec.{ltb, leb, eqb}
+use Rattle.laws.specs.Lists.{every, sumOf}
+use Rattle.paper.specs.Numbers as paper
+use Rattle.wire.specs.Parsing.{Ended, good, refused, commandOf, payloadOf}
+use Rattle.wire.specs.declared.Read.{Read}
+
+-- a row of the table: its number, and whether its condition holds
+pub record Row : Type 0 where
+  pub number : ℕ
+  pub holds : Bool
+
+abbrev pub row : ℕ → Bool → Row
+row number holds = record { number = number; holds = holds }
+
+-- "Given exactly when": the number whose condition holds while that of no row before it does; none where no condition holds
+abbrev pub firstOf : List Row → Option ℕ
+firstOf [] = none
+firstOf (r ∷ more) = cond (r .holds) (some (r .number)) (firstOf more)
+
+-- "Digits are `0`-`9`, `A`-`F` only."
+abbrev pub isHex : ℕ → Bool
+isHex c = (leb 48 c && leb c 57) || (leb 65 c && leb c 70)
+
+-- the rows of the characters since the colon and of the byte that ended the frame, a newline or a colon: 1 "over 73 characters in the
+-- frame"; 2 "a character is no digit, or a colon broke it"; 3 "under 3 characters, or an even count"; 4 "sum is not 0x55"
+abbrev pub faults : List ℕ → ℕ → List Row
+faults chars ending =
+    row 1 (ltb 73 (length chars))
+    ∷ row 2 (not (every isHex chars) || eqb ending paper.colon)
+    ∷ row 3 (ltb (length chars) 3 || eqb (length chars % 2) 0)
+    ∷ row 4 (not (eqb ((commandOf chars + sumOf (payloadOf chars)) % 256) 0x55))
+    ∷ []
+
+-- the number that was given
+abbrev pub faultOf : Ended → Option ℕ
+faultOf (good command bytes) = none
+faultOf (refused number) = some number
+
+abbrev pub refusalOf : Read → Option ℕ
+refusalOf (Read.Frame command len) = none
+refusalOf (Read.Refused number) = some number
