@@ -248,8 +248,8 @@ counts-unheard : (counted : Table → Table → ℕ → ℕ) → Counts (unheard
 unfolding partnerAt placeOf matched order turnsFrom placed exchanged higherFirst differs allowed allAllowed allowedFor inRange agrees lowAgrees highAgrees
 counts-unheard counted h =
     let one : counted factory (withCapacity 500) 1 ≡ 1 =
-    h factory (withCapacity 500) (heard 8 (0x00 ∷ 0x10 ∷ 0x00 ∷ 0xF4 ∷ 0x01 ∷ []) ∷ []) refl (a-frame (record { below = refl }) nothing) in
-    let none : counted factory (withCapacity 500) 1 ≡ 0 = h factory (withCapacity 500) (refusedFrame ∷ []) refl (a-refusal nothing) in
+    h factory (withCapacity 500) (heard 8 (0x00 ∷ 0x10 ∷ 0x00 ∷ 0xF4 ∷ 0x01 ∷ []) ∷ []) (a-frame (record { below = refl }) nothing) in
+    let none : counted factory (withCapacity 500) 1 ≡ 0 = h factory (withCapacity 500) (refusedFrame ∷ []) (a-refusal nothing) in
     false≢true (ap (λ (n : ℕ). eqb n 1) (sym none ∙ one))
 
 -- a Ping after a digit of another frame

@@ -49,7 +49,7 @@ HearsToTheEnd hear =
 -- demand 2's reply count
 abbrev pub Counts : (Table → Table → List Event → ℕ) → Type 0
 Counts confirmed =
-    (from to : Table) (events : List Event) → bothAllowed from to ≡ true → OnStream events → confirmed from to events ≡ matched (dueSets from to) events
+    (from to : Table) (events : List Event) → OnStream events → confirmed from to events ≡ cond (bothAllowed from to) (matched (dueSets from to) events) 0
 
 -- The shams, each as the paper means it: not one of them, but all that do so. "refuses everything": with any number, whatever it writes and
 -- leaves.
