@@ -1,5 +1,5 @@
 -- Demand 2. Assumes nothing.
-use mathlib.Core.Path.{_≡_, refl, sym, ap, _∙_}
+use mathlib.Core.Path.{_≡_, refl, sym, ap, subst, _∙_}
 use mathlib.Core.Bool.{Bool, true, _&&_}
 use mathlib.Core.List.{List, [], _∷_, _++_}
 use mathlib.Core.Option.{Option, none, some}
@@ -7,6 +7,7 @@ use Prim.Native.Nat.{ℕ, _+_, _^_, _≤_, _<_}
 use native.Mathlib.Omega.{arith}
 use borrow.Author.Tests.{leb-true, ltb-true, lt-ltb, le-leb, eq-eqb, eqb-true}
 use lib.ListN.{length, take, drop, getD}
+use lib.Seq.{take-length}
 use lib.Dec.{eqb, ltb}
 use Rattle.laws.specs.Lists.{every, Bytes}
 use Rattle.laws.proofs.Bools.{pick, and-left, and-right, both}
@@ -14,7 +15,7 @@ use Rattle.laws.proofs.Lists.{upTo-at}
 use Rattle.wire.specs.Frame.{frame}
 use Rattle.endian.specs.Numbers.{little, fromLittle}
 use Rattle.wire.specs.Parsing.{Ended, good, refused}
-use Rattle.stream.specs.Stream.{taken}
+use Rattle.stream.specs.Stream.{Unfinished, framesFrom, taken}
 use Rattle.stream.specs.Calls.{unfinished}
 use Rattle.stream.specs.Laws.{Writables, whole}
 use Rattle.endian.proofs.Theorems.{little-is-read}
@@ -36,11 +37,14 @@ use Rattle.answers.specs.declared.Core.{Core}
 use Rattle.endian.proofs.Little.{length-little}
 use Rattle.answers.proofs.Fitting.{writable-said}
 use Rattle.board.specs.Calls.{endedIn, deciding}
+use Rattle.board.specs.declared.Board.{Board}
 use Rattle.reply.specs.Replies.{flagOf}
 use Rattle.reply.specs.declared.Status.{Status}
 use Rattle.reply.proofs.Theorems.{said-is-read, done-is-read, unknown-is-read, error-is-read, ping-is-read}
 use Rattle.demands.specs.Sets.{placeIn, valueIn, isComplete}
-use Rattle.demands.specs.Demand2.{WrittenIsHeard, Understood, no-reply, as-error, as-done, as-unknown, as-ping, as-get, as-set, RepliesAreUnderstood, GetIsUnderstood, SetIsUnderstood}
+use Rattle.demands.specs.Demand2.{WrittenIsHeard, WrittenIsAnswered, Understood, no-reply, as-error, as-done, as-unknown, as-ping, as-get, as-set, RepliesAreUnderstood, GetIsUnderstood, SetIsUnderstood}
+use Rattle.demands.specs.Talk.{talk, saidToAll, boardAt}
+use Rattle.demands.proofs.Cuts.{cutting-read, on-line}
 use Rattle.demands.proofs.Listing.{set-writable}
 
 -- a frame fed in any cutting, after any unfinished one
@@ -48,6 +52,18 @@ pub heard-written : WrittenIsHeard
 heard-written command bytes nibble few small held long ok more offers all =
     let one = heard-from-anywhere (unfinished held) command bytes nibble few small more in
     box-whole held long ok (frame command bytes ++ more) offers all ∙ rw (one .0, one .1)
+
+pub answered-written : WrittenIsAnswered
+answered-written command bytes nibble few small board long ok more deeds e all =
+    let row : List ℕ = frame command bytes ++ more in
+    let core : Core = board .core in
+    let u : Unfinished = unfinished (board .held) in
+    let line : board ≡ boardAt core u = on-line board long ok in
+    let whole : talk (boardAt core u) row deeds .taken ≡ length row = subst (λ (b : Board). talk b row deeds .taken ≡ length row) line all in
+    let reads = cutting-read core u row deeds e in
+    let frames : talk (boardAt core u) row deeds .frames ≡ framesFrom u row = reads .frames-are ∙ ap (framesFrom u) (ap (λ (n : ℕ). take n row) whole ∙ take-length row) in
+    ap (λ (b : Board). talk b row deeds .said) line ∙ reads .said-is
+    ∙ ap (saidToAll core) (frames ∙ heard-from-anywhere u command bytes nibble few small more .0)
 
 -- the replies, kind by kind
 abbrev U : Decision → Type 0

@@ -12,7 +12,7 @@ use Rattle.laws.specs.Cutting.{Offer}
 use Rattle.paper.specs.Numbers.{mostNibble, mostData, getCode, setCode}
 use Rattle.wire.specs.Frame.{frame}
 use Rattle.endian.specs.Numbers.{little, fromLittle}
-use Rattle.wire.specs.Parsing.{good}
+use Rattle.wire.specs.Parsing.{Ended, good}
 use Rattle.stream.specs.Stream.{framesOf, leftBy}
 use Rattle.stream.specs.Calls.{mostHeld, heldOf, unfinished, allowed}
 use Rattle.stream.specs.Laws.{brokenIn}
@@ -24,6 +24,7 @@ use Rattle.answers.specs.Answers.{Sent, silent, sent, error, said}
 use Rattle.answers.specs.Requests.{getRequest, setData, setRequest}
 use Rattle.answers.specs.declared.Core.{Core}
 use Rattle.board.specs.Calls.{endedIn, deciding}
+use Rattle.board.specs.declared.Board.{Board}
 use Rattle.listen.specs.Hearing.{boxHears}
 use Rattle.reply.specs.Replies.{flagOf, rest}
 use Rattle.reply.specs.Calls.{parsing}
@@ -31,11 +32,16 @@ use Rattle.reply.specs.declared.Status.{Status}
 use Rattle.reply.specs.declared.Reply.{Reply}
 use Rattle.follow.specs.Laws as follow
 use Rattle.demands.specs.Sets.{placeIn, valueIn, isComplete}
+use Rattle.demands.specs.Talk.{Deed, isCalls, talk, saidToAll}
 
--- 1. Written by one end, read by the other as the same command and data: whole; and by the box on its stream, whatever frame it holds
--- unfinished, whatever follows, and in any row of calls that takes the bytes: first what the frame's colon ends, then the frame.
+-- 1. Written by one end, read by the other as the same command and data: whole; and on the line, whatever frame is held unfinished there,
+-- whatever follows, and by any row of calls that takes the bytes: first what the frame's colon ends, then the frame, then what follows. The box
+-- hears these frames, and the board says of them what it says of each in turn.
 abbrev pub WrittenIsRead : Type 0
 WrittenIsRead = wire.WrittenIsRead
+
+abbrev pub thenWritten : Held → ℕ → List ℕ → List ℕ → List Ended
+thenWritten held command bytes more = brokenIn (unfinished held) ++ good command bytes ∷ framesOf more
 
 abbrev pub WrittenIsHeard : Type 0
 WrittenIsHeard =
@@ -43,11 +49,14 @@ WrittenIsHeard =
     → (held : Held) → length (held .chars) ≡ mostHeld → allowed held ≡ true → (more : List ℕ) (offers : List (Offer ℕ))
     → Cutting.calls boxHears held (frame command bytes ++ more) offers .taken ≡ length (frame command bytes ++ more)
     → Cutting.calls boxHears held (frame command bytes ++ more) offers
-    ≡ record {
-      state = heldOf (leftBy more);
-      events = brokenIn (unfinished held) ++ good command bytes ∷ framesOf more;
-      taken = length (frame command bytes ++ more);
-    }
+    ≡ record { state = heldOf (leftBy more); events = thenWritten held command bytes more; taken = length (frame command bytes ++ more) }
+
+abbrev pub WrittenIsAnswered : Type 0
+WrittenIsAnswered =
+    (command : ℕ) (bytes : List ℕ) → command ≤ mostNibble → length bytes ≤ mostData → Bytes bytes
+    → (board : Board) → length (board .held .chars) ≡ mostHeld → allowed (board .held) ≡ true → (more : List ℕ) (deeds : List Deed) → isCalls deeds ≡ true
+    → talk board (frame command bytes ++ more) deeds .taken ≡ length (frame command bytes ++ more)
+    → talk board (frame command bytes ++ more) deeds .said ≡ saidToAll (board .core) (thenWritten (board .held) command bytes more)
 
 -- 2. Read whole, it is byte for byte what the writer makes.
 abbrev pub ReadIsWritten : Type 0
