@@ -15,7 +15,7 @@ use Rattle.laws.proofs.Bools.{and-left, and-right, both}
 use Rattle.paper.specs.Numbers.{frameRoom}
 use Rattle.wire.specs.Parsing.{Ended}
 use Rattle.stream.specs.Stream.{Unfinished, framesFrom, leftFrom, taken}
-use Rattle.stream.specs.Calls.{unfinished}
+use Rattle.stream.specs.Calls.{unfinished, allowed}
 use Rattle.stream.specs.declared.Held.{Held}
 use Rattle.stream.proofs.Helds.{held-same}
 use Rattle.settings.specs.Columns.{count}
@@ -30,8 +30,8 @@ use Rattle.board.proofs.Replying.{bounded}
 use Rattle.board.proofs.Giving.{call-count}
 use Rattle.board.proofs.Theorems.{answer-keeps-allowed}
 use Rattle.listen.proofs.Hearing.{box-all, box-same, box-empty}
-use Rattle.demands.specs.Talk.{Deed, stores, calls, Said, saidIn, Talk, talk, afterAll, saidToAll, boardAt, framesAt}
-use Rattle.demands.specs.Demand3.{isCalls, AnyCutting, CuttingChangesNothing, EmptyChangesNothing, isFeeding, AllIsTaken}
+use Rattle.demands.specs.Talk.{Deed, stores, calls, Said, saidIn, Talk, talk, afterAll, saidToAll, boardAt, framesAt, isCalls}
+use Rattle.demands.specs.Demand3.{AnyCutting, CuttingChangesNothing, EmptyChangesNothing, isFeeding, AllIsTaken}
 use Rattle.demands.proofs.Talking.{Line, stateOf, says, leaves, call, any-cutting}
 use Rattle.demands.proofs.Deciding.{talk-frames}
 
@@ -106,8 +106,8 @@ idle-talk (calls n room ∷ more) board bytes stray e = by (ltb room 75) refl (i
     by false f later = ap goes-on (answering-stray board (take n bytes) room (ltb-false _ _ f) stray) ∙ ap idle later
 
 -- a board's line is where its held frame is
-pub on-line : (board : Board) → length (board .held .chars) ≡ 74 → boardAllowed board ≡ true → board ≡ boardAt (board .core) (unfinished (board .held))
-on-line board long ok = ap {B = Board} (λ (held : Held). record { core = board .core; held = held }) (sym (held-same (board .held) (held-allowed board ok) long))
+pub on-line : (board : Board) → length (board .held .chars) ≡ 74 → allowed (board .held) ≡ true → board ≡ boardAt (board .core) (unfinished (board .held))
+on-line board long ok = ap {B = Board} (λ (held : Held). record { core = board .core; held = held }) (sym (held-same (board .held) ok long))
 
 board-same : (board : Board) → length (board .held .chars) ≡ 74 → (bytes : List ℕ) (deeds deeds′ : List Deed) → isCalls deeds ≡ true → isCalls deeds′ ≡ true
     → talk board bytes deeds .taken ≡ talk board bytes deeds′ .taken → talk board bytes deeds ≡ talk board bytes deeds′
@@ -115,7 +115,7 @@ board-same board long bytes deeds deeds′ e e′ = by (boardAllowed board) refl
   where
     by : (t : Bool) → boardAllowed board ≡ t → talk board bytes deeds .taken ≡ talk board bytes deeds′ .taken → talk board bytes deeds ≡ talk board bytes deeds′
     by true ok =
-        subst (λ (b : Board). talk b bytes deeds .taken ≡ talk b bytes deeds′ .taken → talk b bytes deeds ≡ talk b bytes deeds′) (sym (on-line board long ok))
+        subst (λ (b : Board). talk b bytes deeds .taken ≡ talk b bytes deeds′ .taken → talk b bytes deeds ≡ talk b bytes deeds′) (sym (on-line board long (held-allowed board ok)))
         (line-same (board .core) (unfinished (board .held)) bytes deeds deeds′ e e′)
     by false stray = λ same. idle-talk deeds board bytes stray e ∙ sym (idle-talk deeds′ board bytes stray e′)
 

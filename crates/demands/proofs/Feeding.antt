@@ -31,7 +31,7 @@ use Rattle.board.specs.Parts.{boardAllowed}
 use Rattle.board.specs.Calls.{decidedBy, heardBy, answering}
 use Rattle.board.specs.declared.Board.{Board}
 use Rattle.board.specs.declared.Answered.{Answered}
-use Rattle.board.proofs.Pieces.{answering-heard}
+use Rattle.board.proofs.Pieces.{answering-heard, held-allowed}
 use Rattle.board.proofs.Giving.{call-count}
 use Rattle.board.proofs.Theorems.{answer-keeps-allowed}
 use Rattle.listen.specs.Hearing.{boxHears}
@@ -53,8 +53,8 @@ use Rattle.follow.specs.declared.Standing.{Standing}
 use Rattle.follow.proofs.Standings.{standing-is, refused-keeps, told-good, following-good}
 use Rattle.follow.proofs.Counting.{all-done, Goes, goes-far, begins}
 use Rattle.follow.proofs.Theorems.{all-are-confirmed}
-use Rattle.demands.specs.Talk.{Deed, stores, calls, Talk, talk, afterAll, saidToAll, boardAt}
-use Rattle.demands.specs.Demand3.{isCalls, Rests, setBySet, OneCallForEach, accepted, Stands, ListIsAccepted, repliesOf, eventFor, followed, Confirmed, ListIsConfirmed}
+use Rattle.demands.specs.Talk.{Deed, stores, calls, isCalls, Talk, talk, afterAll, saidToAll, boardAt}
+use Rattle.demands.specs.Demand3.{Rests, setBySet, OneCallForEach, accepted, Stands, ListIsAccepted, repliesOf, eventFor, followed, Confirmed, ListIsConfirmed}
 use Rattle.demands.proofs.Deciding.{Sound, took}
 use Rattle.demands.proofs.Cuts.{cutting-read, on-line, Fit}
 use Rattle.demands.proofs.Listing.{InTable, no-set, a-set, set-writable, frameFor, listed, due-in, accepts-all, both-allowed, made-list}
@@ -98,7 +98,7 @@ set-by-set (a-set {w} {more} h later) core (calls n room ∷ ds) f e =
     (goes .0, ap₂ (λ (a b : ℕ). a + b) count (ap₂ (λ (b : Board) (l : List ℕ). talk b l ds .taken) next back ∙ goes .1) ∙ sym (length-append first rest))
 
 at-rest : (board : Board) → Rests board → board ≡ boardAt (board .core) outside
-at-rest board rests = on-line board (rests .held-long) (rests .is-allowed) ∙ ap (boardAt (board .core)) (unfinished-outside (board .held) (rests .not-inside))
+at-rest board rests = on-line board (rests .held-long) (held-allowed board (rests .is-allowed)) ∙ ap (boardAt (board .core)) (unfinished-outside (board .held) (rests .not-inside))
 
 pub one-call-each : OneCallForEach
 one-call-each board to rests two room enough deeds e =

@@ -1,12 +1,12 @@
 -- The statements of specs/, proved. Assumes nothing.
-use Rattle.demands.specs.Demand2.{WrittenIsRead, WrittenIsHeard, ReadIsWritten, RepliesAreUnderstood, GetIsUnderstood, SetIsUnderstood, CountIsMatched, GoodAreAnswered, RefusalGivenWhen, OutcomeAndReply}
+use Rattle.demands.specs.Demand2.{WrittenIsRead, WrittenIsHeard, ReadIsWritten, RepliesAreUnderstood, GetIsUnderstood, SetIsUnderstood, CountIsMatched, GoodAreAnswered, RefusalGivenWhen, OutcomeAndReply, WrittenIsAnswered}
 use Rattle.demands.specs.Demand3.{BoardDecides, AnyCutting, CuttingChangesNothing, EmptyChangesNothing, AllIsTaken, OneSetForEach, DueIsNext, OneCallForEach, ListIsAccepted, ListIsConfirmed}
 use Rattle.demands.specs.Shams.{ShamsFall, RefusingDecides, RealPass}
 use Rattle.demands.specs.Lines.{ThirteenHold}
 use Rattle.wire.proofs.Theorems as wire
 use Rattle.board.proofs.Theorems as board
 use Rattle.follow.proofs.Theorems as follow
-use Rattle.demands.proofs.Understanding.{heard-written, get-understood, set-understood}
+use Rattle.demands.proofs.Understanding.{heard-written, get-understood, set-understood, answered-written}
 use Rattle.demands.proofs.Replies.{replies-understood}
 use Rattle.demands.proofs.Deciding as deciding
 use Rattle.demands.proofs.Cuts.{cutting-read, changes-nothing, empty-nothing, taking-all}
@@ -21,6 +21,9 @@ written-is-read = wire.written-is-read
 
 pub written-is-heard : WrittenIsHeard
 written-is-heard = heard-written
+
+pub written-is-answered : WrittenIsAnswered
+written-is-answered = answered-written
 
 pub read-is-written : ReadIsWritten
 read-is-written = wire.read-is-written

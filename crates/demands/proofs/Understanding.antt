@@ -1,19 +1,20 @@
 -- Demand 2. Assumes nothing.
-use mathlib.Core.Path.{_≡_, refl, sym, ap, _∙_}
+use mathlib.Core.Path.{_≡_, refl, sym, ap, subst, _∙_}
 use mathlib.Core.Bool.{Bool, true, _&&_}
-use mathlib.Core.List.{List, [], _∷_, _++_, append-nil}
-use mathlib.Core.Option.{Option, none, some}
-use Prim.Native.Nat.{ℕ, _+_, _^_, _≤_, _<_}
+use mathlib.Core.List.{List, [], _++_}
+use Prim.Native.Nat.{ℕ, _+_, _≤_, _<_}
 use native.Mathlib.Omega.{arith}
 use borrow.Author.Tests.{leb-true, lt-ltb, le-leb, eq-eqb, eqb-true}
-use lib.ListN.{length}
+use lib.ListN.{length, take}
+use lib.Seq.{take-length}
 use lib.Dec.{eqb, ltb}
 use Rattle.laws.proofs.Bools.{both}
 use Rattle.laws.proofs.Lists.{upTo-at}
 use Rattle.wire.specs.Frame.{frame}
+use Rattle.stream.specs.Stream.{Unfinished, framesFrom, taken}
 use Rattle.stream.specs.Calls.{unfinished}
 use Rattle.endian.proofs.Theorems.{little-is-read}
-use Rattle.stream.proofs.Theorems.{written-is-heard, heard-from-anywhere, heard-is-writable}
+use Rattle.stream.proofs.Theorems.{written-is-heard, heard-from-anywhere}
 use Rattle.listen.proofs.Hearing.{box-whole}
 use Rattle.settings.specs.Columns.{count, idAt, widthAt, placeOf}
 use Rattle.settings.proofs.Theorems.{rows-hold}
@@ -22,7 +23,11 @@ use Rattle.answers.specs.Requests.{setData}
 use Rattle.endian.proofs.Little.{length-little}
 use Rattle.answers.proofs.Fitting.{writable-said}
 use Rattle.demands.specs.Sets.{placeIn, valueIn, isComplete}
-use Rattle.demands.specs.Demand2.{WrittenIsHeard, GetIsUnderstood, SetIsUnderstood}
+use Rattle.demands.specs.Demand2.{WrittenIsHeard, GetIsUnderstood, SetIsUnderstood, WrittenIsAnswered}
+use Rattle.answers.specs.declared.Core.{Core}
+use Rattle.board.specs.declared.Board.{Board}
+use Rattle.demands.specs.Talk.{talk, saidToAll, boardAt}
+use Rattle.demands.proofs.Cuts.{cutting-read, on-line}
 use Rattle.demands.proofs.Listing.{set-writable}
 
 -- a frame fed in any cutting, after any unfinished one
@@ -30,6 +35,18 @@ pub heard-written : WrittenIsHeard
 heard-written command bytes nibble few small held long ok more offers all =
     let one = heard-from-anywhere (unfinished held) command bytes nibble few small more in
     box-whole held long ok (frame command bytes ++ more) offers all ∙ rw (one .0, one .1)
+
+pub answered-written : WrittenIsAnswered
+answered-written command bytes nibble few small board long ok more deeds e all =
+    let row : List ℕ = frame command bytes ++ more in
+    let core : Core = board .core in
+    let u : Unfinished = unfinished (board .held) in
+    let line : board ≡ boardAt core u = on-line board long ok in
+    let whole : talk (boardAt core u) row deeds .taken ≡ length row = subst (λ (b : Board). talk b row deeds .taken ≡ length row) line all in
+    let reads = cutting-read core u row deeds e in
+    let frames : talk (boardAt core u) row deeds .frames ≡ framesFrom u row = reads .frames-are ∙ ap (framesFrom u) (ap (λ (n : ℕ). take n row) whole ∙ take-length row) in
+    ap (λ (b : Board). talk b row deeds .said) line ∙ reads .said-is
+    ∙ ap (saidToAll core) (frames ∙ heard-from-anywhere u command bytes nibble few small more .0)
 
 -- the requests
 pub get-understood : GetIsUnderstood

@@ -9,7 +9,7 @@ use lib.ListN.{length, take}
 use Rattle.paper.specs.Numbers as paper
 use Rattle.laws.specs.Promise.{Given}
 use Rattle.laws.specs.Cutting as Cutting
-use Rattle.laws.specs.Cutting.{Offer, Step, ready}
+use Rattle.laws.specs.Cutting.{Offer, Step}
 use Rattle.paper.specs.Numbers.{mostNibble, mostData, getCode, setCode, frameRoom}
 use Rattle.wire.specs.Frame.{frame}
 use Rattle.endian.specs.Numbers.{little, fromLittle}
@@ -27,8 +27,7 @@ use Rattle.tables.specs.Rules.{numberAt, partnerNumber, changed}
 use Rattle.who.specs.Laws.{Holds}
 use Rattle.answers.specs.Answers.{withTable, Sent, silent, sent, error, said}
 use Rattle.answers.specs.Requests.{getRequest, setData, setRequest}
-use Rattle.answers.specs.declared.Core.{Core}
-use Rattle.board.specs.Calls.{endedIn, deciding, answering}
+use Rattle.board.specs.Calls.{answering}
 use Rattle.listen.specs.Hearing.{boxHearing, boxHears}
 use Rattle.answers.specs.declared.Outcome.{Outcome}
 use Rattle.board.specs.Parts.{boardAllowed}
@@ -43,11 +42,16 @@ use Rattle.reply.specs.declared.Status.{Status}
 use Rattle.reply.specs.declared.Reply.{Reply}
 use Rattle.follow.specs.Laws as follow
 use Rattle.demands.specs.Sets.{placeIn, valueIn, isComplete}
+use Rattle.demands.specs.Talk.{Deed, isCalls, talk, saidToAll}
 
--- 1. Written by one end, read by the other as the same command and data: whole; and by the box on its stream, whatever frame it holds
--- unfinished, whatever follows, and in any row of calls that takes the bytes: first what the frame's colon ends, then the frame.
+-- 1. Written by one end, read by the other as the same command and data: whole; and on the line, whatever frame is held unfinished there,
+-- whatever follows, and by any row of calls that takes the bytes: first what the frame's colon ends, then the frame, then what follows. The box
+-- hears these frames, and the board says of them what it says of each in turn.
 abbrev pub WrittenIsRead : Type 0
 WrittenIsRead = wire.WrittenIsRead
+
+abbrev pub thenWritten : Held → ℕ → List ℕ → List ℕ → List Ended
+thenWritten held command bytes more = brokenIn (unfinished held) ++ good command bytes ∷ framesOf more
 
 abbrev pub HearsWritten : (Held → List ℕ → ℕ → Given Heard) → Type 0
 HearsWritten hear =
@@ -58,12 +62,19 @@ HearsWritten hear =
     → end
     ≡ record {
       state = heldOf (leftBy more);
-      events = brokenIn (unfinished held) ++ good command bytes ∷ framesOf more;
+      events = thenWritten held command bytes more;
       taken = length (frame command bytes ++ more);
     }
 
 abbrev pub WrittenIsHeard : Type 0
 WrittenIsHeard = HearsWritten boxHearing
+
+abbrev pub WrittenIsAnswered : Type 0
+WrittenIsAnswered =
+    (command : ℕ) (bytes : List ℕ) → command ≤ mostNibble → length bytes ≤ mostData → Bytes bytes
+    → (board : Board) → length (board .held .chars) ≡ mostHeld → allowed (board .held) ≡ true → (more : List ℕ) (deeds : List Deed) → isCalls deeds ≡ true
+    → talk board (frame command bytes ++ more) deeds .taken ≡ length (frame command bytes ++ more)
+    → talk board (frame command bytes ++ more) deeds .said ≡ saidToAll (board .core) (thenWritten (board .held) command bytes more)
 
 -- 2. Read whole, it is byte for byte what the writer makes.
 abbrev pub ReadIsWritten : Type 0

@@ -45,7 +45,7 @@ use Rattle.follow.specs.Laws as follow
 use Rattle.follow.specs.declared.Followed.{Followed}
 use Rattle.follow.specs.declared.Standing.{Standing}
 use Rattle.demands.specs.Sets.{anySetting, made}
-use Rattle.demands.specs.Talk.{Deed, stores, calls, Said, Talk, Way, plainly, talkBy, talk, afterAll, saidToAll, boardAt}
+use Rattle.demands.specs.Talk.{Deed, stores, calls, Said, Talk, Way, plainly, talkBy, talk, afterAll, saidToAll, boardAt, isCalls}
 
 -- what holds after a conversation that began with the table `first`: its frames are those of the bytes taken, and the table is theirs
 pub record Decided (first : Table) (bytes : List ℕ) (end : Talk) : Type 0 where
@@ -69,11 +69,6 @@ BoardDecides = Decides (plainly answering)
 
 -- "in any cutting": a conversation of calls alone says of the frames of the bytes taken what the board says of them one after the other, and
 -- leaves the board that they leave, on a line that has read those bytes; from any state, with any pieces and any room.
-abbrev pub isCalls : List Deed → Bool
-isCalls [] = true
-isCalls (stores given ∷ more) = false
-isCalls (calls count room ∷ more) = isCalls more
-
 pub record Read (core : Core) (u : Unfinished) (bytes : List ℕ) (end : Talk) : Type 0 where
   pub frames-are : end .frames ≡ framesFrom u (take (end .taken) bytes)
   pub said-is : end .said ≡ saidToAll core (end .frames)

@@ -1,7 +1,7 @@
 -- A conversation with a board: readings are stored, and calls are made on the bytes of its line, what one call did not take being handed on
 -- before anything else. Assumes nothing.
 use Prim.Native.Nat.{ℕ, zero, _+_}
-use mathlib.Core.Bool.{cond, _||_}
+use mathlib.Core.Bool.{Bool, true, false, cond, _||_}
 use mathlib.Core.List.{List, [], _∷_, _++_}
 use lib.ListN.{take, drop}
 use lib.Dec.{eqb}
@@ -22,6 +22,12 @@ use Rattle.board.specs.declared.Answered.{Answered}
 pub data Deed : Type 0 where
   stores : Sample → Deed
   calls : ℕ → ℕ → Deed
+
+-- calls and nothing between
+abbrev pub isCalls : List Deed → Bool
+isCalls [] = true
+isCalls (stores given ∷ more) = false
+isCalls (calls count room ∷ more) = isCalls more
 
 -- what a board said of a frame that ended: the outcome and the reply's bytes
 pub record Said : Type 0 where
