@@ -1,4 +1,4 @@
--- What is asked of a board about a setting, as bytes on the line: an id, flags that are 0, and the value in the setting's width. Assumes
+-- What is asked of a board about a setting, as bytes on the serial line: an id, flags that are 0, and the value in the setting's width. Assumes
 -- nothing.
 use Prim.Native.Nat.{ℕ}
 use mathlib.Core.List.{List, []}

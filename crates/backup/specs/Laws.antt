@@ -1,4 +1,4 @@
--- What is proved of the definitions, as statements to hold against the paper. Each is proved under its name in proofs/Theorems.antt.
+-- What is proved of the definitions, as statements to compare with the papers. Each is proved under its name in proofs/Theorems.antt.
 -- Assumes nothing.
 use Prim.Native.Nat.{ℕ, suc, _+_, _≤_, _<_}
 use Prim.Native.String.{String}

@@ -22,7 +22,7 @@ sentBy Sends.Nothing reply = whole []
 sentBy Sends.Frame reply = whole (frame (reply .command) (take (reply .len) (reply .bytes)))
 sentBy Sends.Error reply = whole errorFrame
 
--- What is sent for a number that the line refuses by: under 12, which is the call's and no frame's, nothing.
+-- What is sent for a number by which the stream refuses: under 12, which is the call's and no frame's, nothing.
 unfoldable pub faultBytes : ℕ → List ℕ
 faultBytes number = cond (eqb number notAllowed) [] errorFrame
 

@@ -61,7 +61,7 @@ deciding core [] = staying core Outcome.Nothing silent
 deciding core (good command bytes ∷ rest) = frameAnswer core command bytes
 deciding core (refused number ∷ rest) = staying core (Outcome.Refused number) error
 
--- what a decision comes to on a line that has moved on: the board as decided, and the reply
+-- what a decision comes to with the frame that is now held: the board as decided, and the reply
 unfoldable pub decidedBy : Held → Decision → ℕ → Given Answered
 decidedBy held d count =
     record {

@@ -1,4 +1,4 @@
--- What is proved of the definitions, as statements to hold against the paper. Each is proved under its name in proofs/Theorems.antt.
+-- What is proved of the definitions, as statements to compare with the papers. Each is proved under its name in proofs/Theorems.antt.
 -- Assumes nothing.
 use Prim.Native.Nat.{ℕ, _^_, _≤_, _<_}
 use mathlib.Core.Path.{_≡_}
@@ -105,7 +105,7 @@ WholeIsAnswered =
     → answering board (frame command bytes) room
     ≡ decidedBy (board .held) (frameAnswer (board .core) command bytes) (length (frame command bytes))
 
--- what such a call comes to: this board, its line as it was, this outcome, this reply, and the whole request taken
+-- what such a call comes to: this board, the held frame as it was, this outcome, this reply, and the whole request taken
 abbrev pub comesTo : Board → Core → Outcome → List ℕ → List ℕ → Given Answered
 comesTo board core outcome reply request =
     record {

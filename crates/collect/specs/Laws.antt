@@ -1,4 +1,4 @@
--- What is proved of the definitions, as statements to hold against the words. Each is proved under its name in proofs/Theorems.antt.
+-- What is proved of the definitions, as statements to compare with the papers. Each is proved under its name in proofs/Theorems.antt.
 -- (The numbers of a collector and of a table are `count` in every value of the type, which `length` says.) Assumes nothing.
 use Prim.Native.Nat.{ℕ, suc}
 use mathlib.Core.Path.{_≡_}

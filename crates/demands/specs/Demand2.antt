@@ -44,7 +44,7 @@ use Rattle.follow.specs.Laws as follow
 use Rattle.demands.specs.Sets.{placeIn, valueIn, isComplete}
 use Rattle.demands.specs.Talk.{Deed, isCalls, talk, saidToAll}
 
--- 1. Written by one end, read by the other as the same command and data: whole; and on the line, whatever frame is held unfinished there,
+-- 1. Written by one end, read by the other as the same command and data: whole; and on the serial line, whatever frame is held unfinished there,
 -- whatever follows, and by any row of calls that takes the bytes: first what the frame's colon ends, then the frame, then what follows. The box
 -- hears these frames, and the board says of them what it says of each in turn.
 abbrev pub WrittenIsRead : Type 0

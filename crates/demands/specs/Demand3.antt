@@ -68,7 +68,7 @@ abbrev pub BoardDecides : Type 0
 BoardDecides = Decides (plainly answering)
 
 -- "in any cutting": a conversation of calls alone says of the frames of the bytes taken what the board says of them one after the other, and
--- leaves the board that they leave, on a line that has read those bytes; from any state, with any pieces and any room.
+-- leaves the board that they leave, with the frame held that those bytes leave; from any state, with any pieces and any room.
 pub record Read (core : Core) (u : Unfinished) (bytes : List ℕ) (end : Talk) : Type 0 where
   pub frames-are : end .frames ≡ framesFrom u (take (end .taken) bytes)
   pub said-is : end .said ≡ saidToAll core (end .frames)

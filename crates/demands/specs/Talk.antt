@@ -1,4 +1,4 @@
--- A conversation with a board: readings are stored, and calls are made on the bytes of its line, what one call did not take being handed on
+-- A conversation with a board: readings are stored, and calls are made on the bytes of its serial line, what one call did not take being handed on
 -- before anything else. Assumes nothing.
 use Prim.Native.Nat.{ℕ, zero, _+_}
 use mathlib.Core.Bool.{Bool, true, false, cond, _||_}
@@ -94,7 +94,7 @@ talkBy way s bytes (calls count room ∷ more) =
 abbrev pub talk : Board → List ℕ → List Deed → Talk
 talk = talkBy (plainly answering)
 
--- The same with no calls and no line in it: what is said of a row of frames, one after the other, and what the board is and holds afterwards.
+-- The same with no calls and no bytes in it: what is said of a row of frames, one after the other, and what the board is and holds afterwards.
 abbrev pub afterOne : Core → Ended → Core
 afterOne core f = deciding core (f ∷ []) .core
 
@@ -109,6 +109,6 @@ abbrev pub saidToAll : Core → List Ended → List Said
 saidToAll core [] = []
 saidToAll core (f ∷ more) = saidTo core f ++ saidToAll (afterOne core f) more
 
--- a board whose line is outside a frame, or inside one with some characters
+-- a board that is outside a frame, or inside one with some characters
 abbrev pub boardAt : Core → Unfinished → Board
 boardAt core u = record { core = core; held = heldOf u }

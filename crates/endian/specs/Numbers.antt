@@ -15,7 +15,7 @@ abbrev pub fromLittle : List ℕ → ℕ
 fromLittle [] = 0
 fromLittle (b ∷ bs) = b + 256 * fromLittle bs
 
--- a whole number in two's complement of this many bytes, and the whole number that it stands for
+-- a whole number in two's complement of this many bytes, and the whole number that it means
 abbrev pub complement : ℕ → ℤ → ℕ
 complement width (pos n) = n
 complement width (negsuc n) = 256 ^ width - suc n

@@ -1,5 +1,5 @@
 -- Answers as one integer. Document 01: "Whole-frame reading, frame writing and the nearest allowed number can be called from the board's C
--- firmware, on numbers and byte slices." A refusal's number stands in the high half and an answer in the low half. Assumes nothing.
+-- firmware, on numbers and byte slices." A refusal's number is in the high half and an answer in the low half. Assumes nothing.
 use Prim.Native.Nat.{ℕ, _+_, _*_}
 use Rattle.laws.specs.Promise.{Given}
 use Rattle.wire.specs.declared.Written.{Written}

@@ -8,7 +8,7 @@ use lib.ListN.{length, drop, replicate}
 unfoldable pub overlaid : List ℕ → List ℕ → List ℕ
 overlaid written buffer = written ++ drop (length written) buffer
 
--- an array of n bytes with these at its front, and zeros behind them
+-- an array of n bytes with these at its front, and zeros after them
 unfoldable pub frontOf : ℕ → List ℕ → List ℕ
 frontOf n bytes = overlaid bytes (replicate n 0)
 

@@ -7,7 +7,7 @@ use lib.Dec.{ltb, leb}
 unfoldable pub digit : ℕ → ℕ
 digit n = cond (ltb n 10) (48 + n) (55 + n)
 
--- the nibble that a character stands for, and 16 where it is no digit
+-- the nibble that a character means, and 16 where it is no digit
 unfoldable pub nibble : ℕ → ℕ
 nibble c = cond (leb 48 c && leb c 57) (c - 48) (cond (leb 65 c && leb c 70) (c - 55) 16)
 

@@ -68,7 +68,7 @@ pub(crate) fn read_digits(chars: &[u8], into: &mut [u8]) -> Read
     let n = chars.len() / 2;
     let payload = payload_of(chars);
     let command = digits::nibble_of(chars[0]);
-    if (command as usize + writer::sum_of(&payload[..n])) % 256 != paper::TOTAL {
+    if (command as usize + writer::sum_of(&payload[..n])) % 256 != paper::FRAME_TOTAL {
         return Read::Refused(paper::BAD_SUM);
     }
     bytes::copy(&payload[..n - 1], into);

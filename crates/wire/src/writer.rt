@@ -26,7 +26,7 @@ fn check_of(command: u8, bytes: &[u8]) -> u8
     ensures { λ r. ⌜ r ≡ check command (now (bytes .entry)) ⌝ }
 {
     let sum = command as usize + sum_of(bytes);
-    ((paper::TOTAL + (256 - sum % 256)) % 256) as u8
+    ((paper::FRAME_TOTAL + (256 - sum % 256)) % 256) as u8
 }
 
 // Puts a byte's two digits at a place.
