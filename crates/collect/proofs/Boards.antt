@@ -18,16 +18,17 @@ use Rattle.paper.specs.Numbers.{getCode}
 use Rattle.reply.specs.declared.Status.{Status}
 use Rattle.reply.specs.declared.Heeded.{Heeded}
 use Rattle.reply.specs.Calls.{heeding}
+use Rattle.reply.proofs.Flags.{said-small}
 use Rattle.reply.proofs.Heeding.{said-heeded}
-use Rattle.reply.specs.Events.{Event, heard, noAnswer}
+use Rattle.reply.specs.Events.{Event, heard, noAnswer, OnStream, nothing, a-frame, a-silence}
 use Rattle.collect.specs.Collecting.{fits, valued, intakeOf, halted, moved, advanced, begun, within, allFit, noneAfter, allowed}
-use Rattle.collect.specs.Laws.{run, AllowedIsReached, goodReply, replies}
+use Rattle.collect.specs.Laws.{run, goodReply, replies}
 use Rattle.collect.specs.declared.Collector.{Collector}
 use Rattle.collect.specs.declared.intake.Intake.{Intake}
 use Rattle.collect.proofs.Deciding.{heeded-is}
 use Rattle.collect.proofs.Moving.{few-answered, allowed-within, silence-stops}
 use Rattle.collect.proofs.Fitting.{fits-front, AllFit, front-fit}
-use Rattle.collect.proofs.Reaching.{zeros, held, begun-held, held-waits, next-length, held-takes, held-advances, begun-ends, ends-allowed}
+use Rattle.collect.proofs.Reaching.{zeros, held, begun-held, held-waits, next-length, held-takes, held-advances}
 
 -- a good reply to the Get of a place is taken
 fits-room : (l : List ℕ) (k n : ℕ) → k < count → fits l k n ≡ true → n < 256 ^ widthAt k
@@ -65,6 +66,11 @@ board-run (n ∷ more) l all few =
 pub run-append : (c : Collector) (xs ys : List Event) → run c (xs ++ ys) ≡ run (run c xs) ys
 run-append c [] ys = refl
 run-append c (x ∷ xs) ys = run-append (advanced c x) xs ys
+
+-- a board's replies are ones that a stream can give
+replies-stream : (numbers : List ℕ) (k : ℕ) {more : List Event} → OnStream more → OnStream (replies k numbers ++ more)
+replies-stream [] k r = r
+replies-stream (n ∷ numbers) k r = a-frame (said-small (idAt k) (widthAt k) n) (replies-stream numbers (suc k) r)
 
 same-state : (c d : Collector) → c .len ≡ d .len → c .numbers ≡ d .numbers → c .stopped ≡ d .stopped → c ≡ d
 same-state c d e f g =
@@ -106,18 +112,17 @@ module _ (c : Collector) (long : length (c .numbers) ≡ count) (ok : allowed c 
   l-run : run begun (replies 0 l) ≡ held l
   l-run = rw begun-held (board-run l [] l-fit (rw l-long few))
 
-  reached : (s : Bool) → c .stopped ≡ s → within (c .len) s ≡ true → (events : List Event) × (c ≡ run begun events)
-  reached false e w = (replies 0 l, same-state c (held l) (sym l-long) numbers-are e ∙ sym l-run)
+  pub reached : (s : Bool) → c .stopped ≡ s → within (c .len) s ≡ true → (events : List Event) × OnStream events × (c ≡ run begun events)
+  reached false e w = (
+    replies 0 l,
+    subst OnStream (append-nil (replies 0 l)) (replies-stream l 0 nothing),
+    same-state c (held l) (sym l-long) numbers-are e ∙ sym l-run,
+  )
   reached true e w =
       let less : length l < count = rw l-long (ltb-true _ _ w) in
       let is : c ≡ halted (held l) = unfold halted in same-state c (record { len = length l; numbers = l ++ zeros l; stopped = true }) (sym l-long) numbers-are e in (
         replies 0 l ++ noAnswer ∷ [],
+        replies-stream l 0 (a-silence nothing),
         is ∙ silence-stops (held l) (held-waits l less) ∙ ap (λ (d : Collector). advanced d noAnswer) (sym l-run)
             ∙ sym (run-append begun (replies 0 l) (noAnswer ∷ [])),
       )
-
-pub allowed-reached : AllowedIsReached
-allowed-reached c long = (
-  λ ok. reached c long ok (c .stopped) refl (allowed-within c ok),
-  λ some. subst (λ (d : Collector). allowed d ≡ true) (sym (some .1)) (ends-allowed (begun-ends (some .0))),
-)

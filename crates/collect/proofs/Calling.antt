@@ -16,14 +16,14 @@ use Rattle.tables.specs.declared.Table.{Table}
 use Rattle.reply.specs.Events.{Event}
 use Rattle.collect.specs.Collecting.{halted, advanced, begun, allowed}
 use Rattle.collect.specs.Calls.{stageOf, tableOf, good, stray, starting, collecting}
-use Rattle.collect.specs.Laws.{run, calls, CallsFollow, Holds, TableIsCarried, Handed, TableIsAllowed, replies, BoardIsRead}
+use Rattle.collect.specs.Laws.{run, calls, AllowedIsReached, CallsFollow, Holds, TableIsCarried, Handed, TableIsAllowed, replies, BoardIsRead}
 use Rattle.collect.specs.declared.Collector.{Collector}
 use Rattle.collect.specs.declared.Stage.{Stage}
 use Rattle.collect.specs.declared.Collected.{Collected}
-use Rattle.collect.proofs.Moving.{collecting-stray, collecting-good}
+use Rattle.collect.proofs.Moving.{allowed-within, collecting-stray, collecting-good}
 use Rattle.collect.proofs.Fitting.{table-fit, fit-table}
 use Rattle.collect.proofs.Reaching.{zeros, held, begun-held, Ends, taking, begun-ends, ends-allowed}
-use Rattle.collect.proofs.Boards.{board-run, run-append, allowed-reached}
+use Rattle.collect.proofs.Boards.{board-run, run-append, reached}
 use Rattle.collect.proofs.Carrying.{taking-carried}
 
 -- a row of calls from the start hands back what the events give
@@ -47,6 +47,14 @@ called events = calls-good events []
 
 pub calls-run : CallsFollow
 calls-run events = ap (λ (r : Collected). r .collector) (called events) ∙ good-collector (run begun events)
+
+pub reached-calls : AllowedIsReached
+reached-calls c long = (
+  λ ok.
+      let some = reached c long ok (c .stopped) refl (allowed-within c ok) in
+      record { events = some .0; stream = some .1; arrives = calls-run (some .0) ∙ sym (some .2) },
+  λ r. subst (λ (d : Collector). allowed d ≡ true) (sym (calls-run (r .events)) ∙ r .arrives) (ends-allowed (begun-ends (r .events))),
+)
 
 -- how far it is, by how many are answered
 stage-due : (len : ℕ) (stopped : Bool) → len < count → stageOf len stopped ≢ Stage.Done
@@ -140,9 +148,9 @@ call-handed c e long = by (allowed c) refl
   where
     by : (b : Bool) → allowed c ≡ b → Handed (collecting c e)
     by true ok =
-        let some = allowed-reached c long .0 ok in
+        let some = reached c long ok (c .stopped) refl (allowed-within c ok) in
         let is : good (run begun (some .0 ++ e ∷ [])) ≡ collecting c e =
-        ap good (run-append begun (some .0) (e ∷ []) ∙ ap (λ (d : Collector). advanced d e) (sym (some .1))) ∙ collecting-good c e ok in
+        ap good (run-append begun (some .0) (e ∷ []) ∙ ap (λ (d : Collector). advanced d e) (sym (some .2))) ∙ collecting-good c e ok in
         subst Handed is (run-handed (some .0 ++ e ∷ []))
     by false ok = subst Handed (collecting-stray c e ok) (stray-handed c)
 

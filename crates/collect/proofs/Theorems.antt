@@ -1,10 +1,9 @@
 -- The statements of specs/Laws.antt, proved. Assumes nothing.
 use Rattle.collect.specs.Laws.{AllowedIsReached, CallsFollow, TableIsCarried, TableIsAllowed, BoardIsRead}
-use Rattle.collect.proofs.Boards.{allowed-reached}
-use Rattle.collect.proofs.Calling.{calls-run, table-carried, table-allowed, board-read}
+use Rattle.collect.proofs.Calling.{reached-calls, calls-run, table-carried, table-allowed, board-read}
 
 pub allowed-is-reached : AllowedIsReached
-allowed-is-reached = allowed-reached
+allowed-is-reached = reached-calls
 
 pub calls-follow : CallsFollow
 calls-follow = calls-run

@@ -23,18 +23,24 @@ use Rattle.collect.specs.declared.Stage.{Stage}
 use Rattle.collect.specs.declared.Collected.{Collected}
 use Rattle.collect.specs.declared.intake.Intake.{Intake}
 
--- 1. A state is allowed exactly when a start and events give it.
-abbrev pub run : Collector → List Event → Collector
-run c [] = c
-run c (e ∷ more) = run (advanced c e) more
-
-abbrev pub AllowedIsReached : Type 0
-AllowedIsReached = (c : Collector) → length (c .numbers) ≡ count → (allowed c ≡ true) ↔ ((events : List Event) × (c ≡ run begun events))
-
--- A row of calls, each on the collector that the last one handed back; what a row from the start hands back is what the events give.
+-- A row of calls, each on the collector that the last one handed back.
 abbrev pub calls : Collected → List Event → Collected
 calls last [] = last
 calls last (e ∷ more) = calls (collecting (last .collector) e) more
+
+-- 1. A state is allowed exactly when a start and events that a stream can give make it, call by call.
+pub record Reached (c : Collector) : Type 0 where
+  pub events : List Event
+  pub stream : OnStream events
+  pub arrives : calls starting events .collector ≡ c
+
+abbrev pub AllowedIsReached : Type 0
+AllowedIsReached = (c : Collector) → length (c .numbers) ≡ count → (allowed c ≡ true) ↔ Reached c
+
+-- The collector that a row of calls hands back, by what an event makes of a collector: for proofs above.
+abbrev pub run : Collector → List Event → Collector
+run c [] = c
+run c (e ∷ more) = run (advanced c e) more
 
 abbrev pub CallsFollow : Type 0
 CallsFollow = (events : List Event) → calls starting events .collector ≡ run begun events

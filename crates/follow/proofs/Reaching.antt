@@ -3,23 +3,23 @@ use mathlib.Core.Path.{_≡_, refl, sym, ap, ap₂, subst, _∙_}
 use mathlib.Core.Logic.{_≢_, _↔_}
 use mathlib.Core.Bool.{Bool, true, false, cond, false≢true}
 use mathlib.Core.List.{List, [], _∷_, _++_, map}
-use Prim.Native.Nat.{ℕ, zero, suc, _+_, _/_, _%_, _≤_, _<_}
+use Prim.Native.Nat.{ℕ, zero, suc, _+_, _≤_, _<_}
 use native.Mathlib.Nat.{zero-add, add-zero}
 use native.Mathlib.Omega.{arith}
 use borrow.Author.Tests.{ltb-true, ltb-false, eq-eqb, ne-eqb, eqb-true, eqb-false}
 use lib.ListN.{length, take, drop, drop-of-length-le}
 use lib.Seq.{take-length}
 use lib.Dec.{ltb, eqb}
-use Rattle.laws.proofs.Bools.{and-left, and-right, both}
+use Rattle.laws.proofs.Bools.{and-left}
 use Rattle.laws.specs.Lists.{Bytes}
 use Rattle.tables.specs.declared.Table.{Table}
-use Rattle.endian.proofs.Little.{bytes-little}
 use Rattle.restore.specs.Order.{dueSets}
 use Rattle.restore.specs.Calls.{bothAllowed, dueAfter, dueIn}
 use Rattle.restore.proofs.Rows.{due-is}
 use Rattle.requests.specs.declared.Wanted.{Wanted}
 use Rattle.requests.specs.declared.Request.{Request}
 use Rattle.restore.specs.declared.Due.{Due}
+use Rattle.reply.proofs.Flags.{said-small}
 use Rattle.reply.specs.Events.{Event, noAnswer, OnStream, nothing, a-frame, a-silence}
 use Rattle.follow.specs.Following.{effectOf, standsAt, standing, moved, advanced, begun, followerAllowed}
 use Rattle.follow.specs.Calls.{answered, unanswered, told, starting, following}
@@ -46,11 +46,7 @@ drop-some (w ∷ l) zero h = (w, l, refl)
 drop-some (w ∷ l) (suc n) h = drop-some l n (omega arith)
 
 own-bytes : (due : Wanted) → Bytes (ownData due)
-own-bytes due =
-    let front = bytes-little 2 (due .setting .id) in
-    let low = and-left (ltb (due .setting .id % 256) 256) _ front in
-    let high = and-left (ltb (due .setting .id / 256 % 256) 256) true (and-right (ltb (due .setting .id % 256) 256) _ front) in
-    record { below = both _ _ low (both _ _ high (bytes-little (due .setting .width) (due .number))) }
+own-bytes due = said-small (due .setting .id) (due .setting .width) (due .number)
 
 -- a row of calls tells of the follower that the events give
 told-run : (from to : Table) → bothAllowed from to ≡ true → (f : Follower) (events : List Event) → Goes from to f → calls (answered f) events ≡ answered (run f events)

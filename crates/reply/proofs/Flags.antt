@@ -3,14 +3,16 @@ use mathlib.Core.Path.{_≡_, refl, sym, ap, _∙_}
 use mathlib.Core.Logic.{_≢_, ⊎-elim}
 use mathlib.Core.Bool.{Bool, true, false, _||_}
 use mathlib.Core.List.{List}
-use Prim.Native.Nat.{ℕ}
+use Prim.Native.Nat.{ℕ, _/_, _%_}
 use native.Mathlib.Omega.{arith}
 use borrow.Author.Tests.{eq-eqb, eqb-true}
 use lib.ListN.{getD}
-use lib.Dec.{eqb}
-use Rattle.laws.specs.Lists.{same}
+use lib.Dec.{eqb, ltb}
+use Rattle.laws.specs.Lists.{same, Bytes}
 use Rattle.laws.proofs.Bools.{and-left, and-right, or-cases, both}
 use Rattle.laws.proofs.Lists.{same-back, same-self}
+use Rattle.endian.specs.Numbers.{little}
+use Rattle.endian.proofs.Little.{bytes-little}
 use Rattle.answers.specs.Answers.{said}
 use Rattle.reply.specs.Replies.{flagOf, rest}
 use Rattle.reply.specs.Events.{isFlag, answers}
@@ -36,6 +38,14 @@ flag-good Status.Good e = refl
 flag-good Status.UnknownId e = absurd (omega arith)
 flag-good Status.NotSupported e = absurd (omega arith)
 flag-good Status.ParameterError e = absurd (omega arith)
+
+-- what is said of a number is bytes
+pub said-small : (id width n : ℕ) → Bytes (said id 0 (little width n))
+said-small id width n =
+    let front = bytes-little 2 id in
+    let low = and-left (ltb (id % 256) 256) _ front in
+    let high = and-left (ltb (id / 256 % 256) 256) true (and-right (ltb (id % 256) 256) _ front) in
+    record { below = both _ _ low (both _ _ high (bytes-little width n)) }
 
 module _ (code id command : ℕ) (bytes : List ℕ) where
   pub said-answers : (status : Status) → command ≡ code → bytes ≡ said id (flagOf status) (rest bytes) → answers code id command bytes ≡ true

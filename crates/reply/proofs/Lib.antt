@@ -3,6 +3,7 @@ pub mod Choices
 pub mod Hearing
 pub mod Origins
 pub mod Dividing
+pub mod Showing
 pub mod Measures
 pub mod Lengths
 pub mod Heeding

@@ -1,9 +1,10 @@
 -- The statements of specs/Laws.antt, proved. Assumes nothing.
-use Rattle.reply.specs.Laws.{SaidIsRead, DoneIsRead, UnknownIsRead, ErrorIsRead, PingIsRead, ReadIsFrom, ReadIsSaid, HeedIsSaid, HeededIsLong, NarrowIsShown, WideIsShown, PlainIsShown, BoardIsShown}
+use Rattle.reply.specs.Laws.{SaidIsRead, DoneIsRead, UnknownIsRead, ErrorIsRead, PingIsRead, ReadIsFrom, ReadIsSaid, HeedIsSaid, HeededIsLong, ShownExactly, BoardIsShown}
 use Rattle.reply.proofs.Hearing.{said-read, done-read, unknown-read, error-read, ping-read}
 use Rattle.reply.proofs.Origins.{read-from, read-said}
 use Rattle.reply.proofs.Heeding.{heed-said}
-use Rattle.reply.proofs.Measures.{narrow-shown, wide-shown, plain-shown, board-shown}
+use Rattle.reply.proofs.Showing.{shown-as}
+use Rattle.reply.proofs.Measures.{board-shown}
 use Rattle.reply.proofs.Lengths.{heeded-long}
 
 pub said-is-read : SaidIsRead
@@ -27,14 +28,8 @@ read-is-from = read-from
 pub read-is-said : ReadIsSaid
 read-is-said = read-said
 
-pub narrow-is-shown : NarrowIsShown
-narrow-is-shown = narrow-shown
-
-pub wide-is-shown : WideIsShown
-wide-is-shown = wide-shown
-
-pub plain-is-shown : PlainIsShown
-plain-is-shown = plain-shown
+pub shown-exactly : ShownExactly
+shown-exactly = shown-as
 
 pub board-is-shown : BoardIsShown
 board-is-shown = board-shown

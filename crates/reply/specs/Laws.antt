@@ -2,7 +2,7 @@
 -- Assumes nothing.
 use Prim.Native.Nat.{ℕ, suc, _*_, _^_, _≤_, _<_}
 use mathlib.Core.Path.{_≡_}
-use mathlib.Core.Logic.{_≢_}
+use mathlib.Core.Logic.{_≢_, _↔_}
 use mathlib.Core.Bool.{Bool, true, false, cond, _||_}
 use mathlib.Core.List.{List, [], _∷_}
 use mathlib.Core.Option.{some}
@@ -12,7 +12,7 @@ use lib.IntN.{ℤ, pos, negsuc}
 use lib.Signed.{mag}
 use lib.Ieee.{Float, binary64, round}
 use Rattle.paper.specs.Numbers as paper
-use Rattle.endian.specs.Numbers.{little, complement}
+use Rattle.endian.specs.Numbers.{little, fromLittle, signed}
 use Rattle.laws.specs.Lists.{Bytes}
 use Rattle.answers.specs.Answers.{said}
 use Rattle.who.specs.Values.{readOnly}
@@ -101,26 +101,25 @@ abbrev pub quotient : ℤ → ℕ → Float
 quotient (pos n) steps = round binary64 false n steps
 quotient (negsuc n) steps = round binary64 true (suc n) steps
 
--- (`mag` is the distance to 0, or of a negative number to -1: twice it below 256 ^ 2 is any number of 16 bits with a sign.)
-pub record Narrow (x : ℤ) : Type 0 where
-  pub volts-shown : showing paper.voltageId (little 2 (complement 2 x)) ≡ Shown.Volts (quotient x 100)
-  pub amperes-shown : showing paper.currentId (little 2 (complement 2 x)) ≡ Shown.Amperes (quotient x 10)
+-- Every id and every value: "Another id is refused 7, then a wrong width 9", each exactly then; else it is shown.
+abbrev pub widthFor : ℕ → ℕ
+widthFor id =
+    cond (eqb id paper.voltageId || (eqb id paper.currentId || eqb id paper.chargeId)) 2 (cond (eqb id paper.fineId || eqb id paper.consumedId) 4 0)
 
-abbrev pub NarrowIsShown : Type 0
-NarrowIsShown = (x : ℤ) → 2 * mag x < 256 ^ 2 → Narrow x
+pub data Shows (id : ℕ) (value : List ℕ) : Shown → Type 0 where
+  another-id : widthFor id ≡ 0 → Shows id value (Shown.Refused paper.unknownId)
+  wrong-width : 0 < widthFor id → length value ≢ widthFor id → Shows id value (Shown.Refused paper.wrongWidth)
+  in-volts : id ≡ paper.voltageId → length value ≡ 2 → Shows id value (Shown.Volts (quotient (signed 2 (fromLittle value)) 100))
+  in-amperes : id ≡ paper.currentId → length value ≡ 2 → Shows id value (Shown.Amperes (quotient (signed 2 (fromLittle value)) 10))
+  in-fine-amperes : id ≡ paper.fineId → length value ≡ 4 → Shows id value (Shown.Amperes (quotient (signed 4 (fromLittle value)) 1000))
+  in-amp-hours : id ≡ paper.consumedId → length value ≡ 4 → Shows id value (Shown.AmpHours (quotient (signed 4 (fromLittle value)) 10))
+  in-percent : id ≡ paper.chargeId → length value ≡ 2 → Shows id value (Shown.Percent (quotient (pos (fromLittle value)) 100))
 
-pub record Wide (x : ℤ) : Type 0 where
-  pub fine-shown : showing paper.fineId (little 4 (complement 4 x)) ≡ Shown.Amperes (quotient x 1000)
-  pub amp-hours-shown : showing paper.consumedId (little 4 (complement 4 x)) ≡ Shown.AmpHours (quotient x 10)
-
-abbrev pub WideIsShown : Type 0
-WideIsShown = (x : ℤ) → 2 * mag x < 256 ^ 4 → Wide x
-
-abbrev pub PlainIsShown : Type 0
-PlainIsShown = (n : ℕ) → n < 256 ^ 2 → showing paper.chargeId (little 2 n) ≡ Shown.Percent (quotient (pos n) 100)
+abbrev pub ShownExactly : Type 0
+ShownExactly = (id : ℕ) (value : List ℕ) (answer : Shown) → Bytes value → (showing id value ≡ answer) ↔ Shows id value answer
 
 -- So the box shows what the board measured: the value with which a board answers a Get of a reading, shown, is the number that it holds, in
--- steps of the unit.
+-- steps of the unit. (`mag` is the distance to 0, or of a negative number to -1: twice it below 256 ^ 2 is any number of 16 bits with a sign.)
 pub record Within (readings : Readings) : Type 0 where
   pub voltage-within : 2 * mag (readings .voltage) < 256 ^ 2
   pub current-within : 2 * mag (readings .current) < 256 ^ 2
