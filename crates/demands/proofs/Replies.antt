@@ -35,7 +35,7 @@ use Rattle.board.specs.Refusals.{meant, Says, row-11, no-frame, rows-1-to-4, a-
 use Rattle.board.specs.declared.Board.{Board}
 use Rattle.board.proofs.Theorems.{outcome-and-reply}
 use Rattle.reply.specs.Replies.{flagOf}
-use Rattle.reply.specs.Calls.{reading}
+use Rattle.reply.specs.Calls.{parsing}
 use Rattle.reply.specs.declared.Status.{Status}
 use Rattle.reply.proofs.Theorems.{said-is-read, done-is-read, unknown-is-read, error-is-read, ping-is-read}
 use Rattle.demands.specs.Demand2.{Understood, no-reply, as-error, as-done, as-unknown, as-ping, as-get, as-set, RepliesAreUnderstood}
@@ -62,7 +62,7 @@ done-says : (number : ℕ) → Understood (sent 1 (little 2 number)) (good 1 (li
 done-says number = as-done number (done-is-read (little 2 number)) (ap fromLittle (two-bytes number) ∙ little-is-read 2 (number % 256 ^ 2) (omega arith))
 
 ping-says : (number : ℕ) → Understood (sent 5 (little 2 number)) (good 5 (little 2 number) ∷ [])
-ping-says number = as-ping number (ap (reading 5) (two-bytes number) ∙ ping-is-read (number % 256 ^ 2) (omega arith))
+ping-says number = as-ping number (ap (parsing 5) (two-bytes number) ∙ ping-is-read (number % 256 ^ 2) (omega arith))
 
 -- 7, of a Get and of a Set
 unknown-says : (command id : ℕ) → isGetOrSet command ≡ true → id < 256 ^ 2 → Understood (sent command (said id 1 [])) (good command (said id 1 []) ∷ [])

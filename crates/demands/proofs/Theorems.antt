@@ -1,5 +1,5 @@
 -- The statements of specs/, proved. Assumes nothing.
-use Rattle.demands.specs.Demand2.{WrittenIsRead, WrittenIsHeard, ReadIsWritten, GoodAreAnswered, RefusalGivenWhen, OutcomeAndReply, RepliesAreUnderstood, GetIsUnderstood, SetIsUnderstood, CountIsMatched}
+use Rattle.demands.specs.Demand2.{WrittenIsRead, WrittenIsHeard, ReadIsWritten, WrittenSums, ReadSums, GoodAreAnswered, RefusalGivenWhen, OutcomeAndReply, RepliesAreUnderstood, GetIsUnderstood, SetIsUnderstood, CountIsMatched}
 use Rattle.demands.specs.Demand3.{BoardDecides, AnyCutting, OneSetForEach, NoOtherSet, ListIsAccepted, ListIsConfirmed}
 use Rattle.demands.specs.Shams.{ShamsFall, RealPass}
 use Rattle.demands.specs.Lines.{ThirteenHold}
@@ -9,6 +9,7 @@ use Rattle.restore.proofs.Theorems as restore
 use Rattle.follow.proofs.Theorems as follow
 use Rattle.demands.proofs.Understanding.{heard-written, get-understood, set-understood}
 use Rattle.demands.proofs.Replies.{replies-understood}
+use Rattle.demands.proofs.ReadOut.{start-read-out, store-read-out}
 use Rattle.demands.proofs.Deciding as deciding
 use Rattle.demands.proofs.Feeding.{cutting-read, list-accepted, list-confirmed}
 use Rattle.demands.proofs.Shams as shams
@@ -24,11 +25,19 @@ written-is-heard = heard-written
 pub read-is-written : ReadIsWritten
 read-is-written = wire.read-is-written
 
+pub written-sums : WrittenSums
+written-sums = wire.written-sums
+
+pub read-sums : ReadSums
+read-sums = wire.read-sums
+
 pub good-are-answered : GoodAreAnswered
 good-are-answered =
     record {
       gets = board.get-answers-held;
       read-only-gets = board.get-answers-read-only;
+      start-gets = start-read-out;
+      store-gets = store-read-out;
       sets = board.set-stores-it;
       equal-sets = board.set-of-equal-is-accepted;
     }
