@@ -36,7 +36,7 @@ isSetting id = among id ids
 unfoldable pub isReadOnly : ℕ → Bool
 isReadOnly id = among id readOnlyIds
 
--- 5: "command 0, 2, 5, 9, B to F"
+-- 5: "command 0, 2, 5, 9, B to F" (no frame has one above F; handed to the call as a number, it gives 5 too)
 abbrev pub commandUnknown : ℕ → Bool
 commandUnknown command = among command (0 ∷ 2 ∷ 5 ∷ 9 ∷ []) || leb 0xB command
 

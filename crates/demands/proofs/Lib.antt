@@ -7,6 +7,7 @@ pub mod Listing
 pub mod Feeding
 pub mod Understanding
 pub mod Replies
+pub mod ReadOut
 pub mod Shams
 pub mod Lines
 pub mod Theorems

@@ -1,5 +1,5 @@
 -- The statements of specs/, proved. Assumes nothing.
-use Rattle.demands.specs.Demand2.{WrittenIsRead, WrittenIsHeard, ReadIsWritten, RepliesAreUnderstood, GetIsUnderstood, SetIsUnderstood, CountIsMatched, GoodAreAnswered, RefusalGivenWhen, OutcomeAndReply, WrittenIsAnswered}
+use Rattle.demands.specs.Demand2.{WrittenIsRead, WrittenIsHeard, ReadIsWritten, RepliesAreUnderstood, GetIsUnderstood, SetIsUnderstood, CountIsMatched, GoodAreAnswered, RefusalGivenWhen, OutcomeAndReply, WrittenIsAnswered, WrittenSums, ReadSums}
 use Rattle.demands.specs.Demand3.{BoardDecides, AnyCutting, CuttingChangesNothing, EmptyChangesNothing, AllIsTaken, OneSetForEach, DueIsNext, OneCallForEach, ListIsAccepted, ListIsConfirmed}
 use Rattle.demands.specs.Shams.{ShamsFall, RefusingDecides, RealPass}
 use Rattle.demands.specs.Lines.{ThirteenHold}
@@ -8,6 +8,7 @@ use Rattle.board.proofs.Theorems as board
 use Rattle.follow.proofs.Theorems as follow
 use Rattle.demands.proofs.Understanding.{heard-written, get-understood, set-understood, answered-written}
 use Rattle.demands.proofs.Replies.{replies-understood}
+use Rattle.demands.proofs.ReadOut.{start-read-out, store-read-out}
 use Rattle.demands.proofs.Deciding as deciding
 use Rattle.demands.proofs.Cuts.{cutting-read, changes-nothing, empty-nothing, taking-all}
 use Rattle.demands.proofs.Listing.{one-for-each, due-next}
@@ -28,11 +29,19 @@ written-is-answered = answered-written
 pub read-is-written : ReadIsWritten
 read-is-written = wire.read-is-written
 
+pub written-sums : WrittenSums
+written-sums = wire.written-sums
+
+pub read-sums : ReadSums
+read-sums = wire.read-sums
+
 pub good-are-answered : GoodAreAnswered
 good-are-answered =
     record {
       gets = board.get-answers-held;
       read-only-gets = board.get-answers-read-only;
+      start-gets = start-read-out;
+      store-gets = store-read-out;
       sets = board.set-stores-it;
       equal-sets = board.set-of-equal-is-accepted;
     }

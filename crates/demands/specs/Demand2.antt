@@ -23,18 +23,22 @@ use Rattle.wire.specs.Laws as wire
 use Rattle.laws.specs.Lists.{Bytes}
 use Rattle.settings.specs.Columns.{count, idAt, widthAt}
 use Rattle.settings.specs.Rules.{allowedFor}
+use Rattle.tables.specs.Rules as tables
 use Rattle.tables.specs.Rules.{numberAt, partnerNumber, changed}
+use Rattle.tables.specs.declared.Table.{Table}
+use Rattle.who.specs.Parts.{serialFits, identityOf, noReadings}
 use Rattle.who.specs.Laws.{Holds}
 use Rattle.answers.specs.Answers.{withTable, Sent, silent, sent, error, said}
 use Rattle.answers.specs.Requests.{getRequest, setData, setRequest}
-use Rattle.board.specs.Calls.{answering}
+use Rattle.board.specs.Calls.{answering, starting, storing}
 use Rattle.listen.specs.Hearing.{boxHearing, boxHears}
 use Rattle.answers.specs.declared.Outcome.{Outcome}
-use Rattle.board.specs.Parts.{boardAllowed}
+use Rattle.board.specs.Parts.{boardAllowed, sampleFits, readingsOf}
 use Rattle.board.specs.Refusals.{Says}
 use Rattle.board.specs.Laws as board
 use Rattle.board.specs.Laws.{atRest, comesTo}
 use Rattle.board.specs.declared.Board.{Board}
+use Rattle.board.specs.declared.Sample.{Sample}
 use Rattle.board.specs.declared.Answered.{Answered}
 use Rattle.reply.specs.Replies.{flagOf, rest}
 use Rattle.reply.specs.Calls.{parsing}
@@ -80,6 +84,13 @@ WrittenIsAnswered =
 abbrev pub ReadIsWritten : Type 0
 ReadIsWritten = wire.ReadIsWritten
 
+-- "Command, data bytes and check sum to 0x55 modulo 256": in every frame written, and in every frame read whole.
+abbrev pub WrittenSums : Type 0
+WrittenSums = wire.WrittenSums
+
+abbrev pub ReadSums : Type 0
+ReadSums = wire.ReadSums
+
 -- 3. "Frames, commands, replies and flags follow the published HEX protocol as the papers fix it". Good Gets and Sets, said of any way of
 -- answering a piece of input, and met by the board's own call: the reply is the number now held; the value of each of the eight read-only
 -- ids, in its width; the request itself, with that number stored and nothing else changed. "Setting an equal number is accepted."
@@ -107,9 +118,24 @@ EqualsAccepted answer =
     → let request = setRequest k (numberAt (board .core .table) k) in
     answer board request room ≡ comesTo board (board .core) Outcome.Answered request request
 
+-- the value held is what the start was given, with readings 0, and then what the last store was given
+abbrev pub StartIsReadOut : (Board → List ℕ → ℕ → Given Answered) → Type 0
+StartIsReadOut answer =
+    (product version : ℕ) (serial : List ℕ) (table : Table) (id : ℕ) (value : List ℕ) (room : ℕ) → serialFits serial ≡ true → tables.allowed table ≡ true
+    → frameRoom ≤ room → Holds (identityOf product version serial) noReadings id value
+    → answer (starting product version serial table .board) (getRequest id) room .written ≡ frame getCode (said id 0 value)
+
+abbrev pub StoreIsReadOut : (Board → List ℕ → ℕ → Given Answered) → Type 0
+StoreIsReadOut answer =
+    (board : Board) (given : Sample) (id : ℕ) (value : List ℕ) (room : ℕ) → boardAllowed board ≡ true → atRest board → sampleFits given ≡ true
+    → frameRoom ≤ room → Holds (board .core .identity) (readingsOf given) id value
+    → answer (storing board given .board) (getRequest id) room .written ≡ frame getCode (said id 0 value)
+
 pub record GoodAreAnswered : Type 0 where
   pub gets : GetsHeld answering
   pub read-only-gets : ReadOnlyHeld answering
+  pub start-gets : StartIsReadOut answering
+  pub store-gets : StoreIsReadOut answering
   pub sets : SetsStored answering
   pub equal-sets : EqualsAccepted answering
 
@@ -124,8 +150,8 @@ OutcomeAndReply = board.OutcomeAndReply
 
 -- The bytes that a board's call writes, handed to the box's call in any cutting that takes them all, are read as what the board meant: no
 -- frame where nothing was sent, and else one, in which the box reads the kind, the status, the id and the value, the command that was not
--- known, the version inside response 5, the version or the product inside response 1. (A u16 has two
--- bytes in every value of its type, so it is its own remainder by 256 ^ 2.)
+-- known, the version inside response 5, the version or the product inside response 1. (A u16 has two bytes in every value of its type, so it is its
+-- own remainder by 256 ^ 2.)
 pub data Understood : Sent → List Ended → Type 0 where
   no-reply : Understood silent []
   as-error : {code : ℕ} {bytes : List ℕ} → parsing code bytes ≡ Reply.Error 0xAAAA → Understood error (good code bytes ∷ [])

@@ -14,9 +14,9 @@ use Rattle.paper.specs.Numbers.{newline}
 use Rattle.wire.specs.Digits.{isDigit}
 use Rattle.wire.specs.Frame.{check, body, frame}
 use Rattle.wire.specs.Parsing.{Ended, good, refused, commandOf, dataOf, badCount, sumsUp, bodySays, brokenSays}
-use Rattle.wire.specs.Refusals.{isHex, firstOf, faults, faultOf, refusalOf}
-use Rattle.wire.specs.Calls.{writing, writtenAs, unwritten, wholeSays, wellEnclosed, between, parsing, readAs}
-use Rattle.wire.specs.Laws.{Sums, WrittenSums, ReadSums, FaultGivenWhen, ReadGivenWhen}
+use Rattle.wire.specs.Refusals.{isHex, firstOf, faults, faultOf, refusalOf, writeRefusalOf}
+use Rattle.wire.specs.Calls.{writing, writtenAs, unwritten, wholeSays, wellEnclosed, between, parsing, readAs, parsingChars}
+use Rattle.wire.specs.Laws.{Sums, WrittenSums, ReadSums, FaultGivenWhen, ReadGivenWhen, CharsGivenWhen, WriteGivenWhen}
 use Rattle.wire.specs.declared.Written.{Written}
 use Rattle.wire.proofs.Nibbles.{digit-test}
 use Rattle.wire.proofs.Frames.{check-sums, check-byte}
@@ -91,3 +91,22 @@ read-given slice room = by (ltb room 35) (wellEnclosed slice)
     by true well = refl
     by false false = refl
     by false true = read-says (bodySays (between slice)) ∙ fault-given (between slice) .0
+
+pub chars-given : CharsGivenWhen
+unfolding parsingChars
+chars-given chars room = by (ltb room 35)
+  where
+    by : (short : Bool) → refusalOf (cond short (readAs (refused 11)) (readAs (bodySays chars)) .answer) ≡ cond short (some 11) (firstOf (faults chars newline))
+    by true = refl
+    by false = read-says (bodySays chars) ∙ fault-given chars .0
+
+-- the writer
+pub write-given : WriteGivenWhen
+unfolding writing
+write-given command bytes room = by (ltb room 75) (ltb 15 command || ltb 35 (length bytes))
+  where
+    by : (short over : Bool) → writeRefusalOf (cond short (unwritten 11) (cond over (unwritten 12) (writtenAs (frame command bytes))) .answer)
+        ≡ cond short (some 11) (cond over (some 12) none)
+    by true over = refl
+    by false true = refl
+    by false false = refl

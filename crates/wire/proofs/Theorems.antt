@@ -1,5 +1,5 @@
 -- The statements of specs/Laws.antt, proved. Assumes nothing.
-use Rattle.wire.specs.Laws.{WrittenIsRead, ReadIsWritten, WrittenSums, ReadSums, FaultGivenWhen, ReadGivenWhen}
+use Rattle.wire.specs.Laws.{WrittenIsRead, ReadIsWritten, WrittenSums, ReadSums, FaultGivenWhen, ReadGivenWhen, CharsGivenWhen, WriteGivenWhen}
 use Rattle.wire.proofs.RoundTrip.{frame-says, slice-written}
 use Rattle.wire.proofs.Refusing
 
@@ -20,3 +20,9 @@ fault-given-when = Refusing.fault-given
 
 pub read-given-when : ReadGivenWhen
 read-given-when = Refusing.read-given
+
+pub chars-given-when : CharsGivenWhen
+chars-given-when = Refusing.chars-given
+
+pub write-given-when : WriteGivenWhen
+write-given-when = Refusing.write-given

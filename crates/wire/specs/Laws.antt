@@ -2,7 +2,7 @@
 -- Assumes nothing.
 use Prim.Native.Nat.{ℕ, _+_, _%_, _≤_, _<_}
 use mathlib.Core.Path.{_≡_}
-use mathlib.Core.Bool.{not}
+use mathlib.Core.Bool.{not, _||_}
 use mathlib.Core.List.{List, [], _∷_, _++_}
 use lib.ListN.{length}
 use lib.Dec.{ltb}
@@ -11,8 +11,8 @@ use Rattle.paper.specs.Numbers.{colon, newline, mostNibble, mostData, frameRoom
 use Rattle.wire.specs.Digits.{digit}
 use Rattle.wire.specs.Frame.{digitsOf, frame}
 use Rattle.wire.specs.Parsing.{good, bodySays, brokenSays}
-use Rattle.wire.specs.Refusals.{row, firstOf, faults, faultOf, refusalOf}
-use Rattle.wire.specs.Calls.{writing, writtenAs, wellEnclosed, between, parsing, readAs}
+use Rattle.wire.specs.Refusals.{row, firstOf, faults, faultOf, refusalOf, writeRefusalOf}
+use Rattle.wire.specs.Calls.{writing, writtenAs, wellEnclosed, between, parsing, readAs, parsingChars}
 
 -- 1. Demand 2: "A frame written by one end is read by the other as the same command and data": read whole. (On the stream: `stream`.)
 abbrev pub WrittenIsRead : Type 0
@@ -46,7 +46,7 @@ abbrev pub ReadSums : Type 0
 ReadSums = (slice : List ℕ) (room : ℕ) (command : ℕ) (bytes : List ℕ) → parsing slice room ≡ readAs (good command bytes) → Sums slice command bytes
 
 -- 4. Refusals 1 to 4 are "given exactly when" their condition holds and none before it does: of the characters of a frame that a newline
--- ended, or a colon; and of a slice, where 11 and the enclosing come first.
+-- ended, or a colon; of a slice, where 11 and the enclosing come first; and of characters alone. The writer's 11 and 12 likewise.
 abbrev pub FaultGivenWhen : Type 0
 FaultGivenWhen =
     (chars : List ℕ)
@@ -57,3 +57,11 @@ abbrev pub ReadGivenWhen : Type 0
 ReadGivenWhen =
     (slice : List ℕ) (room : ℕ)
     → refusalOf (parsing slice room .answer) ≡ firstOf (row 11 (ltb room 35) ∷ row 2 (not (wellEnclosed slice)) ∷ faults (between slice) newline)
+
+abbrev pub CharsGivenWhen : Type 0
+CharsGivenWhen = (chars : List ℕ) (room : ℕ) → refusalOf (parsingChars chars room .answer) ≡ firstOf (row 11 (ltb room 35) ∷ faults chars newline)
+
+abbrev pub WriteGivenWhen : Type 0
+WriteGivenWhen =
+    (command : ℕ) (bytes : List ℕ) (room : ℕ)
+    → writeRefusalOf (writing command bytes room .answer) ≡ firstOf (row 11 (ltb room 75) ∷ row 12 (ltb 15 command || ltb 35 (length bytes)) ∷ [])

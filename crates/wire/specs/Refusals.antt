@@ -9,6 +9,7 @@ use Rattle.laws.specs.Lists.{every, sumOf}
 use Rattle.paper.specs.Numbers as paper
 use Rattle.wire.specs.Parsing.{Ended, good, refused, commandOf, payloadOf}
 use Rattle.wire.specs.declared.Read.{Read}
+use Rattle.wire.specs.declared.Written.{Written}
 
 -- a row of the table: its number, and whether its condition holds
 pub record Row : Type 0 where
@@ -45,3 +46,7 @@ faultOf (refused number) = some number
 abbrev pub refusalOf : Read → Option ℕ
 refusalOf (Read.Frame command len) = none
 refusalOf (Read.Refused number) = some number
+
+abbrev pub writeRefusalOf : Written → Option ℕ
+writeRefusalOf (Written.Len len) = none
+writeRefusalOf (Written.Refused number) = some number
