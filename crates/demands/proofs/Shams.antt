@@ -29,6 +29,7 @@ use Rattle.tables.specs.Calls.{setTo}
 use Rattle.tables.specs.declared.Table.{Table}
 use Rattle.tables.proofs.Theorems.{factory-is-allowed}
 use Rattle.tables.proofs.Tables.{range-at, agrees-at}
+use Rattle.who.specs.Laws as who
 use Rattle.who.specs.Parts.{serialFits, identityOf, serialOf, identityAllowed}
 use Rattle.paper.specs.Numbers.{getCode}
 use Rattle.answers.specs.Answers.{coreAllowed, withTable, said, setsSetting, setAnswer, frameAnswer}
@@ -40,7 +41,7 @@ use Rattle.board.specs.Laws.{atRest, comesTo}
 use Rattle.board.specs.declared.Board.{Board}
 use Rattle.board.specs.declared.Answered.{Answered}
 use Rattle.board.proofs.Pieces.{answering-heard}
-use Rattle.board.proofs.Theorems.{start-is-allowed, start-holds-it, get-answers-held, set-stores-it}
+use Rattle.board.proofs.Theorems.{start-is-allowed, start-holds-it, get-answers-held, get-answers-read-only, set-stores-it}
 use Rattle.listen.specs.Hearing.{boxHearing}
 use Rattle.listen.proofs.Hearing.{box-heard}
 use Rattle.reply.specs.Events.{heard, refusedFrame, nothing, a-frame, a-refusal}
@@ -49,9 +50,9 @@ use Rattle.follow.specs.Laws.{matched}
 use Rattle.follow.proofs.Theorems.{count-is-told}
 use Rattle.demands.specs.Sets.{anySetting, isComplete, isValid, makes, made}
 use Rattle.demands.specs.Talk.{Deed, stores, calls, Talk, Way, plainly, talkBy}
-use Rattle.demands.specs.Demand2.{HearsWritten, GetsHeld, SetsStored}
+use Rattle.demands.specs.Demand2.{HearsWritten, GetsHeld, ReadOnlyHeld, SetsStored}
 use Rattle.demands.specs.Demand3.{Decides}
-use Rattle.demands.specs.Shams.{TakesToTheEnd, HearsToTheEnd, Counts, RefusesAll, AnswersAlike, KeepsItsTable, firstSetAlone, TakesUnseen, HearsUnseen, unheard, leavesDigits, ShamsFall, RefusingDecides, RealPass}
+use Rattle.demands.specs.Shams.{TakesToTheEnd, HearsToTheEnd, Counts, RefusesAll, AnswersAlike, ReadsByHeart, KeepsItsTable, firstSetAlone, TakesUnseen, HearsUnseen, unheard, leavesDigits, ShamsFall, RefusingDecides, RealPass}
 use Rattle.demands.proofs.Deciding.{stores-keeps, board-decides}
 use Rattle.demands.proofs.Understanding.{heard-written}
 
@@ -206,6 +207,32 @@ module _ (answer : Board → List ℕ → ℕ → Given Answered) where
       (d .table-is ∙ ap (made anySetting factory) (d .frames-are)
       ∙ ap (λ (n : ℕ). made anySetting factory (framesOf (take (n + 0) (setRequest capacity 500)))) (one-taken takes) ∙ one-made)
 
+-- A Get of the version, on boards of two versions.
+abbrev startedAt : ℕ → Board
+startedAt v = starting 0 v [] factory .board
+
+abbrev toldVersion : ℕ → List ℕ
+toldVersion v = frame getCode (said 0xEEF9 0 (little 2 v))
+
+versions-differ : same (toldVersion 1) (toldVersion 2) ≡ false
+unfolding frame body check digit
+versions-differ = refl
+
+module _ (answer : Board → List ℕ → ℕ → Given Answered) (held : ReadOnlyHeld answer) where
+  version-told : (v : ℕ) → answer (startedAt v) (getRequest 0xEEF9) 75 .written ≡ toldVersion v
+  version-told v =
+      let began = start-holds-it 0 v [] factory no-serial factory-is-allowed in
+      ap (λ (g : Given Answered). g .written) (held (startedAt v) 0xEEF9 _ 75 (start-is-allowed 0 v [] factory) (began .held-is) (leb-true 75 75 refl) who.version)
+      ∙ ap toldVersion (began .version-is)
+
+  by-heart : (r : ReadsByHeart answer) (v : ℕ) → toldVersion v ≡ frame getCode (said 0xEEF9 0 (r .value 0xEEF9))
+  by-heart r v = sym (version-told v) ∙ r .reads (startedAt v) 0xEEF9 75 (start-is-allowed 0 v [] factory) (leb-true 75 75 refl) refl
+
+  reads-by-heart : ReadsByHeart answer → ⊥
+  reads-by-heart r =
+      let alike : toldVersion 1 ≡ toldVersion 2 = by-heart r 1 ∙ sym (by-heart r 2) in
+      false≢true (sym versions-differ ∙ ap (λ (l : List ℕ). same l (toldVersion 2)) alike ∙ same-self (toldVersion 2))
+
 -- Two Sets of the capacity, end to end, and as many bytes that are no part of a frame.
 abbrev twoSets : List ℕ
 twoSets = setRequest capacity 500 ++ setRequest capacity 600
@@ -311,6 +338,7 @@ shams-fall =
     record {
       refuses-all-falls = refuses-all;
       answers-alike-falls = answers-alike;
+      reads-by-heart-falls = λ answer r held. reads-by-heart answer held r;
       stores-nothing-falls = λ answer r. (keeps-unstored answer r, keeps-undecided answer r);
       first-set-alone-falls = first-set-alone;
       takes-unseen-falls = takes-unseen;
@@ -330,6 +358,7 @@ pub real-pass : RealPass
 real-pass =
     record {
       board-gets = get-answers-held;
+      board-reads = get-answers-read-only;
       board-sets = set-stores-it;
       board-decides = board-decides;
       board-takes = takes-real;

@@ -10,7 +10,8 @@ use mathlib.Core.List.{List, [], _∷_}
 use lib.ListN.{length, take}
 use lib.Dec.{eqb}
 use Rattle.laws.specs.Promise.{Given}
-use Rattle.paper.specs.Numbers.{mostData, frameRoom, setCode, colon}
+use Rattle.paper.specs.Numbers.{mostData, frameRoom, getCode, setCode, colon}
+use Rattle.wire.specs.Frame.{frame}
 use Rattle.wire.specs.Parsing.{Ended, good, refused}
 use Rattle.stream.specs.Stream.{taken}
 use Rattle.stream.specs.Calls as stream
@@ -18,7 +19,9 @@ use Rattle.stream.specs.Calls.{unfinished}
 use Rattle.stream.specs.declared.Held.{Held}
 use Rattle.stream.specs.declared.Heard.{Heard}
 use Rattle.tables.specs.declared.Table.{Table}
-use Rattle.answers.specs.Answers.{withTable}
+use Rattle.who.specs.Values.{readOnlyIds, among}
+use Rattle.answers.specs.Answers.{withTable, said}
+use Rattle.answers.specs.Requests.{getRequest}
 use Rattle.answers.specs.declared.Outcome.{Outcome}
 use Rattle.board.specs.Parts.{boardAllowed}
 use Rattle.board.specs.Calls.{storing, answering, unanswered}
@@ -32,7 +35,7 @@ use Rattle.follow.specs.Calls as following
 use Rattle.follow.specs.Laws as follow
 use Rattle.follow.specs.Laws.{matched}
 use Rattle.demands.specs.Talk.{Way, plainly, framesAt}
-use Rattle.demands.specs.Demand2.{HearsWritten, GetsHeld, SetsStored}
+use Rattle.demands.specs.Demand2.{HearsWritten, GetsHeld, ReadOnlyHeld, SetsStored}
 use Rattle.demands.specs.Demand3.{Decides}
 
 -- the frame-end rule
@@ -61,6 +64,12 @@ pub record RefusesAll (answer : Board → List ℕ → ℕ → Given Answered) :
 pub record AnswersAlike (answer : Board → List ℕ → ℕ → Given Answered) : Type 0 where
   pub bytes : List ℕ
   pub writes : (board : Board) (piece : List ℕ) (room : ℕ) → boardAllowed board ≡ true → frameRoom ≤ room → answer board piece room .written ≡ bytes
+
+-- truthful on settings alone: each read-only id has its value by heart, whatever the board is and has measured
+pub record ReadsByHeart (answer : Board → List ℕ → ℕ → Given Answered) : Type 0 where
+  pub value : ℕ → List ℕ
+  pub reads : (board : Board) (id room : ℕ) → boardAllowed board ≡ true → frameRoom ≤ room → among id readOnlyIds ≡ true
+      → answer board (getRequest id) room .written ≡ frame getCode (said id 0 (value id))
 
 -- "confirms but stores nothing", and "a never-changing table": whatever it says
 abbrev pub KeepsItsTable : (Board → List ℕ → ℕ → Given Answered) → Type 0
@@ -131,6 +140,7 @@ leavesDigits held piece room =
 pub record ShamsFall : Type 0 where
   pub refuses-all-falls : (answer : Board → List ℕ → ℕ → Given Answered) → RefusesAll answer → (GetsHeld answer → ⊥) × (SetsStored answer → ⊥)
   pub answers-alike-falls : (answer : Board → List ℕ → ℕ → Given Answered) → AnswersAlike answer → (GetsHeld answer → ⊥) × (SetsStored answer → ⊥)
+  pub reads-by-heart-falls : (answer : Board → List ℕ → ℕ → Given Answered) → ReadsByHeart answer → ReadOnlyHeld answer → ⊥
   pub stores-nothing-falls : (answer : Board → List ℕ → ℕ → Given Answered) → KeepsItsTable answer
       → (SetsStored answer → ⊥) × (TakesToTheEnd answer → Decides (plainly answer) → ⊥)
   pub first-set-alone-falls : Decides firstSetAlone → ⊥
@@ -146,6 +156,7 @@ RefusingDecides = (number : ℕ) → Decides (plainly (λ board piece room. unan
 -- The board, the box's stream and the follower pass.
 pub record RealPass : Type 0 where
   pub board-gets : GetsHeld answering
+  pub board-reads : ReadOnlyHeld answering
   pub board-sets : SetsStored answering
   pub board-decides : Decides (plainly answering)
   pub board-takes : TakesToTheEnd answering
