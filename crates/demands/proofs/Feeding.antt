@@ -48,10 +48,10 @@ use Rattle.follow.specs.Calls.{answered, told, starting}
 use Rattle.follow.specs.Laws as follow
 use Rattle.follow.specs.Laws.{run, ownReply}
 use Rattle.follow.specs.declared.Follower.{Follower}
-use Rattle.follow.specs.declared.Followed.{Followed}
 use Rattle.follow.specs.declared.Standing.{Standing}
-use Rattle.follow.proofs.Standings.{standing-is, refused-keeps, told-good, following-good}
-use Rattle.follow.proofs.Counting.{all-done, Goes, goes-far, begins}
+use Rattle.follow.proofs.Standings.{standing-is, refused-keeps}
+use Rattle.follow.proofs.Counting.{all-done, Goes, begins}
+use Rattle.follow.proofs.Reaching.{told-as}
 use Rattle.follow.proofs.Theorems.{all-are-confirmed}
 use Rattle.demands.specs.Talk.{Deed, stores, calls, isCalls, Talk, talk, afterAll, saidToAll, boardAt}
 use Rattle.demands.specs.Demand3.{Rests, setBySet, OneCallForEach, accepted, Stands, ListIsAccepted, repliesOf, eventFor, followed, Confirmed, ListIsConfirmed}
@@ -154,12 +154,6 @@ own-events : (to : Table) (ks : List ℕ) → map eventFor (map frameFor (map (w
 own-events to [] = refl
 own-events to (k ∷ ks) = ap (λ (l : List Event). ownReply (wanted to k) ∷ l) (own-events to ks)
 
--- a row of the follower's calls tells of the follower that the events give
-told-run : (from to : Table) → bothAllowed from to ≡ true → (f : Follower) (happened : List Event) → Goes from to f → follow.calls (answered f) happened ≡ answered (run f happened)
-told-run from to ok f [] g = refl
-told-run from to ok f (e ∷ more) g =
-    rw (sym (following-good f e (g .is-allowed))) (told-run from to ok (advanced f e) more (goes-far from to ok f (e ∷ []) g))
-
 -- a frame that the first colon breaks keeps it waiting
 broken-waits : (n : ℕ) → eventFor (brokenSays n) ≡ refusedFrame
 unfolding brokenSays
@@ -199,8 +193,7 @@ follows from to ok held long fits offers all =
     ran (begun from to) (unfinished held) (due-in from to) ∙ ap (run (begun from to)) (own-events to (order from to)) ∙ all-are-confirmed from to ok in
     let tells : followed from to held bytes offers ≡ answered last =
     ap (λ (fs : List Ended). follow.calls (told (begun from to)) (map eventFor fs)) heard
-    ∙ ap (λ (t : Followed). follow.calls t (map eventFor frames)) (sym (told-good (begun from to) (start .is-allowed)))
-    ∙ told-run from to ok (begun from to) (map eventFor frames) start ∙ ap answered runs in
+    ∙ told-as from to ok (map eventFor frames) ∙ ap answered runs in
     let stands : standing last ≡ cond (eqb (length sets) 0) Standing.Equal Standing.Done = sym (standing-is last _ (all-done from to ok (length sets) (omega arith))) in
     rw tells
     (record {

@@ -58,7 +58,7 @@ stray-run : (f : Follower) → followerAllowed f ≡ false → (events : List Ev
 stray-run f bad [] = refl
 stray-run f bad (e ∷ more) = rw (sym (following-stray f e bad)) (stray-run f bad more)
 
-told-as : (from to : Table) → bothAllowed from to ≡ true → (events : List Event) → calls (starting from to) events ≡ answered (run (begun from to) events)
+pub told-as : (from to : Table) → bothAllowed from to ≡ true → (events : List Event) → calls (starting from to) events ≡ answered (run (begun from to) events)
 unfolding starting
 told-as from to ok events =
     let start : Goes from to (begun from to) = begins from to ok in
