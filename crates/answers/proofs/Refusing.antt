@@ -10,7 +10,7 @@ use lib.Dec.{eqb, ltb}
 use lib.ListN.{length, getD}
 use Rattle.laws.specs.Lists.{before, every}
 use Rattle.laws.proofs.Bools.{and-left, and-right, or-second, same-test}
-use Rattle.wire.specs.Refusals.{firstOf}
+use Rattle.laws.specs.Refusals.{firstOf}
 use Rattle.settings.specs.Columns.{count, ids, widthAt, placeOf}
 use Rattle.settings.specs.Rules.{allowedFor}
 use Rattle.settings.specs.Calls.{settingAt, placing, finding}

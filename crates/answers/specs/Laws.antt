@@ -8,7 +8,7 @@ use lib.ListN.{length}
 use Rattle.paper.specs.Numbers as paper
 use Rattle.laws.specs.Lists.{Bytes}
 use Rattle.wire.specs.Laws.{Writable}
-use Rattle.wire.specs.Refusals.{row, firstOf}
+use Rattle.laws.specs.Refusals.{row, firstOf}
 use Rattle.settings.specs.Columns.{count, idAt, widthAt}
 use Rattle.settings.specs.Rules.{allowedFor, Nearest}
 use Rattle.tables.specs.Rules.{allowed, numberAt, partnerNumber, changed}

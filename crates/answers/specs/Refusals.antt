@@ -7,7 +7,7 @@ use mathlib.Core.List.{List, [], _∷_}
 use mathlib.Core.Option.{Option, none, some}
 use lib.ListN.{length, take, drop, getD}
 use lib.Dec.{eqb, ltb, leb}
-use Rattle.wire.specs.Refusals.{Row, row}
+use Rattle.laws.specs.Refusals.{Row, row}
 use Rattle.settings.specs.Columns.{count, ids, idAt, widthAt, placeOf}
 use Rattle.settings.specs.Rules.{allowedFor, Nearest}
 use Rattle.tables.specs.Rules.{numberAt, partnerNumber, changed}

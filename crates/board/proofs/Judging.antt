@@ -15,7 +15,8 @@ use Rattle.laws.proofs.Bools.{pick}
 use Rattle.paper.specs.Numbers.{colon, newline}
 use Rattle.wire.specs.Digits.{isDigit}
 use Rattle.wire.specs.Parsing.{Ended, good, refused, commandOf, dataOf, badCount, sumsUp, bodySays, brokenSays}
-use Rattle.wire.specs.Refusals.{Row, firstOf, faults, faultOf}
+use Rattle.laws.specs.Refusals.{Row, firstOf}
+use Rattle.wire.specs.Refusals.{faults, faultOf}
 use Rattle.wire.proofs.RoundTrip.{said, said-small}
 use Rattle.wire.proofs.Theorems.{fault-given-when}
 use Rattle.stream.specs.Stream.{Unfinished, outside, inside, endedBy, framesFrom, leftFrom, firstEnd, taken}

@@ -11,7 +11,7 @@ use Rattle.paper.specs.Numbers as paper
 use Rattle.laws.specs.Promise.{Given}
 use Rattle.paper.specs.Numbers.{frameRoom, mostSerial, getCode, setCode}
 use Rattle.wire.specs.Frame.{frame}
-use Rattle.wire.specs.Refusals.{firstOf}
+use Rattle.laws.specs.Refusals.{firstOf}
 use Rattle.stream.specs.Stream.{outside}
 use Rattle.stream.specs.Calls.{mostHeld, heldOf}
 use Rattle.wire.specs.Laws.{Writable}

@@ -9,7 +9,8 @@ use Rattle.laws.specs.Promise.{Given}
 use Rattle.paper.specs.Numbers as paper
 use Rattle.paper.specs.Numbers.{newline, frameRoom}
 use Rattle.wire.specs.Parsing.{Ended, good, commandOf, dataOf, bodySays}
-use Rattle.wire.specs.Refusals.{Row, row, faults}
+use Rattle.laws.specs.Refusals.{Row, row}
+use Rattle.wire.specs.Refusals.{faults}
 use Rattle.stream.specs.Stream.{Unfinished, outside, inside, framesOf, leftFrom, leftBy, firstEnd}
 use Rattle.stream.specs.Calls.{unfinished}
 use Rattle.stream.specs.declared.Held.{Held}

@@ -2,3 +2,4 @@
 pub mod Lists
 pub mod Promise
 pub mod Cutting
+pub mod Refusals

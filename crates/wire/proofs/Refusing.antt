@@ -14,7 +14,8 @@ use Rattle.paper.specs.Numbers.{newline}
 use Rattle.wire.specs.Digits.{isDigit}
 use Rattle.wire.specs.Frame.{check, body, frame}
 use Rattle.wire.specs.Parsing.{Ended, good, refused, commandOf, dataOf, badCount, sumsUp, bodySays, brokenSays}
-use Rattle.wire.specs.Refusals.{isHex, firstOf, faults, faultOf, refusalOf, writeRefusalOf}
+use Rattle.laws.specs.Refusals.{firstOf}
+use Rattle.wire.specs.Refusals.{isHex, faults, faultOf, refusalOf, writeRefusalOf}
 use Rattle.wire.specs.Calls.{writing, writtenAs, unwritten, wholeSays, wellEnclosed, between, parsing, readAs, parsingChars}
 use Rattle.wire.specs.Laws.{Sums, WrittenSums, ReadSums, FaultGivenWhen, ReadGivenWhen, CharsGivenWhen, WriteGivenWhen}
 use Rattle.wire.specs.declared.Written.{Written}

@@ -11,7 +11,8 @@ use Rattle.paper.specs.Numbers.{colon, newline, mostNibble, mostData, frameRoom
 use Rattle.wire.specs.Digits.{digit}
 use Rattle.wire.specs.Frame.{digitsOf, frame}
 use Rattle.wire.specs.Parsing.{good, bodySays, brokenSays}
-use Rattle.wire.specs.Refusals.{row, firstOf, faults, faultOf, refusalOf, writeRefusalOf}
+use Rattle.laws.specs.Refusals.{row, firstOf}
+use Rattle.wire.specs.Refusals.{faults, faultOf, refusalOf, writeRefusalOf}
 use Rattle.wire.specs.Calls.{writing, writtenAs, wellEnclosed, between, parsing, readAs, parsingChars}
 
 -- 1. Demand 2: "A frame written by one end is read by the other as the same command and data": read whole. (On the stream: `stream`.)

@@ -1,28 +1,16 @@
 -- Document 01, "Numbers of refusal": rows 1 to 4, each with its condition alone, no other number in it. Assumes nothing.
 use Prim.Native.Nat.{ℕ, _+_, _%_}
-use mathlib.Core.Bool.{Bool, cond, not, _&&_, _||_}
+use mathlib.Core.Bool.{Bool, not, _&&_, _||_}
 use mathlib.Core.List.{List, [], _∷_}
 use mathlib.Core.Option.{Option, none, some}
 use lib.ListN.{length}
 use lib.Dec.{ltb, leb, eqb}
 use Rattle.laws.specs.Lists.{every, sumOf}
+use Rattle.laws.specs.Refusals.{Row, row}
 use Rattle.paper.specs.Numbers as paper
 use Rattle.wire.specs.Parsing.{Ended, good, refused, commandOf, payloadOf}
 use Rattle.wire.specs.declared.Read.{Read}
 use Rattle.wire.specs.declared.Written.{Written}
-
--- a row of the table: its number, and whether its condition holds
-pub record Row : Type 0 where
-  pub number : ℕ
-  pub holds : Bool
-
-abbrev pub row : ℕ → Bool → Row
-row number holds = record { number = number; holds = holds }
-
--- "Given exactly when": the number whose condition holds while that of no row before it does; none where no condition holds
-abbrev pub firstOf : List Row → Option ℕ
-firstOf [] = none
-firstOf (r ∷ more) = cond (r .holds) (some (r .number)) (firstOf more)
 
 -- "Digits are `0`-`9`, `A`-`F` only."
 abbrev pub isHex : ℕ → Bool
