@@ -1,13 +1,13 @@
 -- No sham passes, and the board and the follower do. The shams fall by computation on a board that was started with the factory table: each
 -- definition that a sham passes through is opened and run.
 use mathlib.Core.Path.{_≡_, refl, sym, ap, _∙_}
-use mathlib.Core.Bool.{Bool, true, false, false≢true}
+use mathlib.Core.Bool.{Bool, true, false, false≢true, cond}
 use mathlib.Core.List.{List, [], _∷_, _++_}
-use Prim.Native.Nat.{ℕ, _+_, _<_}
+use Prim.Native.Nat.{ℕ, suc, _+_, _≤_, _<_, min}
 use native.Mathlib.Omega.{arith}
-use borrow.Author.Tests.{leb-true, ltb-true}
-use lib.ListN.{take, replicate}
-use lib.Dec.{eqb}
+use borrow.Author.Tests.{leb-true, ltb-true, ltb-false}
+use lib.ListN.{length, take, replicate}
+use lib.Dec.{eqb, ltb}
 use Rattle.laws.specs.Lists.{same}
 use Rattle.laws.specs.Cutting.{Step}
 use Rattle.laws.proofs.Lists.{same-self}
@@ -16,7 +16,7 @@ use Rattle.wire.specs.Digits.{digit, nibble}
 use Rattle.wire.specs.Frame.{check, body, frame}
 use Rattle.endian.specs.Numbers.{little}
 use Rattle.wire.specs.Parsing.{Ended, good, refused, bodySays, brokenSays}
-use Rattle.stream.specs.Stream.{outside, inside, taken, framesOf}
+use Rattle.stream.specs.Stream.{Unfinished, outside, inside, firstEnd, taken, framesOf}
 use Rattle.stream.specs.Calls.{noChars, heldOf, unfinished}
 use Rattle.stream.specs.declared.Held.{Held}
 use Rattle.stream.specs.declared.Heard.{Heard}
@@ -52,7 +52,7 @@ use Rattle.demands.specs.Sets.{anySetting, isComplete, isValid, makes, m
 use Rattle.demands.specs.Talk.{Deed, stores, calls, Talk, Way, plainly, talkBy}
 use Rattle.demands.specs.Demand2.{HearsWritten, GetsHeld, ReadOnlyHeld, SetsStored}
 use Rattle.demands.specs.Demand3.{Decides}
-use Rattle.demands.specs.Shams.{TakesToTheEnd, HearsToTheEnd, Counts, RefusesAll, AnswersAlike, ReadsByHeart, KeepsItsTable, firstSetAlone, TakesUnseen, HearsUnseen, unheard, leavesDigits, ShamsFall, RefusingDecides, RealPass}
+use Rattle.demands.specs.Shams.{toTheEnd, TakesToTheEnd, HearsToTheEnd, Counts, Asked, a-get, a-set, RefusesAll, AnswersAlike, ReadsByHeart, KeepsItsTable, firstSetAlone, TakesUnseen, HearsUnseen, unheard, leavesDigits, ShamsFall, RefusingDecides, RealPass}
 use Rattle.demands.proofs.Deciding.{stores-keeps, board-decides}
 use Rattle.demands.proofs.Understanding.{heard-written}
 
@@ -145,10 +145,10 @@ module _ (answer : Board → List ℕ → ℕ → Given Answered) where
   refuses-all : RefusesAll answer → (GetsHeld answer → ⊥) × (SetsStored answer → ⊥)
   refuses-all r = (
     λ h.
-        refused-not (asksGet factory) _ (r .refuses (startedWith factory) (getRequest (idAt capacity)) 75)
+        refused-not (asksGet factory) _ (r .refuses (startedWith factory) (getRequest (idAt capacity)) 75 (is-allowed factory factory-is-allowed) (leb-true 75 75 refl) (a-get capacity capacity-in))
         (ap (λ (g : Given Answered). g .answer .outcome) (gets-held h factory factory-is-allowed)),
     λ h.
-        refused-not (asksSet 500) _ (r .refuses (startedWith factory) (setRequest capacity 500) 75)
+        refused-not (asksSet 500) _ (r .refuses (startedWith factory) (setRequest capacity 500) 75 (is-allowed factory factory-is-allowed) (leb-true 75 75 refl) (a-set capacity 500 capacity-in))
         (ap (λ (g : Given Answered). g .answer .outcome) (sets-stored h 500 allowed-500)),
   )
 
@@ -161,11 +161,11 @@ module _ (answer : Board → List ℕ → ℕ → Given Answered) where
   unfolding partnerAt placeOf frame body check digit
   sets-differ = refl
 
-  alike : AnswersAlike answer → (xs ys : List ℕ) (t u : Table) (p q : List ℕ) → same xs ys ≡ false → allowed t ≡ true → allowed u ≡ true
+  alike : AnswersAlike answer → (xs ys : List ℕ) (t u : Table) (p q : List ℕ) → Asked p → Asked q → same xs ys ≡ false → allowed t ≡ true → allowed u ≡ true
       → answer (startedWith t) p 75 .written ≡ xs → answer (startedWith u) q 75 .written ≡ ys → ⊥
-  alike r xs ys t u p q differ ok ok′ one two =
+  alike r xs ys t u p q asks asks′ differ ok ok′ one two =
       let all : xs ≡ ys =
-      sym one ∙ r .writes (startedWith t) p 75 (is-allowed t ok) (leb-true 75 75 refl) ∙ sym (r .writes (startedWith u) q 75 (is-allowed u ok′) (leb-true 75 75 refl)) ∙ two in
+      sym one ∙ r .writes (startedWith t) p 75 (is-allowed t ok) (leb-true 75 75 refl) asks ∙ sym (r .writes (startedWith u) q 75 (is-allowed u ok′) (leb-true 75 75 refl) asks′) ∙ two in
       false≢true (sym differ ∙ ap (λ (l : List ℕ). same l ys) all ∙ same-self ys)
 
   answers-alike : AnswersAlike answer → (GetsHeld answer → ⊥) × (SetsStored answer → ⊥)
@@ -173,12 +173,12 @@ module _ (answer : Board → List ℕ → ℕ → Given Answered) where
     λ h.
         let one = ap (λ (g : Given Answered). g .written) (gets-held h factory factory-is-allowed) in
         let two = ap (λ (g : Given Answered). g .written) (gets-held h (withCapacity 500) other-allowed) in
-        alike r _ _ factory (withCapacity 500) _ _ gets-differ factory-is-allowed other-allowed
+        alike r _ _ factory (withCapacity 500) _ _ (a-get capacity capacity-in) (a-get capacity capacity-in) gets-differ factory-is-allowed other-allowed
         (one ∙ ap reply (table-is factory factory-is-allowed) ∙ ap replied factory-holds) (two ∙ ap reply (table-is (withCapacity 500) other-allowed) ∙ ap replied other-holds),
     λ h.
         let one = ap (λ (g : Given Answered). g .written) (sets-stored h 500 allowed-500) in
         let two = ap (λ (g : Given Answered). g .written) (sets-stored h 600 allowed-600) in
-        alike r _ _ factory factory _ _ sets-differ factory-is-allowed factory-is-allowed one two,
+        alike r _ _ factory factory _ _ (a-set capacity 500 capacity-in) (a-set capacity 600 capacity-in) sets-differ factory-is-allowed factory-is-allowed one two,
   )
 
   -- a table that stays is not the one with the Set's number
@@ -347,12 +347,21 @@ shams-fall =
       digits-left-falls = digits-left;
     }
 
+-- the place of the first frame end, plus one, or the whole length
+taken-is : (u : Unfinished) (piece : List ℕ) → taken u piece ≡ toTheEnd u piece
+unfolding taken
+taken-is u piece = by (ltb (firstEnd u piece) (length piece)) refl
+  where
+    by : (t : Bool) → ltb (firstEnd u piece) (length piece) ≡ t → min (suc (firstEnd u piece)) (length piece) ≡ cond t (firstEnd u piece + 1) (length piece)
+    by true e = let less : firstEnd u piece < length piece = ltb-true _ _ e in omega arith
+    by false e = let past : length piece ≤ firstEnd u piece = ltb-false _ _ e in omega arith
+
 takes-real : TakesToTheEnd answering
 unfolding heardBy decidedBy
-takes-real board piece room ok h = ap (λ (g : Given Answered). g .answer .taken) (answering-heard board piece room h ok)
+takes-real board piece room ok h = ap (λ (g : Given Answered). g .answer .taken) (answering-heard board piece room h ok) ∙ taken-is (unfinished (board .held)) piece
 
 hears-real : HearsToTheEnd boxHearing
-hears-real held piece room ok h = ap (λ (g : Given Heard). g .answer .taken) (box-heard held piece room h ok)
+hears-real held piece room ok h = ap (λ (g : Given Heard). g .answer .taken) (box-heard held piece room h ok) ∙ taken-is (unfinished held) piece
 
 pub real-pass : RealPass
 real-pass =

@@ -3,25 +3,26 @@
 -- fakes the rest (demand 3, [..]). A box that invents its confirmed or taken count falls to demand 2's reply count and the frame-end rule. A
 -- never-changing table would keep ranges and pairs, so demand 3 always includes the Sets." What is asked, said of any way of answering; the
 -- shams; and that none of them meets it, while the board and the follower do. Assumes nothing.
-use Prim.Native.Nat.{ℕ, _≤_}
+use Prim.Native.Nat.{ℕ, _+_, _≤_, _<_}
 use mathlib.Core.Path.{_≡_}
 use mathlib.Core.Bool.{Bool, true, false, cond, _&&_, _||_}
 use mathlib.Core.List.{List, [], _∷_}
 use lib.ListN.{length, take}
-use lib.Dec.{eqb}
+use lib.Dec.{eqb, ltb}
 use Rattle.laws.specs.Promise.{Given}
 use Rattle.paper.specs.Numbers.{mostData, frameRoom, getCode, setCode, colon}
 use Rattle.wire.specs.Frame.{frame}
 use Rattle.wire.specs.Parsing.{Ended, good, refused}
-use Rattle.stream.specs.Stream.{taken}
+use Rattle.stream.specs.Stream.{Unfinished, firstEnd}
 use Rattle.stream.specs.Calls as stream
 use Rattle.stream.specs.Calls.{unfinished}
 use Rattle.stream.specs.declared.Held.{Held}
 use Rattle.stream.specs.declared.Heard.{Heard}
+use Rattle.settings.specs.Columns.{count, idAt}
 use Rattle.tables.specs.declared.Table.{Table}
 use Rattle.who.specs.Values.{readOnlyIds, among}
 use Rattle.answers.specs.Answers.{withTable, said}
-use Rattle.answers.specs.Requests.{getRequest}
+use Rattle.answers.specs.Requests.{getRequest, setRequest}
 use Rattle.answers.specs.declared.Outcome.{Outcome}
 use Rattle.board.specs.Parts.{boardAllowed}
 use Rattle.board.specs.Calls.{storing, answering, unanswered}
@@ -38,32 +39,40 @@ use Rattle.demands.specs.Talk.{Way, plainly, framesAt}
 use Rattle.demands.specs.Demand2.{HearsWritten, GetsHeld, ReadOnlyHeld, SetsStored}
 use Rattle.demands.specs.Demand3.{Decides}
 
--- the frame-end rule
+-- the frame-end rule: "The number of bytes taken equals the place of the first frame end, plus one, or the whole length."
+abbrev pub toTheEnd : Unfinished → List ℕ → ℕ
+toTheEnd u piece = cond (ltb (firstEnd u piece) (length piece)) (firstEnd u piece + 1) (length piece)
+
 abbrev pub TakesToTheEnd : (Board → List ℕ → ℕ → Given Answered) → Type 0
 TakesToTheEnd answer =
     (board : Board) (piece : List ℕ) (room : ℕ) → boardAllowed board ≡ true → frameRoom ≤ room
-    → answer board piece room .answer .taken ≡ taken (unfinished (board .held)) piece
+    → answer board piece room .answer .taken ≡ toTheEnd (unfinished (board .held)) piece
 
 -- the same of the box's call on its stream
 abbrev pub HearsToTheEnd : (Held → List ℕ → ℕ → Given Heard) → Type 0
 HearsToTheEnd hear =
-    (held : Held) (piece : List ℕ) (room : ℕ) → stream.allowed held ≡ true → mostData ≤ room → hear held piece room .answer .taken ≡ taken (unfinished held) piece
+    (held : Held) (piece : List ℕ) (room : ℕ) → stream.allowed held ≡ true → mostData ≤ room → hear held piece room .answer .taken ≡ toTheEnd (unfinished held) piece
 
 -- demand 2's reply count
 abbrev pub Counts : (Table → Table → List Event → ℕ) → Type 0
 Counts confirmed =
     (from to : Table) (events : List Event) → OnStream events → confirmed from to events ≡ cond (bothAllowed from to) (matched (dueSets from to) events) 0
 
--- The shams, each as the paper means it: not one of them, but all that do so. "refuses everything": with any number, whatever it writes and
--- leaves.
+-- The shams, as the paper means them: all that do so, where a class can be named. What they are asked: a Get or a Set of a setting.
+pub data Asked : List ℕ → Type 0 where
+  a-get : (k : ℕ) → k < count → Asked (getRequest (idAt k))
+  a-set : (k n : ℕ) → k < count → Asked (setRequest k n)
+
+-- "refuses everything": with any number, whatever it writes and leaves
 pub record RefusesAll (answer : Board → List ℕ → ℕ → Given Answered) : Type 0 where
   pub number : Board → List ℕ → ℕ → ℕ
-  pub refuses : (board : Board) (piece : List ℕ) (room : ℕ) → answer board piece room .answer .outcome ≡ Outcome.Refused (number board piece room)
+  pub refuses : (board : Board) (request : List ℕ) (room : ℕ) → boardAllowed board ≡ true → frameRoom ≤ room → Asked request
+      → answer board request room .answer .outcome ≡ Outcome.Refused (number board request room)
 
--- "always answers alike": the same bytes, whatever they are, wherever it has to answer
+-- "always answers alike": the same bytes, whatever they are
 pub record AnswersAlike (answer : Board → List ℕ → ℕ → Given Answered) : Type 0 where
   pub bytes : List ℕ
-  pub writes : (board : Board) (piece : List ℕ) (room : ℕ) → boardAllowed board ≡ true → frameRoom ≤ room → answer board piece room .written ≡ bytes
+  pub writes : (board : Board) (request : List ℕ) (room : ℕ) → boardAllowed board ≡ true → frameRoom ≤ room → Asked request → answer board request room .written ≡ bytes
 
 -- truthful on settings alone: each read-only id has its value by heart, whatever the board is and has measured
 pub record ReadsByHeart (answer : Board → List ℕ → ℕ → Given Answered) : Type 0 where
@@ -76,7 +85,7 @@ abbrev pub KeepsItsTable : (Board → List ℕ → ℕ → Given Answered) → T
 KeepsItsTable answer = (board : Board) (piece : List ℕ) (room : ℕ) → answer board piece room .answer .board .core .table ≡ board .core .table
 
 -- "handles the first Set truly and fakes the rest": it remembers whether it has handled one, and from then on confirms as the board would
--- and keeps its table
+-- and keeps its table (one that does so: what is true and what is faked is the board's own answer)
 pub record Memory : Type 0 where
   pub board : Board
   pub handled : Bool
@@ -123,7 +132,7 @@ HearsUnseen hear count = (held : Held) (piece : List ℕ) (room : ℕ) → hear 
 abbrev pub unheard : (Table → Table → ℕ → ℕ) → Table → Table → List Event → ℕ
 unheard count from to events = count from to (length events)
 
--- the slip of leaving an unfinished frame's digits in the next: a colon inside a frame is told, but what was held stays
+-- the slip of leaving an unfinished frame's digits in the next (one that makes it): a colon inside a frame is told, but what was held stays
 abbrev pub beginsAnew : List ℕ → Bool
 beginsAnew [] = false
 beginsAnew (b ∷ piece) = eqb b colon
