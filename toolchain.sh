@@ -9,14 +9,31 @@ find_toolchain() {
     missing='rt doc failed, so the toolchain was not found'
     guide=$(rt doc) || return 1
     own=$(dirname "$(dirname "$guide")")/on/$(uname -m)
-    tools=$own/toolchain
-    clang=$tools/bin/clang linker=$own/bin/rattle-link loader=$tools/lib/ld-linux-x86-64.so.2 emulator=$tools/bin/qemu-x86_64
+    find_loader "$own/toolchain" "the toolchain" || return 1
+    clang=$tools/bin/clang linker=$own/bin/rattle-link
+}
+
+# Sets `tools`, `loader` and `emulator` for a folder with what programs need to run.
+find_loader() { # FOLDER WHAT IT IS
+    tools=$1 loader=$1/lib/ld-linux-x86-64.so.2 emulator=$1/bin/qemu-x86_64
     [ -x "$emulator" ] || emulator=''
-    missing='the toolchain has no loader for this machine'
+    missing="$2 has no loader for this machine"
     [ -x "$loader" ] || return 1
-    missing="this machine is $(uname -m), and the toolchain has no emulator for it"
+    missing="this machine is $(uname -m), and $2 has no emulator for it"
     [ "$(uname -m)" = x86_64 ] || [ -n "$emulator" ] || return 1
     missing=''
+}
+
+# Sets `programs`, the folder of the programs, and what they need to run: of a folder that `reedsatchel pack` made (`packed` is not empty
+# then) that folder itself, of a clone the toolchain.
+find_programs() { # FOLDER
+    packed='' programs=$1/target/bin
+    if [ ! -f "$1/version" ]; then
+        find_toolchain
+        return
+    fi
+    packed=yes programs=$1/bin
+    find_loader "$1" "this folder, packed for another processor,"
 }
 
 # Fails where the toolchain cannot compile and link C, with the reason in `missing`.
