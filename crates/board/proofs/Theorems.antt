@@ -1,7 +1,8 @@
 -- The statements of specs/Laws.antt, proved. Assumes nothing.
-use Rattle.board.specs.Laws.{StartIsAllowed, StartHoldsIt, StartIsRefused, StoreStores, StoreIsRefused, StoreKeepsAllowed, AnswerKeepsAllowed, RefusalKeeps, WholeIsAnswered, GetAnswersHeld, GetAnswersReadOnly, SetStoresIt, SetOfEqualIsAccepted, SetRefusedNamesNearest, AllowedIsGiven, RefusalGivenWhen, OutcomeAndReply}
+use Rattle.board.specs.Laws.{StartIsAllowed, StartHoldsIt, StartIsRefused, StoreStores, StoreIsRefused, StoreKeepsAllowed, AnswerKeepsAllowed, RefusalKeeps, CallIsRefused, WholeIsAnswered, GetAnswersHeld, GetAnswersReadOnly, SetStoresIt, SetOfEqualIsAccepted, SetRefusedNamesNearest, AllowedIsGiven, RefusalGivenWhen, OutcomeAndReply}
 use Rattle.board.proofs.Starts.{start-allowed, start-holds, start-back, store-stores, store-refused, store-allowed}
 use Rattle.board.proofs.Keeping.{answer-allowed, refusal-keeps}
+use Rattle.board.proofs.Pieces.{answering-short, answering-stray}
 use Rattle.board.proofs.Replying.{whole-answered, get-held, get-read-only, set-stores, set-equal, set-names}
 use Rattle.board.proofs.Giving.{allowed-given}
 use Rattle.board.proofs.Judging.{refusal-given, outcome-reply}
@@ -53,6 +54,9 @@ allowed-is-given = allowed-given
 
 pub refusal-given-when : RefusalGivenWhen
 refusal-given-when = refusal-given
+
+pub call-is-refused : CallIsRefused
+call-is-refused = record { short = answering-short; stray = answering-stray }
 
 pub outcome-and-reply : OutcomeAndReply
 outcome-and-reply = outcome-reply

@@ -175,3 +175,11 @@ AllowedIsGiven = (board : Board) → Typed board → (boardAllowed board ≡ tru
 -- piece and room.
 abbrev pub RefusalGivenWhen : Type 0
 RefusalGivenWhen = (board : Board) (piece : List ℕ) (room : ℕ) → numberOf (answering board piece room .answer .outcome) ≡ firstOf (callRows board piece room)
+
+-- 11 and 12: "none; no byte taken or written"; "a state handed in comes back as it was, with counts and lengths 0".
+abbrev pub nothingDone : Board → ℕ → Given Answered
+nothingDone board number = record { answer = record { board = board; outcome = Outcome.Refused number; len = 0; taken = 0 }; written = [] }
+
+pub record CallIsRefused : Type 0 where
+  pub short : (board : Board) (piece : List ℕ) (room : ℕ) → room < 75 → answering board piece room ≡ nothingDone board 11
+  pub stray : (board : Board) (piece : List ℕ) (room : ℕ) → 75 ≤ room → boardAllowed board ≡ false → answering board piece room ≡ nothingDone board 12
