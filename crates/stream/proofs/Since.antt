@@ -1,22 +1,23 @@
 -- What a state says of the bytes that left it. Assumes nothing.
 use mathlib.Core.Path.{_≡_, refl, sym, ap, subst, _∙_}
 use mathlib.Core.Bool.{Bool, true, false}
+use mathlib.Core.Logic.{_≢_}
 use mathlib.Core.List.{List, [], _∷_, _++_, append-assoc, append-nil}
 use Prim.Native.Nat.{ℕ}
 use native.Mathlib.Omega.{arith}
-use borrow.Author.Tests.{eqb-true}
+use borrow.Author.Tests.{eqb-true, ne-eqb}
 use lib.ListN.{length}
 use lib.Dec.{eqb}
 use Rattle.laws.specs.Lists.{every}
 use Rattle.laws.proofs.Lists.{every-append}
 use Rattle.paper.specs.Numbers.{colon, newline}
 use Rattle.wire.specs.Frame.{body, frame}
-use Rattle.wire.specs.Parsing.{Ended, good, bodySays}
+use Rattle.wire.specs.Parsing.{Ended, good, bodySays, brokenSays}
 use Rattle.wire.proofs.RoundTrip.{said, said-body}
-use Rattle.stream.specs.Stream.{Unfinished, outside, inside, next, endedBy, leftFrom, leftBy}
+use Rattle.stream.specs.Stream.{Unfinished, outside, inside, next, endedBy, framesOf, leftFrom, leftBy, ends}
 use Rattle.stream.specs.Calls.{stays}
-use Rattle.stream.specs.Laws.{Since, InsideIsSince, HeardIsWritten, NoColonIsSkipped}
-use Rattle.stream.proofs.Streams.{left-append, stay-left, noise-left, noise-frames}
+use Rattle.stream.specs.Laws.{Since, InsideIsSince, OneMore, ByteEndsFrame, HeardIsWritten, NoColonIsSkipped}
+use Rattle.stream.proofs.Streams.{left-append, frames-append, none-ends, stay-left, noise-left, noise-frames}
 
 -- what is known of the bytes so far, by where they leave the reading
 data Reached : Unfinished → List ℕ → Type 0 where
@@ -66,6 +67,34 @@ inside-since bytes chars = (
   λ s. ap leftBy (s .bytes-are) ∙ left-append outside (s .before) (colon ∷ chars)
       ∙ ap (λ (u : Unfinished). leftFrom u chars) (colon-begins (leftBy (s .before))) ∙ stay-left [] chars (s .none-ends),
 )
+
+-- one more byte: the frames are those before it, and what it ends
+module _ (bytes : List ℕ) (b : ℕ) where
+  more-ends : (chars : List ℕ) (f : Ended) → Since bytes chars → endedBy (inside chars) b ≡ f ∷ [] → framesOf (bytes ++ b ∷ []) ≡ framesOf bytes ++ f ∷ []
+  more-ends chars f s e = frames-append outside bytes (b ∷ []) ∙ rw (inside-since bytes chars .1 s, e)
+
+  more-none : ends (leftBy bytes) b ≡ false → framesOf (bytes ++ b ∷ []) ≡ framesOf bytes
+  more-none e = frames-append outside bytes (b ∷ []) ∙ rw (none-ends (leftBy bytes) b e) (append-nil (framesOf bytes))
+
+  neither : b ≢ newline → b ≢ colon → (u : Unfinished) → ends u b ≡ false
+  neither n c outside = refl
+  neither n c (inside chars) = simp (ne-eqb b newline n, ne-eqb b colon c)
+
+  never-since : ((chars : List ℕ) → Since bytes chars → ⊥) → ends (leftBy bytes) b ≡ false
+  never-since none = by (leftBy bytes) refl
+    where
+      by : (u : Unfinished) → leftBy bytes ≡ u → ends u b ≡ false
+      by outside left = refl
+      by (inside chars) left = absurd (none chars (left-since bytes chars left))
+
+pub byte-ends : ByteEndsFrame
+byte-ends bytes =
+    record {
+      newline-ends = λ chars s. more-ends bytes newline chars (bodySays chars) s refl;
+      colon-breaks = λ chars s. more-ends bytes colon chars (brokenSays (length chars)) s refl;
+      other-stays = λ b n c. more-none bytes b (neither bytes b n c (leftBy bytes));
+      none-outside = λ b none. more-none bytes b (never-since bytes b none);
+    }
 
 -- a good frame's characters, between their colon and a newline, are the writer's frame
 whole-written : (before chars : List ℕ) (command : ℕ) (into : List ℕ) → bodySays chars ≡ good command into

@@ -1,5 +1,5 @@
 -- The statements of specs/Laws.antt, proved. Assumes nothing.
-use Rattle.stream.specs.Laws.{WrittenIsHeard, HeardFromAnywhere, HeardIsWritable, InsideIsSince, HeardIsWritten, NoColonIsSkipped, AnyCutting, WholeIsHeard, AllIsTaken, CuttingChangesNothing, EmptyChangesNothing, RefusedIsSmall, CallIsRefused, OnlyAFrameIsWritten, FirstEndIsFirst, AllowedIsLeft}
+use Rattle.stream.specs.Laws.{WrittenIsHeard, HeardFromAnywhere, HeardIsWritable, InsideIsSince, ByteEndsFrame, HeardIsWritten, NoColonIsSkipped, AnyCutting, WholeIsHeard, AllIsTaken, CuttingChangesNothing, EmptyChangesNothing, RefusedIsSmall, CallIsRefused, OnlyAFrameIsWritten, FirstEndIsFirst, AllowedIsLeft}
 use Rattle.stream.proofs.RoundTrip.{frame-heard, heard-anywhere, heard-writable}
 use Rattle.stream.proofs.Answers.{call-refused, only-frame}
 use Rattle.stream.proofs.Cuts
@@ -17,6 +17,9 @@ heard-is-writable = heard-writable
 
 pub inside-is-since : InsideIsSince
 inside-is-since = Since.inside-since
+
+pub byte-ends-frame : ByteEndsFrame
+byte-ends-frame = Since.byte-ends
 
 pub heard-is-written : HeardIsWritten
 heard-is-written = Since.heard-written

@@ -3,7 +3,7 @@
 use Prim.Native.Nat.{ℕ, suc, _≤_, _<_}
 use mathlib.Core.Path.{_≡_}
 use mathlib.Core.Bool.{Bool, true, false, not, cond, _||_}
-use mathlib.Core.Logic.{_↔_}
+use mathlib.Core.Logic.{_↔_, _≢_}
 use mathlib.Core.List.{List, [], _∷_, _++_}
 use lib.ListN.{length, take}
 use lib.Dec.{ltb, leb, eqb}
@@ -11,7 +11,7 @@ use Rattle.laws.specs.Promise.{Given}
 use Rattle.laws.specs.Cutting.{Step, Offer, calls, ready}
 use Rattle.paper.specs.Numbers.{colon, newline, mostNibble, mostData}
 use Rattle.wire.specs.Frame.{frame}
-use Rattle.wire.specs.Parsing.{Ended, good, refused, brokenSays}
+use Rattle.wire.specs.Parsing.{Ended, good, refused, bodySays, brokenSays}
 use Rattle.laws.specs.Lists.{every, Bytes}
 use Rattle.wire.specs.Laws.{Writable}
 use Rattle.stream.specs.Stream.{Unfinished, outside, inside, endedBy, framesFrom, leftFrom, framesOf, leftBy, firstEnd, taken}
@@ -58,6 +58,17 @@ pub record Since (bytes chars : List ℕ) : Type 0 where
 
 abbrev pub InsideIsSince : Type 0
 InsideIsSince = (bytes chars : List ℕ) → (leftBy bytes ≡ inside chars) ↔ Since bytes chars
+
+-- Which frames a byte ends, by that alone: "Inside one, a newline ends it. A colon inside one ends it as broken and begins the next"; any other
+-- byte ends none there, and where no frame is unfinished no byte ends one.
+pub record OneMore (bytes : List ℕ) : Type 0 where
+  pub newline-ends : (chars : List ℕ) → Since bytes chars → framesOf (bytes ++ newline ∷ []) ≡ framesOf bytes ++ bodySays chars ∷ []
+  pub colon-breaks : (chars : List ℕ) → Since bytes chars → framesOf (bytes ++ colon ∷ []) ≡ framesOf bytes ++ brokenSays (length chars) ∷ []
+  pub other-stays : (b : ℕ) → b ≢ newline → b ≢ colon → framesOf (bytes ++ b ∷ []) ≡ framesOf bytes
+  pub none-outside : (b : ℕ) → ((chars : List ℕ) → Since bytes chars → ⊥) → framesOf (bytes ++ b ∷ []) ≡ framesOf bytes
+
+abbrev pub ByteEndsFrame : Type 0
+ByteEndsFrame = (bytes : List ℕ) → OneMore bytes
 
 -- Demand 2, on the stream: "a frame read whole is byte for byte the one the writer makes": where a newline ends a good frame, the bytes up to
 -- it end with exactly what the writer makes of command and data.
