@@ -4,5 +4,6 @@ pub mod Rows
 pub mod Neighbours
 pub mod Pairs
 pub mod Windows
+pub mod Printings
 pub mod Theorems
 pub mod Same

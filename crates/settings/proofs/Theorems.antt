@@ -1,8 +1,9 @@
 -- The statements of specs/Laws.antt, proved. Assumes nothing.
 use mathlib.Core.Path.{refl}
-use Rattle.settings.specs.Laws.{NearestIsFound, NearestIsOne, NearestIsAnswered, RangeHasRoom, AllowedHasRoom, RowsHold, IdsAreCount, PlaceIsFound, FindIsFound, FoundHasId}
+use Rattle.settings.specs.Laws.{NearestIsFound, NearestIsOne, NearestIsAnswered, NearestGivenWhen, TableIsPrinted, RangeHasRoom, AllowedHasRoom, RowsHold, IdsAreCount, PlaceIsFound, FindIsFound, FoundHasId}
 use Rattle.settings.proofs.Nearness.{nearest-one}
 use Rattle.settings.proofs.Windows.{nearest-found, nearest-answered, range-room, allowed-room}
+use Rattle.settings.proofs.Printings.{nearest-given}
 use Rattle.settings.proofs.Rows.{row-holds, place-found, find-found, found-id}
 
 pub nearest-is-found : NearestIsFound
@@ -13,6 +14,12 @@ nearest-is-one k wished partner = nearest-one _ wished
 
 pub nearest-is-answered : NearestIsAnswered
 nearest-is-answered = nearest-answered
+
+pub nearest-given-when : NearestGivenWhen
+nearest-given-when = nearest-given
+
+pub table-is-printed : TableIsPrinted
+table-is-printed = (refl, refl)
 
 pub range-has-room : RangeHasRoom
 range-has-room = range-room

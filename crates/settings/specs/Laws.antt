@@ -3,9 +3,13 @@
 use Prim.Native.Nat.{ℕ, suc, _^_, _≤_, _<_}
 use mathlib.Core.Path.{_≡_}
 use mathlib.Core.Logic.{_↔_}
-use mathlib.Core.Bool.{true}
+use mathlib.Core.Bool.{true, not}
+use mathlib.Core.List.{[], _∷_, map}
+use mathlib.Core.Option.{Option, none, some}
 use lib.ListN.{length}
-use Rattle.settings.specs.Columns.{count, ids, idAt, widthAt, lowAt, highAt, factoryAt, partnerAt, roleAt}
+use Rattle.laws.specs.Refusals.{row, firstOf}
+use Rattle.settings.specs.Columns.{count, entries, ids, idAt, widthAt, lowAt, highAt, factoryAt, partnerAt, roleAt}
+use Rattle.settings.specs.Printed.{among, printedIds, partnerWithin, printed}
 use Rattle.settings.specs.Rules.{inRange, agrees, allowedFor, Nearest, nearestOf}
 use Rattle.settings.specs.Calls.{settingAt, placing, finding, partnerFits, nearing}
 use Rattle.settings.specs.declared.columns.Role.{Role}
@@ -26,7 +30,22 @@ abbrev pub NearestIsAnswered : Type 0
 NearestIsAnswered =
     (k wished partner : ℕ) → k < count → partnerFits k partner ≡ true → nearing (idAt k) wished partner ≡ Number.Is (nearestOf k wished partner)
 
--- 2. The columns, at every entry: the two of a pair are neighbours with opposite parts in it, and a setting alone has none. That the const arrays of
+-- "7 if the id is no setting, then 12 if the partner is outside its own range", by the ids, ranges and pairs that are printed; the partner's
+-- number is "unused without a partner".
+abbrev pub refusalOf : Number → Option ℕ
+refusalOf (Number.Is n) = none
+refusalOf (Number.Refused number) = some number
+
+abbrev pub NearestGivenWhen : Type 0
+NearestGivenWhen =
+    (id wished partner : ℕ)
+    → refusalOf (nearing id wished partner) ≡ firstOf (row 7 (not (among id printedIds)) ∷ row 12 (not (partnerWithin id partner)) ∷ [])
+
+-- 2. The table is the one that is printed: for each of its ids the printed lines and pairs make the very row, and they have as many ids.
+abbrev pub TableIsPrinted : Type 0
+TableIsPrinted = (map printed ids ≡ map some entries) × (length printedIds ≡ count)
+
+-- The columns, at every entry: the two of a pair are neighbours with opposite parts in it, and a setting alone has none. That the const arrays of
 -- src/columns.rt have the same entries is what their readers there promise.
 abbrev pub opposite : Role → Role
 opposite Role.Alone = Role.Alone

@@ -5,6 +5,7 @@ pub mod Helds
 pub mod Hearing
 pub mod RoundTrip
 pub mod Reached
+pub mod Since
 pub mod Cuts
 pub mod Same
 pub mod Theorems

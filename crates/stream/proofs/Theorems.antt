@@ -1,8 +1,10 @@
 -- The statements of specs/Laws.antt, proved. Assumes nothing.
-use Rattle.stream.specs.Laws.{WrittenIsHeard, HeardFromAnywhere, HeardIsWritable, AnyCutting, WholeIsHeard, AllIsTaken, CuttingChangesNothing, EmptyChangesNothing, RefusedIsSmall, FirstEndIsFirst, AllowedIsLeft}
+use Rattle.stream.specs.Laws.{WrittenIsHeard, HeardFromAnywhere, HeardIsWritable, InsideIsSince, ByteEndsFrame, HeardIsWritten, NoColonIsSkipped, AnyCutting, WholeIsHeard, AllIsTaken, CuttingChangesNothing, EmptyChangesNothing, RefusedIsSmall, CallIsRefused, OnlyAFrameIsWritten, FirstEndIsFirst, AllowedIsLeft}
 use Rattle.stream.proofs.RoundTrip.{frame-heard, heard-anywhere, heard-writable}
+use Rattle.stream.proofs.Answers.{call-refused, only-frame}
 use Rattle.stream.proofs.Cuts
 use Rattle.stream.proofs.Reached
+use Rattle.stream.proofs.Since
 
 pub written-is-heard : WrittenIsHeard
 written-is-heard = frame-heard
@@ -12,6 +14,18 @@ heard-from-anywhere = heard-anywhere
 
 pub heard-is-writable : HeardIsWritable
 heard-is-writable = heard-writable
+
+pub inside-is-since : InsideIsSince
+inside-is-since = Since.inside-since
+
+pub byte-ends-frame : ByteEndsFrame
+byte-ends-frame = Since.byte-ends
+
+pub heard-is-written : HeardIsWritten
+heard-is-written = Since.heard-written
+
+pub no-colon-is-skipped : NoColonIsSkipped
+no-colon-is-skipped = Since.no-colon
 
 pub any-cutting : AnyCutting
 any-cutting = Cuts.any-cutting
@@ -30,6 +44,12 @@ empty-changes-nothing = Cuts.empty-nothing
 
 pub refused-is-small : RefusedIsSmall
 refused-is-small = Cuts.refused-small
+
+pub call-is-refused : CallIsRefused
+call-is-refused = call-refused
+
+pub only-a-frame-is-written : OnlyAFrameIsWritten
+only-a-frame-is-written = only-frame
 
 pub first-end-is-first : FirstEndIsFirst
 first-end-is-first = Cuts.first-end

@@ -2,19 +2,19 @@
 -- Assumes nothing.
 use Prim.Native.Nat.{ℕ, suc, _≤_, _<_}
 use mathlib.Core.Path.{_≡_}
-use mathlib.Core.Bool.{true, cond}
-use mathlib.Core.Logic.{_↔_}
+use mathlib.Core.Bool.{Bool, true, false, not, cond, _||_}
+use mathlib.Core.Logic.{_↔_, _≢_}
 use mathlib.Core.List.{List, [], _∷_, _++_}
 use lib.ListN.{length, take}
 use lib.Dec.{ltb, leb, eqb}
 use Rattle.laws.specs.Promise.{Given}
 use Rattle.laws.specs.Cutting.{Step, Offer, calls, ready}
-use Rattle.paper.specs.Numbers.{mostNibble, mostData}
+use Rattle.paper.specs.Numbers.{colon, newline, mostNibble, mostData}
 use Rattle.wire.specs.Frame.{frame}
-use Rattle.wire.specs.Parsing.{Ended, good, refused, brokenSays}
-use Rattle.laws.specs.Lists.{Bytes}
+use Rattle.wire.specs.Parsing.{Ended, good, refused, bodySays, brokenSays}
+use Rattle.laws.specs.Lists.{every, Bytes}
 use Rattle.wire.specs.Laws.{Writable}
-use Rattle.stream.specs.Stream.{Unfinished, outside, inside, framesFrom, leftFrom, framesOf, leftBy, firstEnd, taken}
+use Rattle.stream.specs.Stream.{Unfinished, outside, inside, endedBy, framesFrom, leftFrom, framesOf, leftBy, firstEnd, taken}
 use Rattle.stream.specs.Calls.{mostHeld, heldOf, unfinished, allowed, hearing}
 use Rattle.stream.specs.declared.Event.{Event}
 use Rattle.stream.specs.declared.Held.{Held}
@@ -48,6 +48,38 @@ pub data Writables : List Ended → Type 0 where
 
 abbrev pub HeardIsWritable : Type 0
 HeardIsWritable = (u : Unfinished) (bytes : List ℕ) → Writables (framesFrom u bytes)
+
+-- What a state says of the bytes, with no word of how it is reached: a reading is inside a frame exactly when a colon came and neither a
+-- newline nor a colon after it, and then has every character since, as it came.
+pub record Since (bytes chars : List ℕ) : Type 0 where
+  pub before : List ℕ
+  pub bytes-are : bytes ≡ before ++ colon ∷ chars
+  pub none-ends : every (λ c. not (eqb c newline || eqb c colon)) chars ≡ true
+
+abbrev pub InsideIsSince : Type 0
+InsideIsSince = (bytes chars : List ℕ) → (leftBy bytes ≡ inside chars) ↔ Since bytes chars
+
+-- Which frames a byte ends, by that alone: "Inside one, a newline ends it. A colon inside one ends it as broken and begins the next"; any other
+-- byte ends none there, and where no frame is unfinished no byte ends one.
+pub record OneMore (bytes : List ℕ) : Type 0 where
+  pub newline-ends : (chars : List ℕ) → Since bytes chars → framesOf (bytes ++ newline ∷ []) ≡ framesOf bytes ++ bodySays chars ∷ []
+  pub colon-breaks : (chars : List ℕ) → Since bytes chars → framesOf (bytes ++ colon ∷ []) ≡ framesOf bytes ++ brokenSays (length chars) ∷ []
+  pub other-stays : (b : ℕ) → b ≢ newline → b ≢ colon → framesOf (bytes ++ b ∷ []) ≡ framesOf bytes
+  pub none-outside : (b : ℕ) → ((chars : List ℕ) → Since bytes chars → ⊥) → framesOf (bytes ++ b ∷ []) ≡ framesOf bytes
+
+abbrev pub ByteEndsFrame : Type 0
+ByteEndsFrame = (bytes : List ℕ) → OneMore bytes
+
+-- Demand 2, on the stream: "a frame read whole is byte for byte the one the writer makes": where a newline ends a good frame, the bytes up to
+-- it end with exactly what the writer makes of command and data.
+abbrev pub HeardIsWritten : Type 0
+HeardIsWritten =
+    (bytes : List ℕ) (command : ℕ) (into : List ℕ) → endedBy (leftBy bytes) newline ≡ good command into ∷ []
+    → (before : List ℕ) × (bytes ++ newline ∷ [] ≡ before ++ frame command into)
+
+-- "Outside a frame every byte but a colon is skipped": bytes with no colon begin no frame and end none.
+abbrev pub NoColonIsSkipped : Type 0
+NoColonIsSkipped = (bytes : List ℕ) → every (λ b. not (eqb b colon)) bytes ≡ true → (leftBy bytes ≡ outside) × (framesOf bytes ≡ [])
 
 -- 2. The stream in any cutting. What a call on the stream comes to: a frame with its data, of the length that is said; a frame's refusal (1
 -- to 4); or no frame (under 11 and 12 too, which are the call's).
@@ -97,6 +129,27 @@ abbrev pub RefusedIsSmall : Type 0
 RefusedIsSmall =
     (held : Held) (piece : List ℕ) (room number : ℕ) → allowed held ≡ true → mostData ≤ room
     → hearing held piece room .answer .event ≡ Event.Refused number → number ≤ 4
+
+-- "Under 11 and 12 a state handed in comes back as it was, with counts and lengths 0", and no byte is written: "11 if the data buffer is under
+-- 35 bytes", then 12 for a state that is not allowed.
+abbrev pub refusedBy : ℕ → Held → Given Heard
+refusedBy number held = record { answer = record { held = held; event = Event.Refused number; taken = 0 }; written = [] }
+
+abbrev pub CallIsRefused : Type 0
+CallIsRefused =
+    (held : Held) (piece : List ℕ) (room : ℕ)
+    → (room < 35 → hearing held piece room ≡ refusedBy 11 held)
+    × (35 ≤ room → allowed held ≡ false → hearing held piece room ≡ refusedBy 12 held)
+
+-- "The data fill the front of the buffer only when 1 to 4 are passed": under any refusal, and where no frame ended, nothing is written.
+abbrev pub isFrame : Event → Bool
+isFrame Event.Nothing = false
+isFrame (Event.Frame command len) = true
+isFrame (Event.Refused number) = false
+
+abbrev pub OnlyAFrameIsWritten : Type 0
+OnlyAFrameIsWritten =
+    (held : Held) (piece : List ℕ) (room : ℕ) → isFrame (hearing held piece room .answer .event) ≡ false → hearing held piece room .written ≡ []
 
 -- The cutting changes nothing: rows of calls that take as many of the same bytes come to the same, from any state.
 abbrev pub CuttingChangesNothing : Type 0

@@ -1,8 +1,9 @@
 -- Laws of an allowed table: what it holds, and what a Set makes of it. Assumes nothing.
 use mathlib.Core.Path.{_≡_, refl, sym, ap, _∙_}
 use mathlib.Core.Logic.{_≢_}
-use mathlib.Core.Bool.{Bool, true, false}
+use mathlib.Core.Bool.{Bool, true, false, cond, not, _&&_, _||_}
 use mathlib.Core.List.{List}
+use mathlib.Core.Option.{none, some}
 use Prim.Native.Nat.{ℕ, _≤_, _<_}
 use native.Mathlib.Omega.{arith}
 use borrow.Author.Tests.{lt-ltb, le-ltb, ltb-true, ltb-false, eqb-true, eqb-false}
@@ -24,9 +25,10 @@ use Rattle.settings.proofs.Windows.{nearest-found, allowed-range, allowed-agree
 use Rattle.settings.proofs.Pairs.{partner-agrees, agrees-exchange}
 use Rattle.tables.specs.Rules.{allowed, numberAt, partnerNumber, changed}
 use Rattle.tables.specs.Calls.{setTo}
-use Rattle.tables.specs.Laws.{SetKeepsAllowed, RefusedKeeps, SetKeepsCount, SetChangesOne, SetStores, EqualIsAccepted, RefusedNamesNearest, PairsHaveAnOrder}
+use Rattle.tables.specs.Laws.{refusalOf, SetGivenWhen, SetKeepsAllowed, RefusedKeeps, SetKeepsCount, SetChangesOne, SetStores, EqualIsAccepted, RefusedNamesNearest, PairsHaveAnOrder}
 use Rattle.tables.specs.declared.Table.{Table}
 use Rattle.tables.specs.declared.Answer.{Answer}
+use Rattle.tables.specs.declared.Change.{Change}
 
 -- what an allowed table holds
 module _ (t : Table) (ok : allowed t ≡ true) (k : ℕ) (h : k < count) where
@@ -140,6 +142,20 @@ set-one t k n j apart = by (allowed t) (ltb k count) (allowedFor k n (partnerNum
     by true false r o p q = rw (set-past t k n o (ltb-false k count p))
 
 -- a number that is allowed is stored, and one that is not is answered with the nearest
+pub set-given : SetGivenWhen
+unfolding setTo
+set-given t k n = by (allowed t) (ltb k count) (allowedFor k n (partnerNumber t k))
+  where
+    by : (fit in-table ok : Bool)
+        → refusalOf (cond {A = Change} (fit && in-table)
+        (cond ok (record { answer = Answer.Accepted; table = changed t k n }) (record { answer = Answer.Refused 10 (nearestOf k n (partnerNumber t k)); table = t }))
+        (record { answer = Answer.Refused 12 0; table = t }) .answer)
+        ≡ cond (not fit || not in-table) (some 12) (cond (not ok) (some 10) none)
+    by false in-table ok = refl
+    by true false ok = refl
+    by true true false = refl
+    by true true true = refl
+
 pub set-stores : SetStores
 set-stores t k n long ok h fits =
     rw (set-accepted t k n ok h fits) (refl, here t k n ok h long fits)

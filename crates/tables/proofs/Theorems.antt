@@ -5,8 +5,11 @@ use Rattle.settings.specs.Rules.{allAllowed}
 use Rattle.settings.proofs.Windows.{allowed-both}
 use Rattle.settings.proofs.Theorems.{rows-hold}
 use Rattle.tables.specs.Rules.{allowed}
-use Rattle.tables.specs.Laws.{SetStores, EqualIsAccepted, RefusedNamesNearest, SetKeepsAllowed, RefusedKeeps, SetKeepsCount, SetChangesOne, FactoryIsAllowed, PairsHaveAnOrder}
-use Rattle.tables.proofs.Tables.{set-stores, equal-accepted, refused-names, set-allowed, refused-keeps, set-count, set-one, pairs-order}
+use Rattle.tables.specs.Laws.{SetGivenWhen, SetStores, EqualIsAccepted, RefusedNamesNearest, SetKeepsAllowed, RefusedKeeps, SetKeepsCount, SetChangesOne, FactoryIsAllowed, PairsHaveAnOrder}
+use Rattle.tables.proofs.Tables.{set-given, set-stores, equal-accepted, refused-names, set-allowed, refused-keeps, set-count, set-one, pairs-order}
+
+pub set-given-when : SetGivenWhen
+set-given-when = set-given
 
 pub set-stores-it : SetStores
 set-stores-it = set-stores

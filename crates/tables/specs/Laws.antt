@@ -3,8 +3,12 @@
 use Prim.Native.Nat.{ℕ, _^_, _<_}
 use mathlib.Core.Path.{_≡_}
 use mathlib.Core.Logic.{_≢_}
-use mathlib.Core.Bool.{true, false}
+use mathlib.Core.Bool.{true, false, not, _||_}
+use mathlib.Core.List.{[], _∷_}
+use mathlib.Core.Option.{Option, none, some}
 use lib.ListN.{length}
+use lib.Dec.{ltb}
+use Rattle.laws.specs.Refusals.{row, firstOf}
 use Rattle.settings.specs.Columns.{count, partnerAt, roleAt}
 use Rattle.settings.specs.Rules.{agrees, allowedFor, Nearest}
 use Rattle.tables.specs.Rules.{numberAt, partnerNumber, allowed, factory}
@@ -13,7 +17,18 @@ use Rattle.tables.specs.Calls.{setTo}
 use Rattle.tables.specs.declared.Table.{Table}
 use Rattle.tables.specs.declared.Answer.{Answer}
 
--- 1. A Set of an allowed number is accepted and stores it; any other is refused with the nearest allowed number. Either way the table stays
+-- 1. A Set's refusals: 12 "a handed-in number, state or table is not allowed", here a table or a place past it; then 10 "number not allowed".
+abbrev pub refusalOf : Answer → Option ℕ
+refusalOf Answer.Accepted = none
+refusalOf (Answer.Refused number nearest) = some number
+
+abbrev pub SetGivenWhen : Type 0
+SetGivenWhen =
+    (t : Table) (k n : ℕ)
+    → refusalOf (setTo t k n .answer)
+    ≡ firstOf (row 12 (not (allowed t) || not (ltb k count)) ∷ row 10 (not (allowedFor k n (partnerNumber t k))) ∷ [])
+
+-- A Set of an allowed number is accepted and stores it; any other is refused with the nearest allowed number. Either way the table stays
 -- allowed and no other setting changes. (A table has its numbers in every value of the type, which `length` says.)
 abbrev pub SetStores : Type 0
 SetStores =

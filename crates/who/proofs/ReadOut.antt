@@ -1,25 +1,28 @@
 -- Read-only values: they are bytes, and few enough for a reply. Assumes nothing.
 use mathlib.Core.Path.{_≡_, refl, sym, ap, subst, _∙_}
-use mathlib.Core.Bool.{Bool, true, false, cond, _||_}
+use mathlib.Core.Bool.{Bool, true, false, cond, not, _||_}
 use mathlib.Core.List.{List, [], _∷_, _++_, append-nil}
 use mathlib.Core.Option.{Option, none, some}
 use Prim.Native.Nat.{ℕ, _+_, _≤_, _<_}
 use native.Mathlib.Omega.{arith}
 use borrow.Author.Tests.{lt-ltb, le-ltb, ltb-true, ltb-false, leb-true, eqb-true}
 use lib.Dec.{leb, ltb, eqb}
-use lib.ListN.{length, take, length-append, length-take}
+use lib.ListN.{length, take, replicate, length-append, length-take}
 use Rattle.laws.specs.Lists.{every, byte}
+use Rattle.laws.specs.Promise.{overlaid, frontOf}
 use Rattle.laws.proofs.Bools.{and-left, and-right, both, pick}
 use Rattle.laws.proofs.Lists.{every-append}
 use Rattle.endian.specs.Numbers.{little}
 use Rattle.endian.proofs.Little.{length-little, bytes-little}
 use Rattle.who.specs.Parts.{printed, serialOf, identityAllowed}
-use Rattle.who.specs.Values.{productValue, serialValue, readOnly}
+use Rattle.who.specs.Values.{productValue, serialValue, readOnly, readOnlyIds, among}
 use Rattle.paper.specs.Numbers.{notAllowed}
 use Rattle.who.specs.Calls.{valueOf, noValue, lookedOf, readingOut}
-use Rattle.who.specs.Laws.{Small, small-none, small-some, ValuesFit, NothingReadsZero, product, serial-under, serial-full, version, voltage, current, fine, consumed, charge, HeldIsReadOut, Holds, ReadOutIsHeld, isSome, EightAreReadOut}
+use Rattle.who.specs.Laws.{Small, small-none, small-some, ValuesFit, NothingReadsZero, product, serial-under, serial-full, version, voltage, current, fine, consumed, charge, HeldIsReadOut, Holds, ReadOutIsHeld, isSome, EightAreReadOut, refusalOf, ReadOnlyGivenWhen, RefusedHasNoValue}
 use Rattle.who.specs.declared.Identity.{Identity}
 use Rattle.who.specs.declared.Readings.{Readings}
+use Rattle.who.specs.declared.Verdict.{Verdict}
+use Rattle.who.specs.declared.Looked.{Looked}
 use Rattle.who.proofs.Serials.{serial-within}
 
 small-little : (width n : ℕ) → width ≤ 32 → Small (some (little width n))
@@ -157,3 +160,35 @@ unfolding readOnly
 eight-out identity readings id =
     found-or (eqb id 0x0100) _ _ (found-or (eqb id 0x010A) _ _ (found-or (eqb id 0xEEF9) _ _ (found-or (eqb id 0xED8D) _ _ (found-or (eqb id 0xED8F) _ _
     (found-or (eqb id 0xED8C) _ _ (found-or (eqb id 0xEEFF) _ _ (found-or (eqb id 0x0FFF) _ none refl)))))))
+
+-- the call's refusals
+found-refusal : (o : Option (List ℕ)) → refusalOf (lookedOf o .verdict) ≡ cond (not (isSome o)) (some 7) none
+unfolding lookedOf noValue
+found-refusal none = refl
+found-refusal (some v) = refl
+
+abbrev Silent : Looked → Type 0
+Silent looked = (number : ℕ) → looked .verdict ≡ Verdict.Refused number → looked .value ≡ record { len = 0; bytes = replicate 32 0 }
+
+found-silent : (o : Option (List ℕ)) → Silent (lookedOf o)
+unfolding lookedOf noValue valueOf frontOf overlaid
+found-silent none number e = refl
+found-silent (some v) number e = let z : _≡_ {A = ℕ} 0 1 = cc in absurd (omega arith)
+
+none-silent : (n : ℕ) → Silent (noValue n)
+unfolding noValue valueOf frontOf overlaid
+none-silent n number e = refl
+
+pub read-only-given : ReadOnlyGivenWhen
+unfolding readingOut
+read-only-given identity readings id = by (identityAllowed identity)
+  where
+    by : (ok : Bool)
+        → refusalOf (cond ok (lookedOf (readOnly identity readings id)) (noValue 12) .verdict)
+        ≡ cond (not ok) (some 12) (cond (not (among id readOnlyIds)) (some 7) none)
+    by false = unfold noValue in refl
+    by true = found-refusal (readOnly identity readings id) ∙ ap (λ (b : Bool). cond (not b) (some 7) none) (eight-out identity readings id)
+
+pub refused-silent : RefusedHasNoValue
+unfolding readingOut
+refused-silent identity readings id = pick Silent (identityAllowed identity) (found-silent (readOnly identity readings id)) (none-silent 12)

@@ -2,19 +2,21 @@
 -- Assumes nothing.
 use Prim.Native.Nat.{ℕ, _/_, _%_, _≤_, _<_}
 use mathlib.Core.Path.{_≡_}
-use mathlib.Core.Bool.{Bool, true, false}
+use mathlib.Core.Bool.{Bool, true, false, not}
 use mathlib.Core.List.{List, [], _∷_, _++_}
 use mathlib.Core.Option.{Option, none, some}
 use lib.ListN.{length, replicate}
 use Rattle.paper.specs.Numbers as paper
 use Rattle.laws.specs.Lists.{every, byte}
+use Rattle.laws.specs.Refusals.{row, firstOf}
 use Rattle.paper.specs.Numbers.{mostSerial}
 use Rattle.who.specs.Parts.{identityOf, serialOf, identityAllowed, noReadings}
 use Rattle.endian.specs.Numbers.{little, complement}
 use Rattle.who.specs.Values.{readOnly, readOnlyIds, among}
-use Rattle.who.specs.Calls.{naming}
+use Rattle.who.specs.Calls.{naming, readingOut}
 use Rattle.who.specs.declared.Identity.{Identity}
 use Rattle.who.specs.declared.Readings.{Readings}
+use Rattle.who.specs.declared.Verdict.{Verdict}
 
 -- 1. Every identity that is named is allowed, an accepted and a refused one; the serial of an accepted one is the one that was given.
 abbrev pub NamedIsAllowed : Type 0
@@ -74,3 +76,20 @@ isSome (some value) = true
 
 abbrev pub EightAreReadOut : Type 0
 EightAreReadOut = (identity : Identity) (readings : Readings) (id : ℕ) → isSome (readOnly identity readings id) ≡ among id readOnlyIds
+
+-- 5. The call: 12 for an identity that is not allowed, then 7 for an id that is none of the eight. "Where no other result of a refusal is
+-- stated, it is the number alone": there is no value then.
+abbrev pub refusalOf : Verdict → Option ℕ
+refusalOf Verdict.Accepted = none
+refusalOf (Verdict.Refused number) = some number
+
+abbrev pub ReadOnlyGivenWhen : Type 0
+ReadOnlyGivenWhen =
+    (identity : Identity) (readings : Readings) (id : ℕ)
+    → refusalOf (readingOut identity readings id .verdict)
+    ≡ firstOf (row 12 (not (identityAllowed identity)) ∷ row 7 (not (among id readOnlyIds)) ∷ [])
+
+abbrev pub RefusedHasNoValue : Type 0
+RefusedHasNoValue =
+    (identity : Identity) (readings : Readings) (id number : ℕ) → readingOut identity readings id .verdict ≡ Verdict.Refused number
+    → readingOut identity readings id .value ≡ record { len = 0; bytes = replicate 32 0 }

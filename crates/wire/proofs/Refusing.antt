@@ -1,24 +1,26 @@
 -- The sum of a frame, and refusals 1 to 4 by their rows. Assumes nothing.
 use mathlib.Core.Path.{_≡_, refl, ap, subst, _∙_}
-use mathlib.Core.Bool.{Bool, true, false, not, _||_, cond}
+use mathlib.Core.Bool.{Bool, true, false, not, _&&_, _||_, cond}
 use mathlib.Core.List.{List, [], _∷_}
 use mathlib.Core.Option.{Option, none, some}
-use Prim.Native.Nat.{ℕ}
+use Prim.Native.Nat.{ℕ, _-_}
 use native.Mathlib.Omega.{arith}
-use borrow.Author.Tests.{leb-true}
-use lib.ListN.{length}
-use lib.Dec.{ltb}
+use borrow.Author.Tests.{leb-true, lt-leb, le-leb, ltb-true, ltb-false}
+use lib.ListN.{length, getD}
+use lib.Dec.{ltb, leb, eqb}
 use Rattle.laws.specs.Promise.{Given}
+use Rattle.laws.proofs.Bools.{pick}
 use Rattle.laws.specs.Lists.{every}
-use Rattle.paper.specs.Numbers.{newline}
+use Rattle.paper.specs.Numbers.{colon, newline}
 use Rattle.wire.specs.Digits.{isDigit}
 use Rattle.wire.specs.Frame.{check, body, frame}
 use Rattle.wire.specs.Parsing.{Ended, good, refused, commandOf, dataOf, badCount, sumsUp, bodySays, brokenSays}
 use Rattle.laws.specs.Refusals.{firstOf}
 use Rattle.wire.specs.Refusals.{isHex, faults, faultOf, refusalOf, writeRefusalOf}
 use Rattle.wire.specs.Calls.{writing, writtenAs, unwritten, wholeSays, wellEnclosed, between, parsing, readAs, parsingChars}
-use Rattle.wire.specs.Laws.{Sums, WrittenSums, ReadSums, FaultGivenWhen, ReadGivenWhen, CharsGivenWhen, WriteGivenWhen}
+use Rattle.wire.specs.Laws.{Sums, WrittenSums, ReadSums, FaultGivenWhen, ReadGivenWhen, CharsGivenWhen, WriteGivenWhen, RefusedWritesNothing}
 use Rattle.wire.specs.declared.Written.{Written}
+use Rattle.wire.specs.declared.Read.{Read}
 use Rattle.wire.proofs.Nibbles.{digit-test}
 use Rattle.wire.proofs.Frames.{check-sums, check-byte}
 use Rattle.wire.proofs.RoundTrip.{slice-written}
@@ -79,10 +81,21 @@ read-says : (e : Ended) → refusalOf (readAs e .answer) ≡ faultOf e
 read-says (good command bytes) = refl
 read-says (refused number) = refl
 
+-- not enclosed: under 2 bytes, or other ends
+loose : (n : ℕ) (ends : Bool) → (ltb n 2 || not ends) ≡ not (leb 2 n && ends)
+loose n ends = by (ltb n 2) refl
+  where
+    by : (t : Bool) → ltb n 2 ≡ t → (ltb n 2 || not ends) ≡ not (leb 2 n && ends)
+    by true e = simp (e, lt-leb 2 n (ltb-true n 2 e))
+    by false e = simp (e, le-leb 2 n (ltb-false n 2 e))
+
 pub read-given : ReadGivenWhen
 unfolding parsing wholeSays
-read-given slice room = by (ltb room 35) (wellEnclosed slice)
+read-given slice room = rw (loose (length slice) ends) (by (ltb room 35) (wellEnclosed slice))
   where
+    ends : Bool
+    ends = eqb (getD slice 0 0) colon && eqb (getD slice (length slice - 1) 0) newline
+
     rest : Option ℕ
     rest = firstOf (faults (between slice) newline)
 
@@ -111,3 +124,22 @@ write-given command bytes room = by (ltb room 75) (ltb 15 command || ltb 35 (len
     by true over = refl
     by false true = refl
     by false false = refl
+
+-- nothing is written under a refusal
+read-silent : (e : Ended) (number : ℕ) → readAs e .answer ≡ Read.Refused number → readAs e .written ≡ []
+read-silent (good command bytes) number e = let z : _≡_ {A = ℕ} 0 1 = cc in absurd (omega arith)
+read-silent (refused n) number e = refl
+
+pub refused-silent : RefusedWritesNothing
+unfolding parsing parsingChars writing
+refused-silent number room = (
+  λ slice. pick Silent (ltb room 35) (λ e. refl) (read-silent (wholeSays slice) number),
+  λ chars. pick Silent (ltb room 35) (λ e. refl) (read-silent (bodySays chars) number),
+  λ command bytes. pick Unwritten (ltb room 75) (λ e. refl) (pick Unwritten (ltb 15 command || ltb 35 (length bytes)) (λ e. refl) (λ e. let z : _≡_ {A = ℕ} 0 1 = cc in absurd (omega arith))),
+)
+  where
+    Silent : Given Read → Type 0
+    Silent given = given .answer ≡ Read.Refused number → given .written ≡ []
+
+    Unwritten : Given Written → Type 0
+    Unwritten given = given .answer ≡ Written.Refused number → given .written ≡ []

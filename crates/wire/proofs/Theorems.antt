@@ -1,5 +1,5 @@
 -- The statements of specs/Laws.antt, proved. Assumes nothing.
-use Rattle.wire.specs.Laws.{WrittenIsRead, ReadIsWritten, WrittenSums, ReadSums, FaultGivenWhen, ReadGivenWhen, CharsGivenWhen, WriteGivenWhen}
+use Rattle.wire.specs.Laws.{WrittenIsRead, ReadIsWritten, WrittenSums, ReadSums, FaultGivenWhen, ReadGivenWhen, CharsGivenWhen, WriteGivenWhen, RefusedWritesNothing}
 use Rattle.wire.proofs.RoundTrip.{frame-says, slice-written}
 use Rattle.wire.proofs.Refusing
 
@@ -26,3 +26,6 @@ chars-given-when = Refusing.chars-given
 
 pub write-given-when : WriteGivenWhen
 write-given-when = Refusing.write-given
+
+pub refused-writes-nothing : RefusedWritesNothing
+refused-writes-nothing = Refusing.refused-silent

@@ -1,31 +1,41 @@
 -- What is proved of the definitions, as statements to compare with the papers. Each is proved under its name in proofs/Theorems.antt.
 -- Assumes nothing.
-use Prim.Native.Nat.{ℕ, _+_, _%_, _≤_, _<_}
+use Prim.Native.Nat.{ℕ, _+_, _-_, _%_, _≤_, _<_}
 use mathlib.Core.Path.{_≡_}
-use mathlib.Core.Bool.{not, _||_}
+use mathlib.Core.Bool.{not, _&&_, _||_}
 use mathlib.Core.List.{List, [], _∷_, _++_}
-use lib.ListN.{length}
-use lib.Dec.{ltb}
+use lib.ListN.{length, take, drop, getD}
+use lib.Dec.{ltb, eqb}
 use Rattle.laws.specs.Lists.{Bytes, sumOf}
+use Rattle.laws.specs.Promise.{Given}
 use Rattle.paper.specs.Numbers.{colon, newline, mostNibble, mostData, frameRoom}
 use Rattle.wire.specs.Digits.{digit}
 use Rattle.wire.specs.Frame.{digitsOf, frame}
-use Rattle.wire.specs.Parsing.{good, bodySays, brokenSays}
+use Rattle.wire.specs.Parsing.{bodySays, brokenSays}
 use Rattle.laws.specs.Refusals.{row, firstOf}
 use Rattle.wire.specs.Refusals.{faults, faultOf, refusalOf, writeRefusalOf}
-use Rattle.wire.specs.Calls.{writing, writtenAs, wellEnclosed, between, parsing, readAs, parsingChars}
+use Rattle.wire.specs.Calls.{writing, parsing, parsingChars}
+use Rattle.wire.specs.declared.Written.{Written}
+use Rattle.wire.specs.declared.Read.{Read}
+
+-- the reader's good answer, with the data in the buffer, and the writer's, with the frame in it
+abbrev pub isRead : ℕ → List ℕ → Given Read
+isRead command bytes = record { answer = Read.Frame command (length bytes); written = bytes }
+
+abbrev pub isWritten : List ℕ → Given Written
+isWritten slice = record { answer = Written.Len (length slice); written = slice }
 
 -- 1. Demand 2: "A frame written by one end is read by the other as the same command and data": read whole. (On the stream: `stream`.)
 abbrev pub WrittenIsRead : Type 0
 WrittenIsRead =
     (command : ℕ) (bytes : List ℕ) → command ≤ mostNibble → length bytes ≤ mostData → Bytes bytes → (room : ℕ) → mostData ≤ room
-    → parsing (frame command bytes) room ≡ readAs (good command bytes)
+    → parsing (frame command bytes) room ≡ isRead command bytes
 
 -- 2. Demand 2: "a frame read whole is byte for byte the one the writer makes for them".
 abbrev pub ReadIsWritten : Type 0
 ReadIsWritten =
-    (slice : List ℕ) (room : ℕ) (command : ℕ) (bytes : List ℕ) → parsing slice room ≡ readAs (good command bytes)
-    → (out : ℕ) → frameRoom ≤ out → writing command bytes out ≡ writtenAs slice
+    (slice : List ℕ) (room : ℕ) (command : ℕ) (bytes : List ℕ) → parsing slice room ≡ isRead command bytes
+    → (out : ℕ) → frameRoom ≤ out → writing command bytes out ≡ isWritten slice
 
 -- what the writer takes
 pub record Writable (command : ℕ) (bytes : List ℕ) : Type 0 where
@@ -41,10 +51,10 @@ pub record Sums (slice : List ℕ) (command : ℕ) (bytes : List ℕ) : Type 0 w
   pub sums : (command + sumOf bytes + check) % 256 ≡ 0x55
 
 abbrev pub WrittenSums : Type 0
-WrittenSums = (command : ℕ) (bytes : List ℕ) (room : ℕ) (slice : List ℕ) → writing command bytes room ≡ writtenAs slice → Sums slice command bytes
+WrittenSums = (command : ℕ) (bytes : List ℕ) (room : ℕ) (slice : List ℕ) → writing command bytes room ≡ isWritten slice → Sums slice command bytes
 
 abbrev pub ReadSums : Type 0
-ReadSums = (slice : List ℕ) (room : ℕ) (command : ℕ) (bytes : List ℕ) → parsing slice room ≡ readAs (good command bytes) → Sums slice command bytes
+ReadSums = (slice : List ℕ) (room : ℕ) (command : ℕ) (bytes : List ℕ) → parsing slice room ≡ isRead command bytes → Sums slice command bytes
 
 -- 4. Refusals 1 to 4 are "given exactly when" their condition holds and none before it does: of the characters of a frame that a newline
 -- ended, or a colon; of a slice, where 11 and the enclosing come first; and of characters alone. The writer's 11 and 12 likewise.
@@ -57,7 +67,12 @@ FaultGivenWhen =
 abbrev pub ReadGivenWhen : Type 0
 ReadGivenWhen =
     (slice : List ℕ) (room : ℕ)
-    → refusalOf (parsing slice room .answer) ≡ firstOf (row 11 (ltb room 35) ∷ row 2 (not (wellEnclosed slice)) ∷ faults (between slice) newline)
+    → refusalOf (parsing slice room .answer)
+    ≡ firstOf
+    (row 11 (ltb room 35)
+    -- "2 if the slice has under 2 bytes, or does not begin with a colon and end with a newline; then 1 to 4 on the bytes between"
+    ∷ row 2 (ltb (length slice) 2 || not (eqb (getD slice 0 0) colon && eqb (getD slice (length slice - 1) 0) newline))
+    ∷ faults (take (length slice - 2) (drop 1 slice)) newline)
 
 abbrev pub CharsGivenWhen : Type 0
 CharsGivenWhen = (chars : List ℕ) (room : ℕ) → refusalOf (parsingChars chars room .answer) ≡ firstOf (row 11 (ltb room 35) ∷ faults chars newline)
@@ -66,3 +81,11 @@ abbrev pub WriteGivenWhen : Type 0
 WriteGivenWhen =
     (command : ℕ) (bytes : List ℕ) (room : ℕ)
     → writeRefusalOf (writing command bytes room .answer) ≡ firstOf (row 11 (ltb room 75) ∷ row 12 (ltb 15 command || ltb 35 (length bytes)) ∷ [])
+
+-- Under a refusal nothing is written: "The data fill the front of the buffer only when 1 to 4 are passed."
+abbrev pub RefusedWritesNothing : Type 0
+RefusedWritesNothing =
+    (number room : ℕ)
+    → ((slice : List ℕ) → parsing slice room .answer ≡ Read.Refused number → parsing slice room .written ≡ [])
+    × ((chars : List ℕ) → parsingChars chars room .answer ≡ Read.Refused number → parsingChars chars room .written ≡ [])
+    × ((command : ℕ) (bytes : List ℕ) → writing command bytes room .answer ≡ Written.Refused number → writing command bytes room .written ≡ [])
