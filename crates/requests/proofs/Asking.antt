@@ -19,6 +19,7 @@ use Rattle.settings.specs.declared.Setting.{Setting}
 use Rattle.settings.specs.declared.Found.{Found}
 use Rattle.endian.proofs.Little.{length-little}
 use Rattle.answers.specs.Answers.{said}
+use Rattle.answers.specs.Requests.{getRequest}
 use Rattle.requests.specs.Calls.{getWritten, setOf, setWritten}
 use Rattle.requests.specs.Laws.{SetIsRequest}
 
@@ -26,6 +27,10 @@ use Rattle.requests.specs.Laws.{SetIsRequest}
 pub get-is : (id room : ℕ) → writing getCode (said id 0 []) room ≡ getWritten id room
 unfolding getWritten writing
 get-is id room = refl
+
+pub get-made : (id room : ℕ) → frameRoom ≤ room → getWritten id room ≡ writtenAs (getRequest id)
+unfolding getWritten
+get-made id room enough = rw (le-ltb room frameRoom enough)
 
 -- one byte or two hold a number
 pub holds-is : (width n : ℕ) → 1 ≤ width → width ≤ 2 → n < 65536 → (eqb width 2 || ltb n 256) ≡ ltb n (256 ^ width)
