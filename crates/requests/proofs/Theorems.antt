@@ -1,13 +1,11 @@
 -- The statements of specs/Laws.antt, proved. Assumes nothing.
-use mathlib.Core.Path.{_≡_, refl, sym, ap, _∙_}
+use mathlib.Core.Path.{refl, sym, ap, _∙_}
 use mathlib.Core.Bool.{Bool, true, false, cond, not, _&&_, false≢true}
 use mathlib.Core.List.{List, [], _∷_}
-use Prim.Native.Nat.{ℕ, _/_, _%_, _^_, _<_}
-use native.Mathlib.Omega.{arith}
+use Prim.Native.Nat.{ℕ, _^_}
 use borrow.Author.Tests.{eq-eqb}
 use lib.Dec.{ltb, eqb}
 use Rattle.laws.specs.Refusals.{row}
-use Rattle.wire.specs.Frame.{frame}
 use Rattle.wire.specs.Calls.{unwritten, writtenAs}
 use Rattle.wire.specs.declared.Written.{Written}
 use Rattle.settings.specs.Columns.{count, idAt, widthAt}
@@ -15,7 +13,7 @@ use Rattle.answers.specs.Requests.{getRequest, setRequest}
 use Rattle.requests.specs.Calls.{getWritten, setOf, setWritten, placeIn, writing}
 use Rattle.requests.specs.Laws.{Refuses, isShort, isFit, GetGivenWhen, SetGivenWhen, WriteGivenWhen, GetIsRequest, RequestIsGet, SetIsRequest, RequestIsSet}
 use Rattle.requests.specs.declared.Request.{Request}
-use Rattle.requests.proofs.Asking.{get-made, set-request}
+use Rattle.requests.proofs.Asking.{get-made, get-bytes, set-request}
 
 -- 11, then 12, then the bytes
 abbrev isLen : Written → Bool
@@ -50,9 +48,7 @@ write-given-when (Request.Set due) room = by (eqb (idAt (due .setting .index)) (
     by false = set-given-when count (due .number) room
 
 pub get-is-request : GetIsRequest
-get-is-request id room small enough =
-    let high : id / 256 % 256 ≡ id / 256 = omega arith in
-    get-made id room enough ∙ ap (λ (b : ℕ). writtenAs (frame 7 (id % 256 ∷ b ∷ 0 ∷ []))) high
+get-is-request id room small enough = get-made id room enough ∙ ap writtenAs (get-bytes id small)
 
 pub request-is-get : RequestIsGet
 unfolding writing
