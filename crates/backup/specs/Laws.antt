@@ -73,9 +73,6 @@ pub record Good (text numbers rest : List ℕ) : Type 0 where
   pub in-ranges : inRanges 0 numbers ≡ true
   pub text-is : text ≡ header ++ (rowsOf 0 numbers ++ rest)
 
--- Every text has one answer, and each is given exactly when its case holds: 13 at line 1; after good lines 14, 15 or 16 as the next one is
--- judged (`Judges` of rows), with its line; when all lines are good, 18 where bytes follow; when none follow, 17 where the table is not
--- allowed, which is by a pair, as every number is in its range; else the table is given whose number at each place is the one in its line.
 -- "A refusal returns its number, the line, the header being 1 (0 for 17 and 18) and the factory table."
 abbrev pub refusedAt : ℕ → ℕ → Backup
 refusedAt number line = record { table = factory; verdict = Checked.Refused number line }
@@ -83,6 +80,9 @@ refusedAt number line = record { table = factory; verdict = Checked.Refused numb
 abbrev pub accepted : Table → Backup
 accepted table = record { table = table; verdict = Checked.Accepted }
 
+-- Every text has one answer, and each is given exactly when its case holds: 13 at line 1; after good lines 14, 15 or 16 as the next one is
+-- judged (`Judges` of rows), with its line; when all lines are good, 18 where bytes follow; when none follow, 17 where the table is not
+-- allowed, which is by a pair, as every number is in its range; else the table is given whose number at each place is the one in its line.
 pub data Answers (text : List ℕ) : Backup → Type 0 where
   other-header : ((rest : List ℕ) → text ≡ header ++ rest → ⊥) → Answers text (refusedAt 13 1)
   at-line : {numbers rest : List ℕ} {number : ℕ} → Good text numbers rest → length numbers < count → Judges (length numbers) rest (Judged.Refused number)
