@@ -26,7 +26,7 @@ use Rattle.rows.specs.declared.Judged.{Judged}
 use Rattle.rows.proofs.Theorems.{row-is-judged-exactly}
 use Rattle.backup.specs.Text.{linesFor, textFor, refused, saysFor, placesFrom, places, header, textOf}
 use Rattle.backup.specs.Calls.{writing, readAs, parsing}
-use Rattle.backup.specs.Laws.{arePlaces, filled, IsRefused, rowsOf, inRanges, Good, Answers, other-header, at-line, more-bytes, a-pair, a-table, AnsweredExactly, Writes, short, not-allowed, its-text, WrittenExactly}
+use Rattle.backup.specs.Laws.{arePlaces, filled, IsRefused, rowsOf, inRanges, Good, Answers, other-header, at-line, more-bytes, a-pair, a-table, AnsweredExactly, Writes, short, not-allowed, its-text, WrittenExactly, TextIsLines}
 use Rattle.wire.specs.declared.Written.{Written}
 use Rattle.backup.specs.declared.Backup.{Backup}
 use Rattle.backup.proofs.Places.{from-length, are-places}
@@ -143,7 +143,7 @@ given text answer (other-header other) = read-says text ∙ ap readAs (says-head
 given text answer (at-line {numbers} {rest} {number = refusal} g less judged) = read-says text ∙ ap readAs (says-line numbers text rest g refusal less judged)
 given text answer (more-bytes {numbers} {rest} g long some) = read-says text ∙ ap readAs (says-more numbers text rest g long some)
 given text answer (a-pair {numbers} g long bad) = read-says text ∙ ap readAs (says-pair numbers text [] g long refl bad)
-given text answer (a-table {table} long ok is) = ap parsing is ∙ written-read table long ok
+given text answer (a-table {numbers} g long ok) = ap parsing (g .text-is ∙ whole-text numbers long) ∙ written-read (held numbers) long ok
 
 -- one line more
 ranges-more : (l : List ℕ) (k n : ℕ) → inRanges k l ≡ true → inRange (k + length l) n ≡ true → inRanges k (l ++ n ∷ []) ≡ true
@@ -171,7 +171,7 @@ module _ (text : List ℕ) where
   at-end numbers [] long g = by (allowed (held numbers)) refl
     where
       by : (b : Bool) → allowed (held numbers) ≡ b → Known
-      by true ok = (_, a-table long ok (g .text-is ∙ whole-text numbers long))
+      by true ok = (_, a-table g long ok)
       by false bad = (_, a-pair g long bad)
   at-end numbers (b ∷ rest) long g = (_, more-bytes g long (omega arith))
 
@@ -217,6 +217,9 @@ answered-exactly text answer = (
 )
 
 -- writing
+pub text-lines : TextIsLines
+text-lines table long = sym (whole-text (table .numbers) long) ∙ ap (λ (l : List ℕ). header ++ l) (append-nil (rowsOf 0 (table .numbers)))
+
 module _ (table : Table) (room : ℕ) where
   writes : (a b : Bool) → ltb room textRoom ≡ a → allowed table ≡ b → Writes table room (writing table room)
   writes true b e f = let h : room < textRoom = ltb-true _ _ e in subst (Writes table room) (sym (write-short table room h)) (short h)

@@ -4,7 +4,7 @@ use Rattle.wire.specs.Digits.{digit}
 use Rattle.lines.specs.Numbers.{decimalFrom}
 use Rattle.rows.specs.Row.{rowOf}
 use Rattle.backup.specs.Text.{linesFor, textFor, placesFrom, places, header, textOf}
-use Rattle.backup.specs.Laws.{ReadExactly, RefusedInOrder, AnsweredExactly, WrittenExactly, WrittenIsRead, ReadIsWritten, TextIsShort, FactoryIsPrinted}
+use Rattle.backup.specs.Laws.{ReadExactly, RefusedInOrder, AnsweredExactly, WrittenExactly, TextIsLines, WrittenIsRead, ReadIsWritten, TextIsShort, FactoryIsPrinted}
 use Rattle.backup.proofs.RoundTrip.{read-exactly, refused-order, written-read, read-written, text-fits}
 use Rattle.backup.proofs.Answering as answering
 
@@ -19,6 +19,9 @@ answered-exactly = answering.answered-exactly
 
 pub written-exactly : WrittenExactly
 written-exactly = answering.written-exactly
+
+pub text-is-lines : TextIsLines
+text-is-lines = answering.text-lines
 
 pub written-is-read : WrittenIsRead
 written-is-read = written-read

@@ -20,11 +20,10 @@ use Rattle.rows.specs.Calls.{judging}
 use Rattle.rows.specs.Laws.{Judges}
 use Rattle.rows.specs.declared.Judged.{Judged}
 use Rattle.paper.specs.Numbers as paper
-use Rattle.paper.specs.Numbers.{textRoom}
-use Rattle.wire.specs.Calls.{unwritten, writtenAs}
 use Rattle.wire.specs.declared.Written.{Written}
 use Rattle.backup.specs.Text.{textFor, header, textOf, good, refused, saysFor}
-use Rattle.backup.specs.Calls.{writing, readAs, parsing}
+use Rattle.backup.specs.Calls.{writing, parsing}
+use Rattle.backup.specs.declared.Checked.{Checked}
 use Rattle.backup.specs.declared.Backup.{Backup}
 
 -- 1. A text with any first line and lines for any places of the table that ascend: it is read as a table exactly when that table is allowed,
@@ -74,46 +73,58 @@ pub record Good (text numbers rest : List ℕ) : Type 0 where
   pub in-ranges : inRanges 0 numbers ≡ true
   pub text-is : text ≡ header ++ (rowsOf 0 numbers ++ rest)
 
+-- "A refusal returns its number, the line, the header being 1 (0 for 17 and 18) and the factory table."
+abbrev pub refusedAt : ℕ → ℕ → Backup
+refusedAt number line = record { table = factory; verdict = Checked.Refused number line }
+
+abbrev pub accepted : Table → Backup
+accepted table = record { table = table; verdict = Checked.Accepted }
+
 -- Every text has one answer, and each is given exactly when its case holds: 13 at line 1; after good lines 14, 15 or 16 as the next one is
 -- judged (`Judges` of rows), with its line; when all lines are good, 18 where bytes follow; when none follow, 17 where the table is not
--- allowed, which is by a pair, as every number is in its range; else the text is that of an allowed table, which is given.
+-- allowed, which is by a pair, as every number is in its range; else the table is given whose number at each place is the one in its line.
 pub data Answers (text : List ℕ) : Backup → Type 0 where
-  other-header : ((rest : List ℕ) → text ≡ header ++ rest → ⊥) → Answers text (readAs (refused paper.otherHeader 1))
+  other-header : ((rest : List ℕ) → text ≡ header ++ rest → ⊥) → Answers text (refusedAt 13 1)
   at-line : {numbers rest : List ℕ} {number : ℕ} → Good text numbers rest → length numbers < count → Judges (length numbers) rest (Judged.Refused number)
-      → Answers text (readAs (refused number (2 + length numbers)))
-  more-bytes : {numbers rest : List ℕ} → Good text numbers rest → length numbers ≡ count → 0 < length rest → Answers text (readAs (refused paper.moreBytes 0))
-  a-pair : {numbers : List ℕ} → Good text numbers [] → length numbers ≡ count → allowed (record { numbers = numbers }) ≡ false
-      → Answers text (readAs (refused paper.pairDisagrees 0))
-  a-table : {table : Table} → length (table .numbers) ≡ count → allowed table ≡ true → text ≡ textOf table → Answers text (readAs (good table))
+      → Answers text (refusedAt number (2 + length numbers))
+  more-bytes : {numbers rest : List ℕ} → Good text numbers rest → length numbers ≡ count → 0 < length rest → Answers text (refusedAt 18 0)
+  a-pair : {numbers : List ℕ} → Good text numbers [] → length numbers ≡ count → allowed (record { numbers = numbers }) ≡ false → Answers text (refusedAt 17 0)
+  a-table : {numbers : List ℕ} → Good text numbers [] → length numbers ≡ count → allowed (record { numbers = numbers }) ≡ true
+      → Answers text (accepted (record { numbers = numbers }))
 
 abbrev pub AnsweredExactly : Type 0
 AnsweredExactly = (text : List ℕ) (answer : Backup) → (parsing text ≡ answer) ↔ Answers text answer
 
--- Writing: 11 exactly where the room is short; with room, 12 exactly where the table is not allowed; else its text.
+-- Writing: 11 exactly where the room is under 512 bytes; with room, 12 exactly where the table is not allowed; no byte is written under
+-- either; else its text.
 pub data Writes (table : Table) (room : ℕ) : Given Written → Type 0 where
-  short : room < textRoom → Writes table room (unwritten paper.shortBuffer)
-  not-allowed : textRoom ≤ room → allowed table ≡ false → Writes table room (unwritten paper.notAllowed)
-  its-text : textRoom ≤ room → allowed table ≡ true → Writes table room (writtenAs (textOf table))
+  short : room < 512 → Writes table room (record { answer = Written.Refused 11; written = [] })
+  not-allowed : 512 ≤ room → allowed table ≡ false → Writes table room (record { answer = Written.Refused 12; written = [] })
+  its-text : 512 ≤ room → allowed table ≡ true → Writes table room (record { answer = Written.Len (length (textOf table)); written = textOf table })
 
 abbrev pub WrittenExactly : Type 0
 WrittenExactly = (table : Table) (room : ℕ) (answer : Given Written) → (writing table room ≡ answer) ↔ Writes table room answer
 
+-- The text of a table is the first line, and then for each place in turn the line with the number that the table has there.
+abbrev pub TextIsLines : Type 0
+TextIsLines = (table : Table) → length (table .numbers) ≡ count → textOf table ≡ header ++ rowsOf 0 (table .numbers)
+
 -- 3. Reading a written backup gives the table back. (A table has its numbers in every value of the type, which `length` says.)
 abbrev pub WrittenIsRead : Type 0
-WrittenIsRead = (table : Table) → length (table .numbers) ≡ count → allowed table ≡ true → parsing (textOf table) ≡ readAs (good table)
+WrittenIsRead = (table : Table) → length (table .numbers) ≡ count → allowed table ≡ true → parsing (textOf table) ≡ accepted table
 
 -- 4. A text that is read without refusal is byte for byte the one that the writer makes for the table read, and that table is allowed.
 pub record Text (table : Table) (text : List ℕ) : Type 0 where
   pub is-allowed : allowed table ≡ true
   pub is-whole : length (table .numbers) ≡ count
-  pub is-written : (room : ℕ) → textRoom ≤ room → writing table room ≡ writtenAs text
+  pub is-written : (room : ℕ) → 512 ≤ room → writing table room ≡ record { answer = Written.Len (length text); written = text }
 
 abbrev pub ReadIsWritten : Type 0
-ReadIsWritten = (text : List ℕ) (table : Table) → parsing text ≡ readAs (good table) → Text table text
+ReadIsWritten = (text : List ℕ) (table : Table) → parsing text ≡ accepted table → Text table text
 
 -- 5. Every text fits the room that writing needs.
 abbrev pub TextIsShort : Type 0
-TextIsShort = (table : Table) → allowed table ≡ true → length (textOf table) ≤ textRoom
+TextIsShort = (table : Table) → allowed table ≡ true → length (textOf table) ≤ 512
 
 -- 6. "The factory table is exactly these 27 lines": the two fields of each as they are printed there, a tab (9) between them and a newline
 -- (10) after them.

@@ -23,6 +23,7 @@ use Rattle.wire.specs.Laws as wire
 use Rattle.laws.specs.Lists.{Bytes}
 use Rattle.settings.specs.Columns.{count, idAt, widthAt}
 use Rattle.settings.specs.Rules.{allowedFor}
+use Rattle.settings.specs.Calls.{settingAt}
 use Rattle.tables.specs.Rules as tables
 use Rattle.tables.specs.Rules.{numberAt, partnerNumber, changed}
 use Rattle.tables.specs.declared.Table.{Table}
@@ -44,6 +45,8 @@ use Rattle.reply.specs.Replies.{flagOf, rest}
 use Rattle.reply.specs.Calls.{parsing}
 use Rattle.reply.specs.declared.Status.{Status}
 use Rattle.reply.specs.declared.Reply.{Reply}
+use Rattle.requests.specs.Calls.{getWritten, setWritten, writing}
+use Rattle.requests.specs.declared.Request.{Request}
 use Rattle.follow.specs.Laws as follow
 use Rattle.demands.specs.Sets.{placeIn, valueIn, isComplete}
 use Rattle.demands.specs.Talk.{Deed, isCalls, talk, saidToAll}
@@ -179,20 +182,35 @@ RepliesAreUnderstood =
     let heard = Cutting.calls boxHears (heldOf outside) (given .written) offers in
     heard .taken ≡ length (given .written) → Understands board piece given heard
 
--- Every request that the box writes is read by a board as that request: a Get of its id; a complete Set of its setting to its number.
+-- Every request that the box writes is read by a board as that request: a Get of its id; a complete Set of its setting to its number. Said of
+-- the bytes that the box's calls write with room enough, whatever follows them on the serial line: they are one frame, and a board that they
+-- are handed to, in any cutting and whatever frame it holds unfinished, says of it what it says of that request.
+pub record ReadAs (command : ℕ) (bytes : List ℕ) (request more : List ℕ) : Type 0 where
+  pub frame-is : framesOf (request ++ more) ≡ good command bytes ∷ framesOf more
+  pub board-says : (board : Board) (deeds : List Deed) → length (board .held .chars) ≡ mostHeld → allowed (board .held) ≡ true → isCalls deeds ≡ true
+      → talk board (request ++ more) deeds .taken ≡ length (request ++ more)
+      → talk board (request ++ more) deeds .said ≡ saidToAll (board .core) (thenWritten (board .held) command bytes more)
+
+pub record GetRead (id : ℕ) (request more : List ℕ) : Type 0 where
+  pub read-as : ReadAs getCode (said id 0 []) request more
+  pub id-is : fromLittle (take 2 (said id 0 [])) ≡ id
+
 abbrev pub GetIsUnderstood : Type 0
 GetIsUnderstood =
-    (id : ℕ) (more : List ℕ) → id < 256 ^ 2
-    → (framesOf (getRequest id ++ more) ≡ good getCode (said id 0 []) ∷ framesOf more) × (fromLittle (take 2 (said id 0 [])) ≡ id)
+    (id room : ℕ) (more : List ℕ) → id < 256 ^ 2 → frameRoom ≤ room
+    → GetRead id (getWritten id room .written) more × GetRead id (writing (Request.Get id) room .written) more
 
-pub record SetRead (k n : ℕ) (more : List ℕ) : Type 0 where
-  pub frame-is : framesOf (setRequest k n ++ more) ≡ good setCode (setData k n) ∷ framesOf more
+pub record SetRead (k n : ℕ) (request more : List ℕ) : Type 0 where
+  pub read-as : ReadAs setCode (setData k n) request more
   pub complete : isComplete setCode (setData k n) ≡ true
   pub setting-is : placeIn (setData k n) ≡ k
   pub number-is : fromLittle (valueIn (setData k n)) ≡ n
 
 abbrev pub SetIsUnderstood : Type 0
-SetIsUnderstood = (k n : ℕ) (more : List ℕ) → k < count → n < 256 ^ widthAt k → SetRead k n more
+SetIsUnderstood =
+    (k n room : ℕ) (more : List ℕ) → k < count → n < 256 ^ widthAt k → frameRoom ≤ room
+    → SetRead k n (setWritten k n room .written) more
+    × SetRead k n (writing (Request.Set (record { setting = settingAt k; number = n })) room .written) more
 
 -- 4. For any events on a stream, the count that the last of a row of calls on a follower tells is the number of them that matched the Set then
 -- due, by `matched`, which has no follower in it.

@@ -1,8 +1,8 @@
 -- The requests: their data, and what the calls make of them. Assumes nothing.
 use mathlib.Core.Path.{_≡_, refl, sym, ap, _∙_}
 use mathlib.Core.Bool.{Bool, true, false, cond, _||_, false≢true}
-use mathlib.Core.List.{List, []}
-use Prim.Native.Nat.{ℕ, zero, suc, _+_, _^_, _≤_, _<_}
+use mathlib.Core.List.{List, [], _∷_}
+use Prim.Native.Nat.{ℕ, zero, suc, _+_, _/_, _%_, _^_, _≤_, _<_}
 use native.Mathlib.Omega.{arith}
 use borrow.Author.Tests.{lt-ltb, le-ltb, ltb-true, ltb-false}
 use lib.ListN.{length, take}
@@ -19,13 +19,23 @@ use Rattle.settings.specs.declared.Setting.{Setting}
 use Rattle.settings.specs.declared.Found.{Found}
 use Rattle.endian.proofs.Little.{length-little}
 use Rattle.answers.specs.Answers.{said}
+use Rattle.answers.specs.Requests.{getRequest}
 use Rattle.requests.specs.Calls.{getWritten, setOf, setWritten}
-use Rattle.requests.specs.Laws.{SetIsRequest}
+use Rattle.requests.specs.Laws.{getFrame, SetIsRequest}
 
 -- a Get is its frame, by the frame writer's rule
 pub get-is : (id room : ℕ) → writing getCode (said id 0 []) room ≡ getWritten id room
 unfolding getWritten writing
 get-is id room = refl
+
+pub get-made : (id room : ℕ) → frameRoom ≤ room → getWritten id room ≡ writtenAs (getRequest id)
+unfolding getWritten
+get-made id room enough = rw (le-ltb room frameRoom enough)
+
+pub get-bytes : (id : ℕ) → id < 256 ^ 2 → getRequest id ≡ getFrame id
+get-bytes id small =
+    let high : id / 256 % 256 ≡ id / 256 = omega arith in
+    ap (λ (b : ℕ). frame 7 (id % 256 ∷ b ∷ 0 ∷ [])) high
 
 -- one byte or two hold a number
 pub holds-is : (width n : ℕ) → 1 ≤ width → width ≤ 2 → n < 65536 → (eqb width 2 || ltb n 256) ≡ ltb n (256 ^ width)

@@ -4,5 +4,6 @@ pub mod Differing
 pub mod Restoring
 pub mod Writing
 pub mod Rows
+pub mod Refusing
 pub mod Theorems
 pub mod Same

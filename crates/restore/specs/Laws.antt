@@ -2,12 +2,14 @@
 -- Assumes nothing.
 use Prim.Native.Nat.{ℕ, zero, suc, _+_, _≤_, _<_}
 use mathlib.Core.Path.{_≡_}
-use mathlib.Core.Bool.{Bool, true, false, cond, not, _&&_}
+use mathlib.Core.Bool.{Bool, true, false, cond, not, _&&_, _||_}
 use mathlib.Core.List.{List, [], _∷_}
+use mathlib.Core.Option.{Option, none, some}
 use lib.ListN.{length, getD}
 use lib.Dec.{ltb, eqb}
-use Rattle.paper.specs.Numbers as paper
 use Rattle.laws.specs.Lists.{every}
+use Rattle.laws.specs.Promise.{Given}
+use Rattle.laws.specs.Refusals.{Row, row, firstOf}
 use Rattle.settings.specs.Columns.{count, partnerAt, roleAt}
 use Rattle.settings.specs.Rules.{agrees}
 use Rattle.tables.specs.Rules.{allowed, numberAt}
@@ -15,9 +17,11 @@ use Rattle.tables.specs.Calls.{setTo}
 use Rattle.tables.specs.declared.Table.{Table}
 use Rattle.tables.specs.declared.Answer.{Answer}
 use Rattle.restore.specs.Order.{differs, order, wanted, dueSets}
-use Rattle.restore.specs.Calls.{bothAllowed, framesFor, listRoom, dueIn}
+use Rattle.restore.specs.Calls.{bothAllowed, framesFor, listing, setsDue, dueIn}
 use Rattle.requests.specs.declared.Wanted.{Wanted}
 use Rattle.restore.specs.declared.Due.{Due}
+use Rattle.restore.specs.declared.Listed.{Listed}
+use Rattle.restore.specs.declared.Sets.{Sets}
 
 -- two allowed tables. (A table has its numbers in every value of the type, which `length` says.)
 pub record Tables (from to : Table) : Type 0 where
@@ -79,18 +83,62 @@ pub record Restores (from to : Table) : Type 0 where
 abbrev pub ListRestores : Type 0
 ListRestores = (from to : Table) → Tables from to → Restores from to
 
--- 4. There are no more Sets than settings, and the list fits its room.
+-- 4. Which refusal is given: its number is that of the first row whose condition holds, and none where no condition holds. "Refusals: 11
+-- under 390 bytes of room, always, then 12." (390 is 15 bytes for each of the 26 settings.) Under a refusal no byte is written.
+abbrev pub isStray : Table → Table → Row
+isStray from to = row 12 (not (allowed from) || not (allowed to))
+
+abbrev pub listNumber : Listed → Option ℕ
+listNumber (Listed.List len sets) = none
+listNumber (Listed.Refused number) = some number
+
+abbrev pub setsNumber : Sets → Option ℕ
+setsNumber (Sets.Due sets) = none
+setsNumber (Sets.Refused number) = some number
+
+abbrev pub dueNumber : Due → Option ℕ
+dueNumber (Due.Set wanted) = none
+dueNumber Due.Nothing = none
+dueNumber (Due.Refused number) = some number
+
+pub record ListRefuses (from to : Table) (room : ℕ) (given : Given Listed) : Type 0 where
+  pub number-is : listNumber (given .answer) ≡ firstOf (row 11 (ltb room 390) ∷ isStray from to ∷ [])
+  pub none-written : (number : ℕ) → given .answer ≡ Listed.Refused number → given .written ≡ []
+
+abbrev pub ListGivenWhen : Type 0
+ListGivenWhen = (from to : Table) (room : ℕ) → ListRefuses from to room (listing from to room)
+
+abbrev pub SetsGivenWhen : Type 0
+SetsGivenWhen = (from to : Table) → setsNumber (setsDue from to) ≡ firstOf (isStray from to ∷ [])
+
+abbrev pub DueGivenWhen : Type 0
+DueGivenWhen = (from to : Table) (done : ℕ) → dueNumber (dueIn from to done) ≡ firstOf (isStray from to ∷ [])
+
+-- Otherwise the frames of the list are written end to end, and their length and the number of settings that differ are told.
+abbrev pub ListIsGiven : Type 0
+ListIsGiven =
+    (from to : Table) (room : ℕ) → 390 ≤ room → allowed from ≡ true → allowed to ≡ true
+    → listing from to room
+    ≡ record {
+      answer = Listed.List (length (framesFor (dueSets from to))) (differing count from to);
+      written = framesFor (dueSets from to);
+    }
+
+abbrev pub SetsAreTold : Type 0
+SetsAreTold = (from to : Table) → allowed from ≡ true → allowed to ≡ true → setsDue from to ≡ Sets.Due (differing count from to)
+
+-- There are no more Sets than settings, and the list fits its room.
 abbrev pub SetsAreFew : Type 0
 SetsAreFew = (from to : Table) → length (dueSets from to) ≤ count
 
 abbrev pub ListIsShort : Type 0
-ListIsShort = (from to : Table) → length (framesFor (dueSets from to)) ≤ listRoom
+ListIsShort = (from to : Table) → length (framesFor (dueSets from to)) ≤ 390
 
 -- 5. What is due tells how many Sets there are: one is due after fewer than all, namely the next of the order, and none after all.
 pub data Tells (from to : Table) (done : ℕ) : Due → Type 0 where
   a-set : (k : ℕ) → k ≡ getD (order from to) done 0 → k < count → bothAllowed from to ≡ true → done < length (dueSets from to) → Tells from to done (Due.Set (wanted to k))
   none-left : bothAllowed from to ≡ true → length (dueSets from to) ≤ done → Tells from to done Due.Nothing
-  not-allowed : bothAllowed from to ≡ false → Tells from to done (Due.Refused paper.notAllowed)
+  not-allowed : bothAllowed from to ≡ false → Tells from to done (Due.Refused 12)
 
 abbrev pub DueTells : Type 0
 DueTells = (from to : Table) (done : ℕ) → Tells from to done (dueIn from to done)
