@@ -15,7 +15,7 @@ use Rattle.stream.specs.Calls.{allowed, unfinished, heldOf, unheard, heardOf, h
 use Rattle.stream.specs.Laws.{Cut}
 use Rattle.stream.specs.declared.Held.{Held}
 use Rattle.stream.specs.declared.Event.{Event}
-use Rattle.stream.proofs.Answers.{hearing-short, hearing-stray, hearing-heard}
+use Rattle.stream.proofs.Answers.{hearing-short, hearing-heard}
 use Rattle.stream.proofs.Theorems.{any-cutting, whole-is-heard, all-is-taken, cutting-changes-nothing, empty-changes-nothing, refused-is-small}
 use Rattle.listen.specs.Hearing.{boxHearing, boxHears}
 
@@ -28,10 +28,6 @@ module _ (held : Held) (piece : List ℕ) (room : ℕ) where
   pub box-short : room < 35 → boxHearing held piece room ≡ unheard held 11
   unfolding boxHearing
   box-short = hearing-short held piece room
-
-  pub box-stray : 35 ≤ room → allowed held ≡ false → boxHearing held piece room ≡ unheard held 12
-  unfolding boxHearing
-  box-stray = hearing-stray held piece room
 
   pub box-heard : 35 ≤ room → allowed held ≡ true → boxHearing held piece room ≡ heardOf (unfinished held) piece
   unfolding boxHearing

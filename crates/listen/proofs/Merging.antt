@@ -1,218 +1,176 @@
--- What a listener tells of the stream is what the stream says, whatever its counts. Assumes nothing.
+-- What a listener tells of the stream is what the stream says, whatever the times. Assumes nothing.
 use mathlib.Core.Path.{_≡_, refl, sym, ap, ap₂, subst, _∙_}
-use mathlib.Core.Bool.{Bool, true, false, cond, not, _&&_, false≢true}
-use mathlib.Core.List.{List, [], _∷_, _++_, append-nil}
-use Prim.Native.Nat.{ℕ, zero, suc, _+_, _≤_, _<_, min}
-use native.Mathlib.Omega.{arith}
-use borrow.Author.Tests.{ltb-true, ltb-false, le-leb}
+use mathlib.Core.Bool.{Bool, true, false, cond, not}
+use mathlib.Core.List.{List, [], _∷_, _++_}
+use Prim.Native.Nat.{ℕ, suc, _+_}
+use borrow.Author.Tests.{ltb-true, ltb-false, not-true}
 use lib.ListN.{length, take, drop}
-use lib.Seq.{take-nil, take-length}
+use lib.Seq.{take-length}
 use lib.Dec.{ltb, leb}
 use Rattle.laws.specs.Promise.{Given}
 use Rattle.laws.specs.Cutting.{Step, Offer, calls, ready}
-use Rattle.laws.proofs.Bools.{both}
+use Rattle.laws.proofs.Bools.{and-left, and-right}
 use Rattle.wire.specs.Parsing.{Ended}
 use Rattle.stream.specs.Stream.{leftBy}
-use Rattle.stream.specs.Calls.{allowed, heldOf}
+use Rattle.stream.specs.Calls.{heldOf}
 use Rattle.stream.specs.Laws.{frameIn}
 use Rattle.stream.specs.Laws as stream
 use Rattle.stream.specs.declared.Held.{Held}
 use Rattle.stream.specs.declared.Event.{Event}
+use Rattle.stream.proofs.Helds.{held-long}
 use Rattle.stream.proofs.Reached.{left-allowed}
 use Rattle.listen.specs.declared.Listener.{Listener}
-use Rattle.listen.specs.declared.Told.{Told}
 use Rattle.listen.specs.declared.Listened.{Listened}
 use Rattle.listen.specs.Hearing.{boxHearing, boxHears}
-use Rattle.listen.specs.Calls.{mostQuiet, mostNoise, quieter, louder, afterNoise, afterSilence, toldBy, listenerAllowed, listening}
-use Rattle.listen.specs.Laws.{framesIn, Turn, readied, listens, listenerAt, AnyCutting, WholeIsTold, AllIsTaken, unasked, NoiseIsCounted}
-use Rattle.listen.proofs.Hearing.{box-short, box-cutting, box-all, one-cut, small-refusal}
-use Rattle.listen.proofs.Settling.{listening-short, listening-silent, listening-heard, filled, none-heard}
+use Rattle.listen.specs.Calls.{isOver, toldBy, listening}
+use Rattle.listen.specs.Laws.{framesIn, Turn, readied, listens, listenerAt, askedBy, inTime, lastAsked, AnyCutting, WholeIsTold, AllIsTaken}
+use Rattle.listen.proofs.Hearing.{box-short, box-empty, box-cutting, box-all, one-cut, small-refusal}
+use Rattle.listen.proofs.Settling.{listening-short, listening-late, listening-heard}
 
 -- what is told, read as frames
+frames-told : (e : Event) (written : List ℕ) → ((n : ℕ) → e ≡ Event.Refused n → ltb 4 n ≡ false) → framesIn (toldBy e) written ≡ frameIn e written
+frames-told Event.Nothing written small = refl
+frames-told (Event.Frame command len) written small = refl
+frames-told (Event.Refused n) written small = rw (small n refl)
 
-waits-unframed : (t : Bool) (written : List ℕ) → framesIn (cond t Told.NoAnswer Told.Nothing) written ≡ []
-waits-unframed true written = refl
-waits-unframed false written = refl
-
-noise-unframed : (noise : ℕ) (written : List ℕ) → framesIn (afterNoise noise) written ≡ []
-unfolding afterNoise
-noise-unframed noise written = waits-unframed (leb mostNoise noise) written
-
-silence-unframed : (quiet : ℕ) (written : List ℕ) → framesIn (afterSilence quiet) written ≡ []
-unfolding afterSilence
-silence-unframed quiet written = waits-unframed (leb mostQuiet quiet) written
-
-frames-told : (noise : ℕ) (e : Event) (written : List ℕ) → ((n : ℕ) → e ≡ Event.Refused n → ltb 4 n ≡ false) → framesIn (toldBy noise e) written ≡ frameIn e written
-frames-told noise Event.Nothing written small = noise-unframed noise written
-frames-told noise (Event.Frame command len) written small = refl
-frames-told noise (Event.Refused n) written small = rw (small n refl)
-
--- both counts are within their ends
-abbrev inEnds : Listener → Bool
-inEnds l = leb (l .quiet) mostQuiet && leb (l .noise) mostNoise
-
-in-ends : (quiet noise : ℕ) → quiet ≤ mostQuiet → noise ≤ mostNoise → (leb quiet mostQuiet && leb noise mostNoise) ≡ true
-in-ends quiet noise h k = both _ _ (le-leb quiet mostQuiet h) (le-leb noise mostNoise k)
-
--- A listener beside the stream alone: the same frame held, the same frames told, the same bytes taken; its noise is counted.
-record Alike (noise : ℕ) (mine : Step Listener Ended) (heard : Step Held Ended) : Type 0 where
+-- A listener beside the stream alone: the same frame held, the same frames told, the same bytes taken; and its two times.
+pub record Alike (begun asked : ℕ) (mine : Step Listener Ended) (heard : Step Held Ended) : Type 0 where
   pub held-alike : mine .state .held ≡ heard .state
   pub events-alike : mine .events ≡ heard .events
   pub taken-alike : mine .taken ≡ heard .taken
-  pub quiet-few : mine .state .quiet ≤ mostQuiet
-  pub noise-counted : mine .state .noise ≡ min mostNoise (noise + mine .taken)
+  pub begun-is : mine .state .begun ≡ begun
+  pub asked-is : mine .state .asked ≡ asked
 
 abbrev stepFrom : Given Listened → Step Listener Ended
 stepFrom given =
     record { state = given .answer .listener; events = framesIn (given .answer .told) (given .written); taken = given .answer .taken }
 
-module _ (earlier : List ℕ) (quiet noise : ℕ) (few : quiet ≤ mostQuiet) (low : noise ≤ mostNoise) (room : ℕ) where
+-- a read whose time is over hears none of its bytes
+abbrev pub heardCount : Bool → ℕ → ℕ
+heardCount over n = cond over 0 n
+
+module _ (earlier : List ℕ) (begun asked time room : ℕ) (bytes : List ℕ) (n : ℕ) where
   abbrev now : Listener
-  now = listenerAt earlier quiet noise
+  now = listenerAt earlier begun asked
 
-  short-alike : (piece : List ℕ) → room < 35 → Alike noise (stepFrom (listening now piece room)) (boxHears (heldOf (leftBy earlier)) room piece)
-  short-alike piece h =
-      rw (listening-short now piece room h, box-short (heldOf (leftBy earlier)) piece room h)
-      (record { held-alike = refl; events-alike = refl; taken-alike = refl; quiet-few = few; noise-counted = omega arith })
+  abbrev Beside : Bool → Type 0
+  Beside over = Alike begun asked (stepFrom (listening now (take n bytes) time room)) (boxHears (heldOf (leftBy earlier)) room (take (heardCount over n) bytes))
 
-  module _ (enough : 35 ≤ room) where
-    none-alike : Alike noise (stepFrom (listening now [] room)) (boxHears (heldOf (leftBy earlier)) room [])
-    none-alike =
-        let cut : stream.Cut earlier [] (boxHears (heldOf (leftBy earlier)) room []) = one-cut earlier [] room in
-        let none = none-heard (heldOf (leftBy earlier)) room enough (left-allowed earlier) in
-        let zero-taken : boxHearing (heldOf (leftBy earlier)) [] room .answer .taken ≤ 0 = cut .within in
-        let stays : boxHearing (heldOf (leftBy earlier)) [] room .answer .held ≡ heldOf (leftBy earlier) = rw (take-nil, append-nil) at (cut .state-is) in
-        rw (listening-silent now [] room enough (in-ends quiet noise few low) (left-allowed earlier) refl)
-        (record {
-          held-alike = sym stays;
-          events-alike = silence-unframed (quieter quiet) [] ∙ rw (none .0);
-          taken-alike = omega arith;
-          quiet-few = omega arith;
-          noise-counted = omega arith;
-        })
+  short-alike : (over : Bool) → ltb room 35 ≡ true → Beside over
+  short-alike over e =
+      let h = ltb-true room 35 e in
+      rw (listening-short now (take n bytes) time room h, box-short (heldOf (leftBy earlier)) (take (heardCount over n) bytes) room h)
+      (record { held-alike = refl; events-alike = refl; taken-alike = refl; begun-is = refl; asked-is = refl })
 
-    some-alike : (b : ℕ) (bs : List ℕ) → Alike noise (stepFrom (listening now (b ∷ bs) room)) (boxHears (heldOf (leftBy earlier)) room (b ∷ bs))
-    some-alike b bs =
-        let heard = boxHearing (heldOf (leftBy earlier)) (b ∷ bs) room in
-        rw (listening-heard now (b ∷ bs) room enough (in-ends quiet noise few low) (left-allowed earlier) (filled b bs))
-        (record {
-          held-alike = refl;
-          events-alike = frames-told (louder noise (heard .answer .taken)) (heard .answer .event) (heard .written) (small-refusal (heldOf (leftBy earlier)) (left-allowed earlier) (b ∷ bs) room enough);
-          taken-alike = refl;
-          quiet-few = omega arith;
-          noise-counted = refl;
-        })
+  long-alike : (over : Bool) → ltb room 35 ≡ false → isOver begun asked time ≡ over → Beside over
+  long-alike true e f =
+      let enough = ltb-false room 35 e in
+      rw (listening-late now (take n bytes) time room enough (left-allowed earlier) f, box-empty (heldOf (leftBy earlier)) (held-long (leftBy earlier)) room (left-allowed earlier) enough)
+      (record { held-alike = refl; events-alike = refl; taken-alike = refl; begun-is = refl; asked-is = refl })
+  long-alike false e f =
+      let enough = ltb-false room 35 e in
+      let heard = boxHearing (heldOf (leftBy earlier)) (take n bytes) room in
+      rw (listening-heard now (take n bytes) time room enough (left-allowed earlier) f)
+      (record {
+        held-alike = refl;
+        events-alike = frames-told (heard .answer .event) (heard .written) (small-refusal (heldOf (leftBy earlier)) (left-allowed earlier) (take n bytes) room enough);
+        taken-alike = refl;
+        begun-is = refl;
+        asked-is = refl;
+      })
 
-  long-alike : (piece : List ℕ) → 35 ≤ room → Alike noise (stepFrom (listening now piece room)) (boxHears (heldOf (leftBy earlier)) room piece)
-  long-alike [] h = none-alike h
-  long-alike (b ∷ bs) h = some-alike h b bs
-
-  one-alike : (piece : List ℕ) → Alike noise (stepFrom (listening now piece room)) (boxHears (heldOf (leftBy earlier)) room piece)
-  one-alike piece = by (ltb room 35) refl
+  one-alike : Beside (isOver begun asked time)
+  one-alike = by (ltb room 35) refl
     where
-      by : (t : Bool) → ltb room 35 ≡ t → Alike noise (stepFrom (listening now piece room)) (boxHears (heldOf (leftBy earlier)) room piece)
-      by true e = short-alike piece (ltb-true room 35 e)
-      by false e = long-alike piece (ltb-false room 35 e)
+      by : (t : Bool) → ltb room 35 ≡ t → Beside (isOver begun asked time)
+      by true e = short-alike (isOver begun asked time) e
+      by false e = long-alike (isOver begun asked time) e refl
 
--- with a request before it, or none
-abbrev Turned : Bool → Type 0
-Turned asks =
-    (earlier : List ℕ) (quiet noise : ℕ) → quiet ≤ mostQuiet → noise ≤ mostNoise → (room : ℕ) (piece : List ℕ)
-    → Alike (cond asks zero noise) (stepFrom (listening (readied (listenerAt earlier quiet noise) asks) piece room)) (boxHears (heldOf (leftBy earlier)) room piece)
+-- a request before it, or none, changes when the last one was sent
+ready-is : (earlier : List ℕ) (begun asked : ℕ) (turn : Turn) → readied (listenerAt earlier begun asked) turn ≡ listenerAt earlier begun (askedBy asked turn)
+ready-is earlier begun asked turn = by (turn .asks) refl
+  where
+    by : (t : Bool) → turn .asks ≡ t → readied (listenerAt earlier begun asked) turn ≡ listenerAt earlier begun (askedBy asked turn)
+    by true e = rw e
+    by false e = rw e
 
-turned : (asks : Bool) → Turned asks
-turned true earlier quiet noise few low room piece = one-alike earlier 0 0 (omega arith) (omega arith) room piece
-turned false earlier quiet noise few low room piece = one-alike earlier quiet noise few low room piece
+-- A row of reads beside a row of calls on the stream, which are offered what the reads in time are.
+abbrev pub offered : ℕ → ℕ → List (Offer Turn) → List (Offer ℕ)
+offered begun asked [] = []
+offered begun asked (o ∷ more) =
+    record { count = heardCount (isOver begun (askedBy asked (o .with)) (o .with .time)) (o .count); with = o .with .room } ∷ offered begun (askedBy asked (o .with)) more
 
--- A row of reads beside a row of calls on the stream.
-record AllAlike (noise : ℕ) (plain : Bool) (mine : Step Listener Ended) (heard : Step Held Ended) : Type 0 where
-  pub held-alike : mine .state .held ≡ heard .state
-  pub events-alike : mine .events ≡ heard .events
-  pub taken-alike : mine .taken ≡ heard .taken
-  pub quiet-few : mine .state .quiet ≤ mostQuiet
-  pub noise-low : mine .state .noise ≤ mostNoise
-  pub noise-counted : plain ≡ true → mine .state .noise ≡ min mostNoise (noise + mine .taken)
-
-abbrev then : {S : Type 0} → Step S Ended → Step S Ended → Step S Ended
-then here later = record { state = later .state; events = here .events ++ later .events; taken = here .taken + later .taken }
-
-joined : (asks plain : Bool) (noise : ℕ) (here later : Step Listener Ended) (heard heard′ : Step Held Ended) → Alike (cond asks zero noise) here heard
-    → AllAlike (here .state .noise) plain later heard′ → AllAlike noise (not asks && plain) (then here later) (then heard heard′)
-joined asks plain noise here later heard heard′ h l =
+joined : (begun asked asked′ : ℕ) (here later : Step Listener Ended) (heard heard′ : Step Held Ended) → Alike begun asked here heard → Alike begun asked′ later heard′
+    → Alike begun asked′
+    (record { state = later .state; events = here .events ++ later .events; taken = here .taken + later .taken })
+    (record { state = heard′ .state; events = heard .events ++ heard′ .events; taken = heard .taken + heard′ .taken })
+joined begun asked asked′ here later heard heard′ h l =
     record {
       held-alike = l .held-alike;
       events-alike = rw (h .events-alike, l .events-alike);
       taken-alike = rw (h .taken-alike, l .taken-alike);
-      quiet-few = l .quiet-few;
-      noise-low = l .noise-low;
-      noise-counted = counted asks h;
+      begun-is = l .begun-is;
+      asked-is = l .asked-is;
     }
-  where
-    counted : (t : Bool) → Alike (cond t zero noise) here heard → (not t && plain) ≡ true → later .state .noise ≡ min mostNoise (noise + (here .taken + later .taken))
-    counted true k e = absurd (false≢true e)
-    counted false k e =
-        let after : later .state .noise ≡ min mostNoise (here .state .noise + later .taken) = l .noise-counted e in
-        let first : here .state .noise ≡ min mostNoise (noise + here .taken) = k .noise-counted in
-        omega arith
 
--- how much room there is, alone
-abbrev rooms : List (Offer Turn) → List (Offer ℕ)
-rooms [] = []
-rooms (o ∷ more) = record { count = o .count; with = o .with .room } ∷ rooms more
-
-all-alike : (earlier : List ℕ) (l : Listener) → l .held ≡ heldOf (leftBy earlier) → l .quiet ≤ mostQuiet → l .noise ≤ mostNoise → (bytes : List ℕ) (offers : List (Offer Turn))
-    → AllAlike (l .noise) (unasked offers) (calls listens l bytes offers) (calls boxHears (heldOf (leftBy earlier)) bytes (rooms offers))
-all-alike earlier l e few low bytes [] =
-    record { held-alike = e; events-alike = refl; taken-alike = refl; quiet-few = few; noise-low = low; noise-counted = λ p. omega arith }
-all-alike earlier l e few low bytes (o ∷ more) =
-    let piece : List ℕ = take (o .count) bytes in
-    let here : Step Listener Ended = listens l (o .with) piece in
-    let heard : Step Held Ended = boxHears (heldOf (leftBy earlier)) (o .with .room) piece in
-    let cut : stream.Cut earlier piece heard = one-cut earlier piece (o .with .room) in
-    let alike : Alike (cond (o .with .asks) zero (l .noise)) here heard =
-    subst (λ (h : Held). Alike (cond (o .with .asks) zero (l .noise)) (stepFrom (listening (readied (record { held = h; quiet = l .quiet; noise = l .noise }) (o .with .asks)) piece (o .with .room))) heard)
-    (sym e) (turned (o .with .asks) earlier (l .quiet) (l .noise) few low (o .with .room) piece) in
-    let counted : here .state .noise ≡ min mostNoise (cond (o .with .asks) zero (l .noise) + here .taken) = alike .noise-counted in
-    let few′ : here .state .quiet ≤ mostQuiet = alike .quiet-few in
-    let later = all-alike (earlier ++ take (heard .taken) piece) (here .state) (alike .held-alike ∙ cut .state-is) few′ (omega arith) (drop (here .taken) bytes) more in
-    let goes : calls boxHears (heard .state) (drop (heard .taken) bytes) (rooms more) ≡ calls boxHears (heldOf (leftBy (earlier ++ take (heard .taken) piece))) (drop (here .taken) bytes) (rooms more) =
-    ap₂ (λ (s : Held) (n : ℕ). calls boxHears s (drop n bytes) (rooms more)) (cut .state-is) (sym (alike .taken-alike)) in
-    joined (o .with .asks) (unasked more) (l .noise) here (calls listens (here .state) (drop (here .taken) bytes) more) heard (calls boxHears (heard .state) (drop (heard .taken) bytes) (rooms more))
+pub all-alike : (earlier : List ℕ) (begun asked : ℕ) (bytes : List ℕ) (offers : List (Offer Turn))
+    → Alike begun (lastAsked asked offers) (calls listens (listenerAt earlier begun asked) bytes offers) (calls boxHears (heldOf (leftBy earlier)) bytes (offered begun asked offers))
+all-alike earlier begun asked bytes [] = record { held-alike = refl; events-alike = refl; taken-alike = refl; begun-is = refl; asked-is = refl }
+all-alike earlier begun asked bytes (o ∷ more) =
+    let sent : ℕ = askedBy asked (o .with) in
+    let n : ℕ = heardCount (isOver begun sent (o .with .time)) (o .count) in
+    let here : Step Listener Ended = listens (listenerAt earlier begun asked) (o .with) (take (o .count) bytes) in
+    let heard : Step Held Ended = boxHears (heldOf (leftBy earlier)) (o .with .room) (take n bytes) in
+    let cut : stream.Cut earlier (take n bytes) heard = one-cut earlier (take n bytes) (o .with .room) in
+    let alike : Alike begun sent here heard =
+    subst (λ (l : Listener). Alike begun sent (stepFrom (listening l (take (o .count) bytes) (o .with .time) (o .with .room))) heard)
+    (sym (ready-is earlier begun asked (o .with))) (one-alike earlier begun sent (o .with .time) (o .with .room) bytes (o .count)) in
+    let after : List ℕ = earlier ++ take (heard .taken) (take n bytes) in
+    let now : here .state ≡ listenerAt after begun sent =
+    λ i. record { held = (alike .held-alike ∙ cut .state-is) i; begun = alike .begun-is i; asked = alike .asked-is i } in
+    let later = all-alike after begun sent (drop (here .taken) bytes) more in
+    let mine : calls listens (here .state) (drop (here .taken) bytes) more ≡ calls listens (listenerAt after begun sent) (drop (here .taken) bytes) more =
+    ap (λ (l : Listener). calls listens l (drop (here .taken) bytes) more) now in
+    let theirs : calls boxHears (heard .state) (drop (heard .taken) bytes) (offered begun sent more) ≡ calls boxHears (heldOf (leftBy after)) (drop (here .taken) bytes) (offered begun sent more) =
+    ap₂ (λ (s : Held) (n : ℕ). calls boxHears s (drop n bytes) (offered begun sent more)) (cut .state-is) (sym (alike .taken-alike)) in
+    joined begun sent (lastAsked sent more) here (calls listens (here .state) (drop (here .taken) bytes) more) heard (calls boxHears (heard .state) (drop (heard .taken) bytes) (offered begun sent more))
     alike
-    (subst (λ (s : Step Held Ended). AllAlike (here .state .noise) (unasked more) (calls listens (here .state) (drop (here .taken) bytes) more) s) (sym goes) later)
+    (subst (λ (s : Step Listener Ended). Alike begun (lastAsked sent more) s (calls boxHears (heard .state) (drop (heard .taken) bytes) (offered begun sent more))) (sym mine)
+    (subst (λ (s : Step Held Ended). Alike begun (lastAsked sent more) (calls listens (listenerAt after begun sent) (drop (here .taken) bytes) more) s) (sym theirs) later))
 
 pub cutting : AnyCutting
-unfolding listenerAllowed
-cutting earlier bytes quiet noise few low offers =
-    let all : Step Listener Ended = calls listens (listenerAt earlier quiet noise) bytes offers in
-    let alike = all-alike earlier (listenerAt earlier quiet noise) refl few low bytes offers in
-    let cut : stream.Cut earlier bytes (calls boxHears (heldOf (leftBy earlier)) bytes (rooms offers)) = box-cutting earlier bytes (rooms offers) in
+cutting earlier bytes begun asked offers =
+    let all : Step Listener Ended = calls listens (listenerAt earlier begun asked) bytes offers in
+    let alike = all-alike earlier begun asked bytes offers in
+    let cut : stream.Cut earlier bytes (calls boxHears (heldOf (leftBy earlier)) bytes (offered begun asked offers)) = box-cutting earlier bytes (offered begun asked offers) in
     let holds : all .state .held ≡ heldOf (leftBy (earlier ++ take (all .taken) bytes)) = alike .held-alike ∙ rw (alike .taken-alike) (cut .state-is) in
     record {
       within = rw (alike .taken-alike) (cut .within);
       held-is = holds;
       frames-are = alike .events-alike ∙ rw (alike .taken-alike) (cut .events-are);
-      goes-on = both (leb (all .state .quiet) mostQuiet && leb (all .state .noise) mostNoise) (allowed (all .state .held)) (in-ends _ _ (alike .quiet-few) (alike .noise-low)) (rw holds (left-allowed (earlier ++ take (all .taken) bytes)));
+      goes-on = rw holds (left-allowed (earlier ++ take (all .taken) bytes));
     }
 
-rooms-ready : (offers : List (Offer Turn)) → ready (λ turn. leb 35 (turn .room)) offers ≡ ready (λ room. leb 35 room) (rooms offers)
-rooms-ready [] = refl
-rooms-ready (o ∷ more) = rw (rooms-ready more)
+offered-many : (begun asked : ℕ) (offers : List (Offer Turn)) → length (offered begun asked offers) ≡ length offers
+offered-many begun asked [] = refl
+offered-many begun asked (o ∷ more) = ap suc (offered-many begun (askedBy asked (o .with)) more)
 
-rooms-many : (offers : List (Offer Turn)) → length (rooms offers) ≡ length offers
-rooms-many [] = refl
-rooms-many (o ∷ more) = ap suc (rooms-many more)
+offered-ready : (begun asked : ℕ) (offers : List (Offer Turn)) → inTime begun asked offers ≡ true
+    → ready (λ turn. leb 35 (turn .room)) offers ≡ ready (λ room. leb 35 room) (offered begun asked offers)
+offered-ready begun asked [] e = refl
+offered-ready begun asked (o ∷ more) e =
+    let sent : ℕ = askedBy asked (o .with) in
+    let own : Bool = not (isOver begun sent (o .with .time)) in
+    let early : isOver begun sent (o .with .time) ≡ false = not-true _ (and-left own (inTime begun sent more) e) in
+    rw (early, offered-ready begun sent more (and-right own (inTime begun sent more) e))
 
 pub taking : AllIsTaken
-taking earlier bytes quiet noise few low offers serves enough =
-    all-alike earlier (listenerAt earlier quiet noise) refl few low bytes offers .taken-alike
-    ∙ box-all (heldOf (leftBy earlier)) bytes (rooms offers) (left-allowed earlier) (sym (rooms-ready offers) ∙ serves) (rw (rooms-many offers) enough)
+taking earlier bytes begun asked offers early serves enough =
+    all-alike earlier begun asked bytes offers .taken-alike
+    ∙ box-all (heldOf (leftBy earlier)) bytes (offered begun asked offers) (left-allowed earlier) (sym (offered-ready begun asked offers early) ∙ serves) (rw (offered-many begun asked offers) enough)
 
 pub telling : WholeIsTold
-telling earlier bytes quiet noise few low offers all =
-    let cut = cutting earlier bytes quiet noise few low offers in
-    let whole : take (calls listens (listenerAt earlier quiet noise) bytes offers .taken) bytes ≡ bytes = ap (λ (n : ℕ). take n bytes) all ∙ take-length bytes in
+telling earlier bytes begun asked offers all =
+    let cut = cutting earlier bytes begun asked offers in
+    let whole : take (calls listens (listenerAt earlier begun asked) bytes offers .taken) bytes ≡ bytes = ap (λ (n : ℕ). take n bytes) all ∙ take-length bytes in
     (cut .frames-are ∙ rw whole, cut .held-is ∙ rw whole)
-
-pub counting : NoiseIsCounted
-counting earlier bytes quiet noise few low offers plain = all-alike earlier (listenerAt earlier quiet noise) refl few low bytes offers .noise-counted plain

@@ -1,91 +1,101 @@
--- Reads that give nothing, one after the other, and reads that give noise. Assumes nothing.
-use mathlib.Core.Path.{_≡_, refl, ap, ap₂, _∙_}
-use mathlib.Core.Bool.{true, cond, _&&_}
+-- When the box waits no longer. Assumes nothing.
+use mathlib.Core.Path.{_≡_, refl, ap}
+use mathlib.Core.Logic.{_↔_, _⊎_, inl, inr}
+use mathlib.Core.Bool.{true, false, not}
 use mathlib.Core.List.{List, [], _∷_}
-use Prim.Native.Nat.{ℕ, zero, suc, _+_, _≤_, min}
+use Prim.Native.Nat.{ℕ, _-_, _≤_}
 use native.Mathlib.Omega.{arith}
-use borrow.Author.Tests.{leb-true, le-leb}
-use lib.ListN.{length, take}
-use lib.Seq.{take-all}
+use borrow.Author.Tests.{leb-true, le-leb, not-true}
 use lib.Dec.{leb}
 use Rattle.laws.specs.Promise.{Given}
-use Rattle.laws.proofs.Bools.{and-left, and-right, both, same-test}
-use Rattle.stream.specs.Stream.{taken, framesFrom}
-use Rattle.stream.specs.Calls.{allowed, unfinished}
+use Rattle.laws.specs.Cutting.{Offer, calls}
+use Rattle.laws.proofs.Bools.{and-left, and-right, or-cases, or-first, or-second}
+use Rattle.stream.specs.Calls.{allowed}
 use Rattle.stream.specs.declared.Event.{Event}
-use Rattle.stream.specs.declared.Held.{Held}
-use Rattle.stream.proofs.Streams.{quiet-all}
 use Rattle.listen.specs.declared.Listener.{Listener}
 use Rattle.listen.specs.declared.Told.{Told}
 use Rattle.listen.specs.declared.Listened.{Listened}
 use Rattle.listen.specs.Hearing.{boxHearing}
-use Rattle.listen.specs.Calls.{mostQuiet, mostNoise, quieter, afterSilence, afterNoise, toldBy, louder, listenerAllowed, asking, silent, listening, wordless}
-use Rattle.listen.specs.Laws.{silences, PatienceEnds, NoiseEnds}
-use Rattle.listen.proofs.Hearing.{box-heard}
-use Rattle.listen.proofs.Settling.{listening-silent, listening-heard, filled}
+use Rattle.listen.specs.Calls.{requestTime, trailerTime, isOver, toldBy, listening}
+use Rattle.listen.specs.Laws.{Turn, listens, listenerAt, lastAsked, Over, request-over, trailer-over, PatienceEnds, unasked, RequestEnds, LateTakesNothing}
+use Rattle.listen.proofs.Settling.{cases, listening-late}
+use Rattle.listen.proofs.Merging.{all-alike, cutting}
 
--- a count that stops at its end has reached it when the whole has
-at-end : (end n : ℕ) → leb end (min end n) ≡ leb end n
-at-end end n =
-    same-test (leb end (min end n)) (leb end n)
-    (λ e. let h : end ≤ min end n = leb-true end (min end n) e in le-leb end n (omega arith))
-    (λ e. let h : end ≤ n = leb-true end n e in le-leb end (min end n) (omega arith))
+-- the test, by its two halves
 
-module _ (l : Listener) (ok : allowed (l .held) ≡ true) (room : ℕ) (enough : 35 ≤ room) where
-  -- this many of them counted
-  abbrev counted : ℕ → Listener
-  counted n = record { held = l .held; quiet = min mostQuiet n; noise = zero }
+over-told : (begun asked time : ℕ) → isOver begun asked time ≡ true → Over begun asked time
+unfolding isOver
+over-told begun asked time e = by (or-cases (leb requestTime (time - asked)) (leb trailerTime (time - begun)) e)
+  where
+    by : (leb requestTime (time - asked) ≡ true) ⊎ (leb trailerTime (time - begun) ≡ true) → Over begun asked time
+    by (inl p) = let h : requestTime ≤ time - asked = leb-true requestTime (time - asked) p in request-over (omega arith)
+    by (inr p) = let h : trailerTime ≤ time - begun = leb-true trailerTime (time - begun) p in trailer-over (omega arith)
 
-  few : (n : ℕ) → (leb (min mostQuiet n) mostQuiet && leb zero mostNoise) ≡ true
-  few n = both _ _ (le-leb (min mostQuiet n) mostQuiet (omega arith)) (le-leb zero mostNoise (omega arith))
+told-over : (begun asked time : ℕ) → Over begun asked time → isOver begun asked time ≡ true
+unfolding isOver
+told-over begun asked time (request-over h) =
+    let passed : requestTime ≤ time - asked = omega arith in
+    or-first (leb requestTime (time - asked)) (leb trailerTime (time - begun)) (le-leb requestTime (time - asked) passed)
+told-over begun asked time (trailer-over h) =
+    let passed : trailerTime ≤ time - begun = omega arith in
+    or-second (leb requestTime (time - asked)) (leb trailerTime (time - begun)) (le-leb trailerTime (time - begun) passed)
 
-  one-more : (n : ℕ) → listening (counted n) [] room ≡ wordless (silent (counted n))
-  one-more n = listening-silent (counted n) [] room enough (few n) ok refl
+-- one read
 
-  quieter-is : (n : ℕ) → quieter (min mostQuiet n) ≡ min mostQuiet (suc n)
-  quieter-is n = omega arith
+never-by : {A : Type 0} (e : Event) → toldBy e ≡ Told.NoAnswer → A
+never-by Event.Nothing e = let z : _≡_ {A = ℕ} 0 1 = cc in absurd (omega arith)
+never-by (Event.Frame command len) e = let z : _≡_ {A = ℕ} 0 1 = cc in absurd (omega arith)
+never-by (Event.Refused number) e = let z : _≡_ {A = ℕ} 0 1 = cc in absurd (omega arith)
 
-  silences-are : (n : ℕ) → silences n (asking l) room ≡ counted n
-  silences-are zero = refl
-  silences-are (suc n) =
-      ap (λ (s : Listener). listening s [] room .answer .listener) (silences-are n)
-      ∙ ap (λ (g : Given Listened). g .answer .listener) (one-more n)
-      ∙ ap (λ (q : ℕ). record { held = l .held; quiet = q; noise = zero }) (quieter-is n)
+module _ (l : Listener) (piece : List ℕ) (time room : ℕ) where
+  late-is : listening l piece time room .answer .told ≡ Told.NoAnswer → isOver (l .begun) (l .asked) time ≡ true
+  late-is =
+      cases l piece time room (λ g. g .answer .told ≡ Told.NoAnswer → isOver (l .begun) (l .asked) time ≡ true)
+      (λ n e. let z : _≡_ {A = ℕ} 0 1 = cc in absurd (omega arith))
+      (λ enough ok over e. over)
+      (λ enough ok early e. never-by (boxHearing (l .held) piece room .answer .event) e)
 
-  told-last : (n : ℕ) → afterSilence (min mostQuiet (suc n)) ≡ cond (leb mostQuiet (suc n)) Told.NoAnswer Told.Nothing
-  unfolding afterSilence
-  told-last n = rw (at-end mostQuiet (suc n))
+  is-late : 35 ≤ room → allowed (l .held) ≡ true → isOver (l .begun) (l .asked) time ≡ true → listening l piece time room .answer .told ≡ Told.NoAnswer
+  is-late enough ok over = ap (λ (g : Given Listened). g .answer .told) (listening-late l piece time room enough ok over)
 
-  pub ends-at : (n : ℕ) → listening (silences n (asking l) room) [] room .answer .told ≡ cond (leb mostQuiet (suc n)) Told.NoAnswer Told.Nothing
-  ends-at n =
-      ap (λ (s : Listener). listening s [] room .answer .told) (silences-are n)
-      ∙ ap (λ (g : Given Listened). g .answer .told) (one-more n)
-      ∙ ap afterSilence (quieter-is n) ∙ told-last n
+-- after a row of reads
+
+module _ (earlier : List ℕ) (begun asked : ℕ) (bytes : List ℕ) (offers : List (Offer Turn)) where
+  abbrev now : Listener
+  now = calls listens (listenerAt earlier begun asked) bytes offers .state
+
+  pub ends-exactly : (piece : List ℕ) (time room : ℕ) → 35 ≤ room → (listening now piece time room .answer .told ≡ Told.NoAnswer) ↔ Over begun (lastAsked asked offers) time
+  ends-exactly piece time room enough =
+      let alike = all-alike earlier begun asked bytes offers in (
+        λ e. over-told begun (lastAsked asked offers) time (rw (alike .begun-is, alike .asked-is) at (late-is now piece time room e)),
+        λ h. is-late now piece time room enough (cutting earlier bytes begun asked offers .goes-on) (rw (alike .begun-is, alike .asked-is) (told-over begun (lastAsked asked offers) time h)),
+      )
 
 pub ends : PatienceEnds
-ends l ok room enough n = ends-at l ok room enough n
+ends start bytes offers piece time room enough = ends-exactly [] start start bytes offers piece time room enough
 
--- noise
+-- with no other request, the last one stays
 
-allowed-parts : (l : Listener) → listenerAllowed l ≡ true → ((leb (l .quiet) mostQuiet && leb (l .noise) mostNoise) ≡ true) × (allowed (l .held) ≡ true)
-unfolding listenerAllowed
-allowed-parts l e = (and-left (leb (l .quiet) mostQuiet && leb (l .noise) mostNoise) (allowed (l .held)) e, and-right (leb (l .quiet) mostQuiet && leb (l .noise) mostNoise) (allowed (l .held)) e)
+unasked-last : (asked : ℕ) (offers : List (Offer Turn)) → unasked offers ≡ true → lastAsked asked offers ≡ asked
+unasked-last asked [] e = refl
+unasked-last asked (o ∷ more) e =
+    let plain : o .with .asks ≡ false = not-true _ (and-left (not (o .with .asks)) (unasked more) e) in
+    rw plain (unasked-last asked more (and-right (not (o .with .asks)) (unasked more) e))
 
-told-noise : (noise n : ℕ) → afterNoise (louder noise n) ≡ cond (leb mostNoise (noise + n)) Told.NoAnswer Told.Nothing
-unfolding afterNoise
-told-noise noise n = rw (at-end mostNoise (noise + n))
+pub request-ends : RequestEnds
+request-ends earlier bytes begun asked sent offers plain piece time room enough h =
+    ends-exactly earlier begun sent bytes offers piece time room enough .1 (request-over (rw (unasked-last sent offers plain) h))
 
-quiet-heard : (held : Held) (piece : List ℕ) (room : ℕ) → 35 ≤ room → allowed held ≡ true → framesFrom (unfinished held) piece ≡ []
-    → (boxHearing held piece room .answer .event ≡ Event.Nothing) × (boxHearing held piece room .answer .taken ≡ length piece)
-quiet-heard held piece room enough ok none =
-    let all : taken (unfinished held) piece ≡ length piece = quiet-all (unfinished held) piece none in
-    let whole : take (length piece) piece ≡ piece = take-all (length piece) piece (omega arith) in
-    rw (box-heard held piece room enough ok, all, whole, none) (refl, refl)
+-- and nothing is taken
 
-pub noise-ends : NoiseEnds
-noise-ends l ok room enough b bs none =
-    let parts = allowed-parts l ok in
-    let heard = quiet-heard (l .held) (b ∷ bs) room enough (parts .1) none in
-    ap (λ (g : Given Listened). g .answer .told) (listening-heard l (b ∷ bs) room enough (parts .0) (parts .1) (filled b bs))
-    ∙ ap₂ (λ (e : Event) (n : ℕ). toldBy (louder (l .noise) n) e) (heard .0) (heard .1)
-    ∙ told-noise (l .noise) (length (b ∷ bs))
+untouched : (l : Listener) (piece : List ℕ) (time room : ℕ) → listening l piece time room .answer .told ≡ Told.NoAnswer
+    → (listening l piece time room .answer .taken ≡ 0) × (listening l piece time room .written ≡ []) × (listening l piece time room .answer .listener ≡ l)
+untouched l piece time room =
+    cases l piece time room (λ g. g .answer .told ≡ Told.NoAnswer → (g .answer .taken ≡ 0) × (g .written ≡ []) × (g .answer .listener ≡ l))
+    (λ n e. (refl, refl, refl)) (λ enough ok over e. (refl, refl, refl))
+    (λ enough ok early e. never-by (boxHearing (l .held) piece room .answer .event) e)
+
+pub takes-nothing : LateTakesNothing
+takes-nothing l piece time room e =
+    let all = untouched l piece time room e in
+    record { none-taken = all .0; none-written = all .1; as-it-was = all .2 }

@@ -12,13 +12,13 @@ use Rattle.listen.proofs.Listener.start.Reads as start
 use Rattle.listen.proofs.Listener.asked.Reads as asked
 use Rattle.listen.proofs.Listener.read.Reads as read
 
-pub start-same : (r r′ : Listener) → start.Post tt tt r tt → start.Post tt tt r′ tt → r ≡ r′
-start-same r r′ met met′ = equal-same met met′
+pub start-same : (time : ℕ) (r r′ : Listener) → start.Post tt (time, tt) r (time, tt) → start.Post tt (time, tt) r′ (time, tt) → r ≡ r′
+start-same time r r′ met met′ = equal-same met met′
 
-pub asked-same : (l r r′ : Listener) → asked.Post tt (l, tt) r (l, tt) → asked.Post tt (l, tt) r′ (l, tt) → r ≡ r′
-asked-same l r r′ met met′ = equal-same met met′
+pub asked-same : (l : Listener) (time : ℕ) (r r′ : Listener) → asked.Post tt (l, (time, tt)) r (l, (time, tt)) → asked.Post tt (l, (time, tt)) r′ (l, (time, tt)) → r ≡ r′
+asked-same l time r r′ met met′ = equal-same met met′
 
-pub read-same : (κs : Lfts 2) (piece into left left′ : RefT (List ℕ)) (l : Listener) (r r′ : Listened)
-    → read.Post κs (l, (piece, (into, tt))) r (l, (piece, (left, tt))) → read.Post κs (l, (piece, (into, tt))) r′ (l, (piece, (left′, tt)))
+pub read-same : (κs : Lfts 2) (piece into left left′ : RefT (List ℕ)) (l : Listener) (time : ℕ) (r r′ : Listened)
+    → read.Post κs (l, (piece, (time, (into, tt)))) r (l, (piece, (time, (left, tt)))) → read.Post κs (l, (piece, (time, (into, tt)))) r′ (l, (piece, (time, (left′, tt))))
     → (r ≡ r′) × (now left ≡ now left′)
-read-same κs piece into left left′ l r r′ met met′ = gives-same met met′
+read-same κs piece into left left′ l time r r′ met met′ = gives-same met met′

@@ -1,6 +1,5 @@
 -- The statements of specs/Laws.antt, proved. Assumes nothing.
-use mathlib.Core.Path.{refl}
-use Rattle.listen.specs.Laws.{AnyCutting, WholeIsTold, AllIsTaken, PatienceEnds, StartIsAsked, NoiseEnds, NoiseIsCounted, TakenIsWithin, FrameIsWhole, EventsAreOnStream}
+use Rattle.listen.specs.Laws.{AnyCutting, WholeIsTold, AllIsTaken, PatienceEnds, RequestEnds, LateTakesNothing, TakenIsWithin, FrameIsWhole, EventsAreOnStream}
 use Rattle.listen.proofs.Merging as merging
 use Rattle.listen.proofs.Patience as patience
 use Rattle.listen.proofs.Leaning as leaning
@@ -17,14 +16,11 @@ all-is-taken = merging.taking
 pub patience-ends : PatienceEnds
 patience-ends = patience.ends
 
-pub start-is-asked : StartIsAsked
-start-is-asked = refl
+pub request-ends : RequestEnds
+request-ends = patience.request-ends
 
-pub noise-ends : NoiseEnds
-noise-ends = patience.noise-ends
-
-pub noise-is-counted : NoiseIsCounted
-noise-is-counted = merging.counting
+pub late-takes-nothing : LateTakesNothing
+late-takes-nothing = patience.takes-nothing
 
 pub taken-is-within : TakenIsWithin
 taken-is-within = leaning.taken-fits

@@ -1,10 +1,9 @@
 -- What each public call answers, for every input. What the box hears of the bytes meets its patience.
 -- Assumes nothing.
-use Prim.Native.Nat.{ℕ, zero, suc, _+_, min}
-use mathlib.Core.Bool.{Bool, cond, not, _&&_}
+use Prim.Native.Nat.{ℕ, zero, _-_}
+use mathlib.Core.Bool.{Bool, cond, not, _||_}
 use mathlib.Core.List.{List, []}
-use lib.ListN.{length}
-use lib.Dec.{ltb, leb, eqb}
+use lib.Dec.{ltb, leb}
 use Rattle.laws.specs.Promise.{Given}
 use Rattle.paper.specs.Numbers.{mostData, shortBuffer, notAllowed}
 use Rattle.stream.specs.Stream.{outside}
@@ -16,64 +15,45 @@ use Rattle.listen.specs.declared.Listener.{Listener}
 use Rattle.listen.specs.declared.Told.{Told}
 use Rattle.listen.specs.declared.Listened.{Listened}
 
--- The box waits no longer (ours): five reads in a row that gave nothing, each after a second of silence; or a read that ends no frame once
--- 8192 bytes have come since the last request, those of frames among them, so that a board which talks without end holds nothing up.
+-- How long the box waits (ours), in milliseconds, whatever bytes come: two seconds for the answer to a request, a minute for a trailer.
 
-abbrev pub mostQuiet : ℕ
-mostQuiet = 5
+abbrev pub requestTime : ℕ
+requestTime = 2000
 
-abbrev pub mostNoise : ℕ
-mostNoise = 8192
+abbrev pub trailerTime : ℕ
+trailerTime = 60000
 
--- one more read that gave nothing, and this many more bytes: the counts stop at their ends
-abbrev pub quieter : ℕ → ℕ
-quieter quiet = min mostQuiet (suc quiet)
+-- one of the two has passed; a subtraction stops at 0, so a clock that goes back is no time passed
+unfoldable pub isOver : ℕ → ℕ → ℕ → Bool
+isOver begun asked time = leb requestTime (time - asked) || leb trailerTime (time - begun)
 
-abbrev pub louder : ℕ → ℕ → ℕ
-louder noise taken = min mostNoise (noise + taken)
+-- outside a frame; the trailer is begun and a request sent at this time
+abbrev pub starting : ℕ → Listener
+starting time = record { held = heldOf outside; begun = time; asked = time }
 
--- outside a frame, nothing counted
-abbrev pub starting : Listener
-starting = record { held = heldOf outside; quiet = zero; noise = zero }
-
--- a request was sent: both counts begin anew, the unfinished frame stays
-abbrev pub asking : Listener → Listener
-asking l = record { held = l .held; quiet = zero; noise = zero }
-
--- a frame held that bytes can leave, and no count past its end
-unfoldable pub listenerAllowed : Listener → Bool
-listenerAllowed l = (leb (l .quiet) mostQuiet && leb (l .noise) mostNoise) && allowed (l .held)
+-- a request was sent at this time; the unfinished frame stays
+abbrev pub asking : Listener → ℕ → Listener
+asking l time = record { held = l .held; begun = l .begun; asked = time }
 
 -- 11 and 12: "a state handed in comes back as it was, with counts and lengths 0"
 abbrev pub refusing : Listener → ℕ → Listened
 refusing l number = record { listener = l; told = Told.Refused number; taken = zero }
 
--- a read that gave nothing
-unfoldable pub afterSilence : ℕ → Told
-afterSilence quiet = cond (leb mostQuiet quiet) Told.NoAnswer Told.Nothing
+-- the time is over: nothing is taken
+abbrev pub late : Listener → Listened
+late l = record { listener = l; told = Told.NoAnswer; taken = zero }
 
-abbrev pub silent : Listener → Listened
-silent l =
-    record {
-      listener = record { held = l .held; quiet = quieter (l .quiet); noise = l .noise };
-      told = afterSilence (quieter (l .quiet));
-      taken = zero;
-    }
-
--- a read that gave bytes: a frame that ended well, one that is broken, or none
-unfoldable pub afterNoise : ℕ → Told
-afterNoise noise = cond (leb mostNoise noise) Told.NoAnswer Told.Nothing
-
-abbrev pub toldBy : ℕ → Event → Told
-toldBy noise Event.Nothing = afterNoise noise
-toldBy noise (Event.Frame command len) = Told.Frame command len
-toldBy noise (Event.Refused number) = Told.Broken number
+-- a frame that ended well, one that is broken, or none
+abbrev pub toldBy : Event → Told
+toldBy Event.Nothing = Told.Nothing
+toldBy (Event.Frame command len) = Told.Frame command len
+toldBy (Event.Refused number) = Told.Broken number
 
 abbrev pub reported : Listener → Heard → Listened
 reported l heard =
     record {
-      listener = record { held = heard .held; quiet = zero; noise = louder (l .noise) (heard .taken) };
-      told = toldBy (louder (l .noise) (heard .taken)) (heard .event);
+      listener = record { held = heard .held; begun = l .begun; asked = l .asked };
+      told = toldBy (heard .event);
       taken = heard .taken;
     }
 
@@ -84,8 +64,8 @@ wordless answer = record { answer = answer; written = [] }
 abbrev pub reporting : Listener → Given Heard → Given Listened
 reporting l given = record { answer = reported l (given .answer); written = given .written }
 
-unfoldable pub listening : Listener → List ℕ → ℕ → Given Listened
-listening l piece room =
+unfoldable pub listening : Listener → List ℕ → ℕ → ℕ → Given Listened
+listening l piece time room =
     cond (ltb room mostData) (wordless (refusing l shortBuffer))
-    (cond (not (listenerAllowed l)) (wordless (refusing l notAllowed))
-    (cond (eqb (length piece) zero) (wordless (silent l)) (reporting l (boxHearing (l .held) piece room))))
+    (cond (not (allowed (l .held))) (wordless (refusing l notAllowed))
+    (cond (isOver (l .begun) (l .asked) time) (wordless (late l)) (reporting l (boxHearing (l .held) piece room))))

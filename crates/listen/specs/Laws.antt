@@ -1,7 +1,8 @@
 -- What is proved of the definitions, as statements to compare with the papers. Each is proved under its name in proofs/Theorems.antt.
 -- Assumes nothing.
-use Prim.Native.Nat.{ℕ, zero, suc, _+_, _≤_, min}
+use Prim.Native.Nat.{ℕ, zero, _+_, _≤_}
 use mathlib.Core.Path.{_≡_}
+use mathlib.Core.Logic.{_↔_}
 use mathlib.Core.Bool.{Bool, true, cond, _&&_, not}
 use mathlib.Core.List.{List, [], _∷_, _++_}
 use lib.ListN.{length, take}
@@ -10,10 +11,10 @@ use Rattle.laws.specs.Cutting.{Step, Offer, calls, ready}
 use Rattle.paper.specs.Numbers.{mostData}
 use Rattle.wire.specs.Parsing.{Ended, good, refused}
 use Rattle.stream.specs.Stream.{framesFrom, leftBy}
-use Rattle.stream.specs.Calls.{allowed, heldOf, unfinished}
+use Rattle.stream.specs.Calls.{allowed, heldOf}
 use Rattle.wire.specs.Laws.{Writable}
 use Rattle.reply.specs.Events.{Event, heard, refusedFrame, noAnswer, OnStream}
-use Rattle.listen.specs.Calls.{mostQuiet, mostNoise, starting, asking, listenerAllowed, listening}
+use Rattle.listen.specs.Calls.{requestTime, trailerTime, isOver, starting, asking, listening}
 use Rattle.listen.specs.declared.Listener.{Listener}
 use Rattle.listen.specs.declared.Told.{Told}
 
@@ -26,92 +27,109 @@ framesIn (Told.Broken number) written = refused number ∷ []
 framesIn Told.NoAnswer written = []
 framesIn (Told.Refused number) written = []
 
--- one read: with how much room, and whether a request was sent before it
+-- one read: whether a request was sent before it and when, the time that it is handed, and with how much room
 pub record Turn : Type 0 where
   pub asks : Bool
+  pub sent : ℕ
+  pub time : ℕ
   pub room : ℕ
 
-abbrev pub readied : Listener → Bool → Listener
-readied l asks = cond asks (asking l) l
+abbrev pub readied : Listener → Turn → Listener
+readied l turn = cond (turn .asks) (asking l (turn .sent)) l
 
 abbrev pub listens : Listener → Turn → List ℕ → Step Listener Ended
 listens l turn piece =
-    let given = listening (readied l (turn .asks)) piece (turn .room) in
+    let given = listening (readied l turn) piece (turn .time) (turn .room) in
     record {
       state = given .answer .listener;
       events = framesIn (given .answer .told) (given .written);
       taken = given .answer .taken;
     }
 
--- a listener whose unfinished frame the earlier bytes left, with any counts
+-- a listener whose unfinished frame the earlier bytes left, with any times
 abbrev pub listenerAt : List ℕ → ℕ → ℕ → Listener
-listenerAt earlier quiet noise = record { held = heldOf (leftBy earlier); quiet = quiet; noise = noise }
+listenerAt earlier begun asked = record { held = heldOf (leftBy earlier); begun = begun; asked = asked }
 
 -- The frames told, good and broken, are exactly those of the bytes taken, in order, and the frame held is what those bytes leave: in any
--- cutting, what a read did not take being handed on first, with any room, with reads that gave nothing, and with requests anywhere between.
--- So patience never loses, doubles or invents a frame.
+-- cutting, what a read did not take being handed on first, at any times, with any room, with reads that gave nothing, and with requests
+-- anywhere between. So patience never loses, doubles or invents a frame.
 pub record Cut (earlier bytes : List ℕ) (all : Step Listener Ended) : Type 0 where
   pub within : all .taken ≤ length bytes
   pub held-is : all .state .held ≡ heldOf (leftBy (earlier ++ take (all .taken) bytes))
   pub frames-are : all .events ≡ framesFrom (leftBy earlier) (take (all .taken) bytes)
-  pub goes-on : listenerAllowed (all .state) ≡ true
+  pub goes-on : allowed (all .state .held) ≡ true
 
 abbrev pub AnyCutting : Type 0
 AnyCutting =
-    (earlier bytes : List ℕ) (quiet noise : ℕ) → quiet ≤ mostQuiet → noise ≤ mostNoise → (offers : List (Offer Turn))
-    → Cut earlier bytes (calls listens (listenerAt earlier quiet noise) bytes offers)
+    (earlier bytes : List ℕ) (begun asked : ℕ) (offers : List (Offer Turn))
+    → Cut earlier bytes (calls listens (listenerAt earlier begun asked) bytes offers)
 
--- So reads that take every byte tell all its frames; and reads that are handed a byte at least and lend room enough do take every byte, in as
--- many reads as there are bytes.
+-- So reads that take every byte tell all its frames.
 abbrev pub WholeIsTold : Type 0
 WholeIsTold =
-    (earlier bytes : List ℕ) (quiet noise : ℕ) → quiet ≤ mostQuiet → noise ≤ mostNoise → (offers : List (Offer Turn))
-    → calls listens (listenerAt earlier quiet noise) bytes offers .taken ≡ length bytes
-    → (calls listens (listenerAt earlier quiet noise) bytes offers .events ≡ framesFrom (leftBy earlier) bytes)
-    × (calls listens (listenerAt earlier quiet noise) bytes offers .state .held ≡ heldOf (leftBy (earlier ++ bytes)))
+    (earlier bytes : List ℕ) (begun asked : ℕ) (offers : List (Offer Turn))
+    → calls listens (listenerAt earlier begun asked) bytes offers .taken ≡ length bytes
+    → (calls listens (listenerAt earlier begun asked) bytes offers .events ≡ framesFrom (leftBy earlier) bytes)
+    × (calls listens (listenerAt earlier begun asked) bytes offers .state .held ≡ heldOf (leftBy (earlier ++ bytes)))
+
+-- And reads in time, that are handed a byte at least and lend room enough, do take every byte, in as many reads as there are bytes.
+abbrev pub askedBy : ℕ → Turn → ℕ
+askedBy asked turn = cond (turn .asks) (turn .sent) asked
+
+abbrev pub inTime : ℕ → ℕ → List (Offer Turn) → Bool
+inTime begun asked [] = true
+inTime begun asked (o ∷ more) =
+    not (isOver begun (askedBy asked (o .with)) (o .with .time)) && inTime begun (askedBy asked (o .with)) more
 
 abbrev pub AllIsTaken : Type 0
 AllIsTaken =
-    (earlier bytes : List ℕ) (quiet noise : ℕ) → quiet ≤ mostQuiet → noise ≤ mostNoise → (offers : List (Offer Turn))
+    (earlier bytes : List ℕ) (begun asked : ℕ) (offers : List (Offer Turn)) → inTime begun asked offers ≡ true
     → ready (λ turn. leb mostData (turn .room)) offers ≡ true → length bytes ≤ length offers
-    → calls listens (listenerAt earlier quiet noise) bytes offers .taken ≡ length bytes
+    → calls listens (listenerAt earlier begun asked) bytes offers .taken ≡ length bytes
 
--- 2. Patience ends. A listener after this many reads, one after the other, that gave nothing.
-abbrev pub silences : ℕ → Listener → ℕ → Listener
-silences zero l room = l
-silences (suc n) l room = listening (silences n l room) [] room .answer .listener
+-- 2. Patience. When the last request before a row's end was sent, which is the start where none was.
+abbrev pub lastAsked : ℕ → List (Offer Turn) → ℕ
+lastAsked asked [] = asked
+lastAsked asked (o ∷ more) = lastAsked (askedBy asked (o .with)) more
 
--- After a request, or at the start, the read that follows n of them, if it gives nothing either, tells "no answer" from the fifth on, and
--- to wait on before.
+-- two seconds since the request, or a minute since the trailer was begun
+pub data Over (begun asked time : ℕ) : Type 0 where
+  request-over : asked + requestTime ≤ time → Over begun asked time
+  trailer-over : begun + trailerTime ≤ time → Over begun asked time
+
+-- Whatever bytes came, in any cutting and at any times, a read tells "no answer" exactly when the time that it is handed is two seconds or
+-- more after the last request, or a minute or more after the start.
 abbrev pub PatienceEnds : Type 0
 PatienceEnds =
-    (l : Listener) → allowed (l .held) ≡ true → (room : ℕ) → mostData ≤ room → (n : ℕ)
-    → listening (silences n (asking l) room) [] room .answer .told ≡ cond (leb mostQuiet (suc n)) Told.NoAnswer Told.Nothing
+    (start : ℕ) (bytes : List ℕ) (offers : List (Offer Turn)) (piece : List ℕ) (time room : ℕ) → mostData ≤ room
+    → (listening (calls listens (starting start) bytes offers .state) piece time room .answer .told ≡ Told.NoAnswer)
+    ↔ Over start (lastAsked start offers) time
 
-abbrev pub StartIsAsked : Type 0
-StartIsAsked = asking starting ≡ starting
-
--- 3. So does noise that ends no frame: with the byte that brings the count since the request to its end.
-abbrev pub NoiseEnds : Type 0
-NoiseEnds =
-    (l : Listener) → listenerAllowed l ≡ true → (room : ℕ) → mostData ≤ room → (b : ℕ) (bs : List ℕ) → framesFrom (unfinished (l .held)) (b ∷ bs) ≡ []
-    → listening l (b ∷ bs) room .answer .told ≡ cond (leb mostNoise (l .noise + length (b ∷ bs))) Told.NoAnswer Told.Nothing
-
--- Noise is counted: after any reads with no request between them, the count is that of the bytes taken, up to its end.
+-- So after a request, and reads with no other between them, every read from two seconds after it on tells "no answer", whatever bytes came.
 abbrev pub unasked : List (Offer Turn) → Bool
 unasked [] = true
 unasked (o ∷ more) = not (o .with .asks) && unasked more
 
-abbrev pub NoiseIsCounted : Type 0
-NoiseIsCounted =
-    (earlier bytes : List ℕ) (quiet noise : ℕ) → quiet ≤ mostQuiet → noise ≤ mostNoise → (offers : List (Offer Turn)) → unasked offers ≡ true
-    → calls listens (listenerAt earlier quiet noise) bytes offers .state .noise
-    ≡ min mostNoise (noise + calls listens (listenerAt earlier quiet noise) bytes offers .taken)
+abbrev pub RequestEnds : Type 0
+RequestEnds =
+    (earlier bytes : List ℕ) (begun asked sent : ℕ) (offers : List (Offer Turn)) → unasked offers ≡ true
+    → (piece : List ℕ) (time room : ℕ) → mostData ≤ room → sent + requestTime ≤ time
+    → listening (calls listens (asking (listenerAt earlier begun asked) sent) bytes offers .state) piece time room .answer .told ≡ Told.NoAnswer
 
--- 4. What the caller of one read may lean on, whatever it handed in: no more bytes are taken than the piece has; and a frame that is told
+-- And it takes and writes nothing.
+pub record Untouched (l : Listener) (piece : List ℕ) (time room : ℕ) : Type 0 where
+  pub none-taken : listening l piece time room .answer .taken ≡ zero
+  pub none-written : listening l piece time room .written ≡ []
+  pub as-it-was : listening l piece time room .answer .listener ≡ l
+
+abbrev pub LateTakesNothing : Type 0
+LateTakesNothing =
+    (l : Listener) (piece : List ℕ) (time room : ℕ) → listening l piece time room .answer .told ≡ Told.NoAnswer → Untouched l piece time room
+
+-- 3. What the caller of one read may lean on, whatever it handed in: no more bytes are taken than the piece has; and a frame that is told
 -- has its data at the front of the buffer, as many bytes as are said, within what the writer takes.
 abbrev pub TakenIsWithin : Type 0
-TakenIsWithin = (l : Listener) (piece : List ℕ) (room : ℕ) → listening l piece room .answer .taken ≤ length piece
+TakenIsWithin = (l : Listener) (piece : List ℕ) (time room : ℕ) → listening l piece time room .answer .taken ≤ length piece
 
 pub record Whole (command len : ℕ) (written : List ℕ) : Type 0 where
   pub long : len ≡ length written
@@ -119,8 +137,8 @@ pub record Whole (command len : ℕ) (written : List ℕ) : Type 0 where
 
 abbrev pub FrameIsWhole : Type 0
 FrameIsWhole =
-    (l : Listener) (piece : List ℕ) (room command len : ℕ) → listening l piece room .answer .told ≡ Told.Frame command len
-    → Whole command len (listening l piece room .written)
+    (l : Listener) (piece : List ℕ) (time room command len : ℕ) → listening l piece time room .answer .told ≡ Told.Frame command len
+    → Whole command len (listening l piece time room .written)
 
 -- What is told, as the event that the follower and the collector know, if it is one; every one of them is an event of a stream.
 abbrev pub eventsIn : Told → List ℕ → List Event
@@ -132,4 +150,5 @@ eventsIn (Told.Refused number) written = []
 
 abbrev pub EventsAreOnStream : Type 0
 EventsAreOnStream =
-    (l : Listener) (piece : List ℕ) (room : ℕ) → OnStream (eventsIn (listening l piece room .answer .told) (listening l piece room .written))
+    (l : Listener) (piece : List ℕ) (time room : ℕ)
+    → OnStream (eventsIn (listening l piece time room .answer .told) (listening l piece time room .written))

@@ -1,9 +1,4 @@
-// The last of document 01's refusals of a frame, and the ends of the box's patience (ours).
+// How long the box waits (ours), in milliseconds: for the answer to a request, and for a trailer as a whole.
+pub(crate) const REQUEST_TIME: u64 = 2000;
 
-// The last of the numbers by which a frame itself is refused.
-pub(crate) const LAST_OF_FRAME: u8 = 4;
-
-// After five reads of a second each that give nothing, or 8192 bytes since the request, the box waits no longer.
-pub(crate) const MOST_QUIET: usize = 5;
-
-pub(crate) const MOST_NOISE: usize = 8192;
+pub(crate) const TRAILER_TIME: u64 = 60000;

@@ -57,7 +57,7 @@ pub(crate) fn show(report: i32, before: Collected, after: Collected) {
 
 // Reads all settings of the board, and shows each as it comes where that is wished.
 pub(crate) fn settings_of(ends: Ends, shown: bool) -> Collected {
-    let read = talk::whole(ends, talk::collecting(), shown);
+    let read = talk::whole(ends, talk::collecting(ends.begun), shown);
     read.collected
 }
 

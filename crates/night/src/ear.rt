@@ -1,9 +1,10 @@
-// The serial line read byte by byte, until the listener tells something.
+// The serial line read byte by byte, with the time of each read, until the listener tells something.
+use crate::clock;
 use listen::Listener;
 use listen::Told;
 
-// The listener's patience ends after some thousand bytes and reads, so there are never this many turns.
-const MOST_TURNS: u32 = 1000000;
+// The listener's time is over long before there are this many turns.
+const MOST_TURNS: u32 = 1000000000;
 
 // What was told, and the data of the frame, if it was one.
 pub(crate) struct News {
@@ -12,13 +13,26 @@ pub(crate) struct News {
     pub(crate) data: [u8; paper::MOST_DATA],
 }
 
-// Reads one byte, so that nothing is ever left over. A read that gives nothing is a second of silence, or the end of the input.
+// Returns whether a read says that nothing more can come: it failed, or gave nothing where that is no second of silence on a serial line.
+fn is_end(input: i32, got: isize) -> bool {
+    got < 0 || (got == 0 && libc::isatty(input) == 0)
+}
+
+// Reads one byte, so that nothing is ever left over, and then the clock, without which the box waits for nothing.
 fn once(input: i32, listener: Listener) -> News {
     let mut byte = [0u8; 1];
-    let got = libc::read(input, &mut byte);
-    let len = io::count(got, &byte);
     let mut data = [0u8; paper::MOST_DATA];
-    let listened = listener.read(&byte[..len], &mut data);
+    let got = libc::read(input, &mut byte);
+    let now = clock::time();
+    if is_end(input, got) || now == 0 {
+        return News {
+            listener,
+            told: Told::NoAnswer,
+            data,
+        };
+    }
+    let len = io::count(got, &byte);
+    let listened = listener.read(&byte[..len], now, &mut data);
     let next = listened.listener;
     let told = listened.told;
     News {

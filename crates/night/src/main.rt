@@ -12,6 +12,7 @@
 //
 // LINE is a serial device, or - for standard input and output; the report then goes to standard error.
 mod checks;
+mod clock;
 mod collecting;
 mod ear;
 mod file;

@@ -104,7 +104,7 @@ pub(crate) fn show_list(report: i32, from: Table, to: Table) {
 
 // Turns the board's table `from` into `to`, and shows what is confirmed where that is wished.
 pub(crate) fn follow(ends: Ends, from: Table, to: Table, shown: bool) -> Talk {
-    talk::whole(ends, talk::restoring(from, to), shown)
+    talk::whole(ends, talk::restoring(ends.begun, from, to), shown)
 }
 
 // Says how a restore ended, in the follower's own words: done only where it says so. Where it stopped, it adds what the board said.

@@ -1,13 +1,15 @@
 // The serial line, or standard input and output in its place.
+use crate::clock;
 use crate::words;
 
-// Where to read, to write and to report; and where it is not open, whether it is a file.
+// Where to read, to write and to report, and when it was opened; and where it is not open, whether it is a file.
 pub(crate) struct Ends {
     pub(crate) open: bool,
     pub(crate) file: bool,
     pub(crate) input: i32,
     pub(crate) output: i32,
     pub(crate) report: i32,
+    pub(crate) begun: u64,
 }
 
 // Returns whether what was opened is a file: it has a position, and a serial line has none.
@@ -27,6 +29,7 @@ fn ends_of(fd: i32) -> Ends {
         input: fd,
         output: fd,
         report: libc::STDOUT_FILENO,
+        begun: clock::time(),
     }
 }
 
@@ -39,6 +42,7 @@ pub(crate) fn open(path: &[u8]) -> Ends {
             input: libc::STDIN_FILENO,
             output: libc::STDOUT_FILENO,
             report: libc::STDERR_FILENO,
+            begun: clock::time(),
         };
     }
     let fd = os::open_update(path);

@@ -9,7 +9,7 @@ pub(crate) fn run() {
     if !ends.open {
         return;
     }
-    let talk = talk::whole(ends, talk::viewing(), true);
+    let talk = talk::whole(ends, talk::viewing(ends.begun), true);
     serial::close(ends);
     if talk.silent {
         words::say(ends.report, b"no answer: look at the line and its plug");

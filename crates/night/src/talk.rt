@@ -1,6 +1,7 @@
 // A talk with a board over a serial line: requests go out one at a time, and what comes back is told to the machine that asks. Three
 // machines ask: the collector reads the settings, the follower follows a restore, the viewer looks at the read-only values. One talk serves
 // all three.
+use crate::clock;
 use crate::collecting;
 use crate::ear;
 use crate::ear::News;
@@ -20,8 +21,8 @@ use view::Viewed;
 use view::Viewer;
 use wire::Written;
 
-// After this many frames that say nothing of what was asked, the board counts as having given no answer.
-const MOST_EVENTS: u32 = 1000;
+// The listener's time is over long before there are this many frames that say nothing of what was asked.
+const MOST_EVENTS: u32 = 1000000000;
 
 // Which machine asks.
 pub(crate) enum Asker {
@@ -49,11 +50,11 @@ pub(crate) enum Turn {
     Nothing,
 }
 
-// Returns a talk in which nothing was sent yet.
-fn begun(asker: Asker, followed: Followed) -> Talk {
+// Returns a talk with a trailer that was begun at this time, in which nothing was sent yet.
+fn started(asker: Asker, begun: u64, followed: Followed) -> Talk {
     Talk {
         asker,
-        listener: Listener::start(),
+        listener: Listener::start(begun),
         collected: Collector::start(),
         followed,
         viewed: Viewer::start(),
@@ -69,18 +70,18 @@ fn at_rest() -> Followed {
 }
 
 // Returns a talk that reads all settings.
-pub(crate) fn collecting() -> Talk {
-    begun(Asker::Collector, at_rest())
+pub(crate) fn collecting(begun: u64) -> Talk {
+    started(Asker::Collector, begun, at_rest())
 }
 
 // Returns a talk that turns the board's table `from` into `to`.
-pub(crate) fn restoring(from: Table, to: Table) -> Talk {
-    begun(Asker::Follower, Follower::start(from, to))
+pub(crate) fn restoring(begun: u64, from: Table, to: Table) -> Talk {
+    started(Asker::Follower, begun, Follower::start(from, to))
 }
 
 // Returns a talk that looks at the read-only values.
-pub(crate) fn viewing() -> Talk {
-    begun(Asker::Viewer, at_rest())
+pub(crate) fn viewing(begun: u64) -> Talk {
+    started(Asker::Viewer, begun, at_rest())
 }
 
 // Returns what the machine that asks wants to be sent.
@@ -203,7 +204,7 @@ fn event(input: i32, talk: Talk) -> Talk {
     heard(talk, ear::next(input, listener))
 }
 
-// Notes that a request was sent: the listener counts anew.
+// Notes that a request was sent: its time begins.
 fn asked(talk: Talk) -> Talk {
     let asker = talk.asker;
     let listener = talk.listener;
@@ -213,7 +214,7 @@ fn asked(talk: Talk) -> Talk {
     let said = talk.said;
     Talk {
         asker,
-        listener: listener.asked(),
+        listener: listener.asked(clock::time()),
         collected,
         followed,
         viewed,
@@ -235,7 +236,7 @@ fn answer(input: i32, talk: Talk) -> Talk {
     talk
 }
 
-// Ends the wait for a board that talks of other things without end: it has given no answer.
+// Ends the wait, whatever came: a request that is still open has got no answer.
 fn patient(talk: Talk, before: usize) -> Talk {
     if !waits(talk, before) {
         return talk;

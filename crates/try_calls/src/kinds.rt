@@ -17,6 +17,11 @@ fn is_id(word: &[u8]) -> bool {
     numbers::begins_with_id(word) & (word.len() == ID_LEN)
 }
 
+// Returns whether a word is a decimal number.
+fn is_count(word: &[u8]) -> bool {
+    numbers::is_number(numbers::number_of(word))
+}
+
 // Returns whether a word is bytes.
 pub fn is_bytes(word: &[u8]) -> bool {
     let mut space = [0u8; SPACE];
@@ -44,7 +49,7 @@ fn is_asked(word: &[u8]) -> bool {
 fn fits(kind: u8, word: &[u8]) -> bool {
     match kind {
         b'c' => true,
-        b'n' => numbers::is_number(numbers::number_of(word)),
+        b'n' => is_count(word),
         b'i' => is_id(word),
         b'b' => is_bytes(word),
         b'B' => is_bytes(word),
@@ -53,7 +58,7 @@ fn fits(kind: u8, word: &[u8]) -> bool {
         b'P' => is_setting(word) | is_bytes(word),
         b'F' => is_setting(word) | is_bytes(word) | is_silence(word),
         b'C' => is_bytes(word) | is_silence(word),
-        b'A' => is_bytes(word) | is_asked(word),
+        b'A' => is_count(word) | is_bytes(word) | is_asked(word),
         _ => false,
     }
 }

@@ -3,14 +3,11 @@ use borrow.Author.Needs.{needs}
 use Rattle.listen.proofs.answer.reported.Statement.{statement}
 use Rattle.listen.proofs.answer.reported.Tie as tie
 
-louder-requires : tie.Need-louder-requires
-louder-requires c κs = search needs
-
 told-by-requires : tie.Need-told-by-requires
 told-by-requires c κs = search needs
 
 returns : tie.Need-returns
-returns c = rw (c .told-by .ensures, c .before .louder .ensures)
+returns c = rw (c .told-by .ensures)
 
 pub reported-spec : {M : Type 1} → statement M
-reported-spec = tie.close (tie.spec louder-requires told-by-requires returns)
+reported-spec = tie.close (tie.spec told-by-requires returns)

@@ -6,9 +6,6 @@ use Rattle.listen.proofs.answer.told_by.Tie as tie
 enum-told : tie.Need-enum-told
 enum-told c = search needs
 
-after-noise-requires : tie.Need-after-noise-requires
-after-noise-requires c κs = search needs
-
 enum-known-event : tie.Need-enum-known-event
 enum-known-event c = search needs
 
@@ -16,7 +13,7 @@ enum-known-event-2 : tie.Need-enum-known-event-2
 enum-known-event-2 c = search needs
 
 returns : tie.Need-returns
-returns c = rw (c .after-noise .ensures, c .before .enum-told .given .1)
+returns c = search needs
 
 returns-2 : tie.Need-returns-2
 returns-2 c = rw (c .before .event .given .1)
@@ -26,12 +23,4 @@ returns-3 c = rw (c .before .event2 .given .1)
 
 pub told-by-spec : {M : Type 1} → statement M
 told-by-spec =
-    tie.close
-    (tie.spec
-    enum-told
-    after-noise-requires
-    enum-known-event
-    enum-known-event-2
-    returns
-    returns-2
-    returns-3)
+    tie.close (tie.spec enum-told enum-known-event enum-known-event-2 returns returns-2 returns-3)

@@ -23,8 +23,8 @@ number-requires-2 c κs = search needs
 number-requires-3 : tie.Need-number-requires-3 Inv-loop μ-loop
 number-requires-3 c κs = search needs
 
-with-counts-requires : tie.Need-with-counts-requires Inv-loop μ-loop
-with-counts-requires c κs = search needs
+waiting-requires : tie.Need-waiting-requires Inv-loop μ-loop
+waiting-requires c κs = search needs
 
 loop-holds : tie.Need-loop-holds Inv-loop μ-loop
 loop-holds c = tt
@@ -54,7 +54,7 @@ listen-spec =
     number-requires
     number-requires-2
     number-requires-3
-    with-counts-requires
+    waiting-requires
     loop-holds
     after-requires
     add-k

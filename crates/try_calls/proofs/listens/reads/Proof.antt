@@ -6,10 +6,10 @@ use Rattle.try_calls.proofs.listens.reads.Statement.{statement}
 use Rattle.try_calls.proofs.listens.reads.Tie as tie
 
 abbrev Inv-loop : tie.InvT-loop
-Inv-loop len room space listening₀ from₀ listening from = from ≤ len
+Inv-loop len time room space listening₀ from₀ listening from = from ≤ len
 
 abbrev μ-loop : tie.MeasureT-loop
-μ-loop len room space listening₀ from₀ listening from = len - from
+μ-loop len time room space listening₀ from₀ listening from = len - from
 
 returns : tie.Need-returns Inv-loop μ-loop
 returns c = search needs
