@@ -1,7 +1,9 @@
 // The collector in a talk: a board's settings asked for by Gets, one after the other.
 use crate::names;
+use crate::said;
 use crate::serial::Ends;
 use crate::talk;
+use crate::talk::Talk;
 use crate::talk::Turn;
 use crate::words;
 use collect::Collected;
@@ -10,6 +12,7 @@ use collect::Stage;
 use lines::Line;
 use listen::Told;
 use requests::Request;
+use settings::Setting;
 
 // Returns the request that the collector waits for, or nothing where it has ended.
 pub(crate) fn due(collected: Collected) -> Turn {
@@ -56,19 +59,35 @@ pub(crate) fn show(report: i32, before: Collected, after: Collected) {
 }
 
 // Reads all settings of the board, and shows each as it comes where that is wished.
-pub(crate) fn settings_of(ends: Ends, shown: bool) -> Collected {
-    let read = talk::whole(ends, talk::collecting(ends.begun), shown);
-    read.collected
+pub(crate) fn settings_of(ends: Ends, shown: bool) -> Talk {
+    talk::whole(ends, talk::collecting(ends.begun), shown)
+}
+
+// Says at which setting the reading stopped and why, which the data heard last tell: the front of a buffer.
+fn tell_stop(
+    report: i32,
+    setting: Setting,
+    numbers: [u16; settings::COUNT],
+    data: [u8; paper::MOST_DATA],
+    len: usize,
+) {
+    let n = words::front(len, &data);
+    words::add(
+        report,
+        said::put_unread(Line::start(), setting, numbers, &data[..n]),
+    );
 }
 
 // Says how many settings were read, in the collector's own words, and at which it stopped.
-pub(crate) fn tell_end(report: i32, collected: Collected) {
+pub(crate) fn tell_end(report: i32, read: Talk) {
+    let collected = read.collected;
     let collector = collected.collector;
     let stage = collected.stage;
     words::add(report, sentences::collected(collector));
     if let Stage::Stopped(setting) = stage {
-        let title = names::put_title(Line::start().put(b"; at "), setting.index);
-        words::add(report, title.put(b": no answer or none that fits"));
+        let numbers = collector.numbers;
+        let said = read.said;
+        tell_stop(report, setting, numbers, said, read.len);
     }
     words::end(report);
 }

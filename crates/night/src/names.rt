@@ -23,6 +23,9 @@ const WIDE: usize = 22;
 
 const ALL: usize = 572;
 
+// 0 degrees Celsius in steps of 0.01 K.
+const FREEZING: usize = 27315;
+
 const UNITS: [Unit; COUNT] = [
     Unit::Volts, // 0320
     Unit::Volts, // 0321
@@ -127,17 +130,38 @@ fn put_cell(line: Line, cell: &[u8], wide: bool) -> Line {
     line.put(&cell[..len])
 }
 
+// Puts a temperature in degrees Celsius: `(16.85 °C)`.
+fn put_celsius(line: Line, number: u16) -> Line {
+    let steps = number as usize;
+    let begun = line.put(b" (");
+    if steps < FREEZING {
+        return begun
+            .put(b"-")
+            .put_pointed(FREEZING - steps, 2)
+            .put(b" \xC2\xB0C)");
+    }
+    begun.put_pointed(steps - FREEZING, 2).put(b" \xC2\xB0C)")
+}
+
 // Puts a unit after its number.
-fn put_unit(line: Line, unit: Unit) -> Line {
+fn put_unit(line: Line, unit: Unit, number: u16) -> Line {
     match unit {
         Unit::Plain => line,
         Unit::Volts => line.put(b" V"),
         Unit::Percent => line.put(b" %"),
-        Unit::Kelvin => line.put(b" K"),
+        Unit::Kelvin => put_celsius(line.put(b" K"), number),
         Unit::AmpHours => line.put(b" Ah"),
         Unit::Minutes => line.put(b" min"),
         Unit::Amperes => line.put(b" A"),
     }
+}
+
+// Returns whether 0 is no amount but turns the setting off: an alarm, and the clearing point of a temperature.
+fn is_off(index: usize, number: u16) -> bool {
+    if number != 0 {
+        return false;
+    }
+    (index == 0) | (index == 2) | (index == 4) | (6 <= index) & (index <= 9)
 }
 
 // Puts a number of steps in the setting's unit: `12.0 V`.
@@ -145,8 +169,52 @@ pub(crate) fn put_amount(line: Line, index: usize, number: u16) -> Line {
     if COUNT <= index {
         return line;
     }
+    if is_off(index, number) {
+        return line.put(b"off");
+    }
     let counted = line.put_pointed(number as usize, DECIMALS[index]);
-    put_unit(counted, UNITS[index])
+    put_unit(counted, UNITS[index], number)
+}
+
+// Returns the least number over 0 in a setting's range.
+fn least_of(index: usize) -> u16 {
+    let mut number: u16 = 1;
+    while number < 65535 && !settings::in_range(index, number) {
+        number += 1;
+    }
+    number
+}
+
+// Returns the largest number in a setting's range.
+fn most_of(index: usize) -> u16 {
+    let mut number: u16 = 65535;
+    while number > 0 && !settings::in_range(index, number) {
+        number -= 1;
+    }
+    number
+}
+
+// Puts a range, of which the lower end has no unit.
+fn put_ends(line: Line, index: usize, least: u16, most: u16) -> Line {
+    if COUNT <= index {
+        return line;
+    }
+    let begun = line.put_pointed(least as usize, DECIMALS[index]);
+    put_amount(begun.put(b" to "), index, most)
+}
+
+// Puts a setting's own range: `1 to 9999 Ah`. A temperature is 0 or in a range that begins further up.
+pub(crate) fn put_range(line: Line, index: usize) -> Line {
+    let least = least_of(index);
+    let most = most_of(index);
+    if !settings::in_range(index, 0) {
+        return put_ends(line, index, least, most);
+    }
+    if least == 1 {
+        return put_ends(line, index, 0, most);
+    }
+    let begun = put_amount(line.put(b"off or "), index, least);
+    put_amount(begun.put(b" to "), index, most)
 }
 
 // Puts an id and a name: `0320 low voltage alarm`.

@@ -2,45 +2,61 @@
 use crate::collecting;
 use crate::file;
 use crate::serial;
+use crate::serial::Ends;
+use crate::whose;
 use crate::words;
 use collect::Collected;
 use collect::Collector;
 use collect::Stage;
 use sentences::Kept;
 
-// Reads all settings, and writes the file once all were answered.
+// Reads all settings, and writes the file once all were answered. What is no file is not replaced, so then nothing is read.
 pub(crate) fn run() {
     let ends = serial::first();
     if !ends.open {
         unsaved(ends.report);
         return;
     }
-    let collected = collecting::settings_of(ends, true);
+    let mut path = io::buffer();
+    let len = os::arg(words::SECOND, &mut path);
+    if file::is_free(ends.report, &path[..len]) {
+        save(ends, &path[..len]);
+    } else {
+        unsaved(ends.report);
+    }
     serial::close(ends);
-    collecting::tell_end(ends.report, collected);
-    kept(ends.report, collected);
 }
 
-// Says that nothing is saved, since without a serial line nothing was read.
+// Says that nothing is saved, since nothing was read.
 fn unsaved(report: i32) {
     let collected = Collector::start();
     tell(report, collected, Kept::Not, b"");
 }
 
-// Writes the file where all settings were read.
-fn kept(report: i32, collected: Collected) {
-    let mut path = io::buffer();
-    let len = os::arg(words::SECOND, &mut path);
+// Reads all settings, and writes the file where all were read.
+fn save(ends: Ends, path: &[u8]) {
+    let read = collecting::settings_of(ends, true);
+    collecting::tell_end(ends.report, read);
+    let collected = read.collected;
     let stage = collected.stage;
     match stage {
-        Stage::Done => {
-            let kept = file::keep(&path[..len], collected.table);
-            tell(report, collected, kept, &path[..len]);
-        }
-        Stage::Waiting(_) => tell(report, collected, Kept::Not, b""),
-        Stage::Stopped(_) => tell(report, collected, Kept::Not, b""),
-        Stage::Refused(_) => tell(report, collected, Kept::Not, b""),
+        Stage::Done => keep(ends, collected, path),
+        Stage::Waiting(_) => tell(ends.report, collected, Kept::Not, b""),
+        Stage::Stopped(_) => tell(ends.report, collected, Kept::Not, b""),
+        Stage::Refused(_) => tell(ends.report, collected, Kept::Not, b""),
     }
+}
+
+// Writes the file, and notes the board's serial beside it.
+fn keep(ends: Ends, collected: Collected, path: &[u8]) {
+    let serial = whose::ask(ends);
+    let kept = file::keep(ends.report, path, collected.table);
+    match kept {
+        Kept::Not => {}
+        Kept::Unsure => file::note(ends.report, path, serial),
+        Kept::Whole => file::note(ends.report, path, serial),
+    }
+    tell(ends.report, collected, kept, path);
 }
 
 // Says whether the settings are saved, which the collector and what became of the file decide together; then the file's name, if it was

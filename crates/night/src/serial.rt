@@ -2,10 +2,12 @@
 use crate::clock;
 use crate::words;
 
-// Where to read, to write and to report, and when it was opened; and where it is not open, whether it is a file.
+// Where to read, to write and to report, and when it was opened; and where it is not open, whether it is a file, and the system's number
+// for the reason.
 pub(crate) struct Ends {
     pub(crate) open: bool,
     pub(crate) file: bool,
+    pub(crate) error: i32,
     pub(crate) input: i32,
     pub(crate) output: i32,
     pub(crate) report: i32,
@@ -18,7 +20,7 @@ fn is_file(fd: i32) -> bool {
 }
 
 // Returns the ends of a device that was opened. A file is closed again, before anything is written over it.
-fn ends_of(fd: i32) -> Ends {
+fn ends_of(fd: i32, error: i32) -> Ends {
     let file = 0 <= fd && is_file(fd);
     if file {
         libc::close(fd);
@@ -26,6 +28,7 @@ fn ends_of(fd: i32) -> Ends {
     Ends {
         open: 0 <= fd && !file,
         file,
+        error,
         input: fd,
         output: fd,
         report: libc::STDOUT_FILENO,
@@ -39,6 +42,7 @@ pub(crate) fn open(path: &[u8]) -> Ends {
         return Ends {
             open: true,
             file: false,
+            error: 0,
             input: libc::STDIN_FILENO,
             output: libc::STDOUT_FILENO,
             report: libc::STDERR_FILENO,
@@ -46,10 +50,11 @@ pub(crate) fn open(path: &[u8]) -> Ends {
         };
     }
     let fd = os::open_update(path);
+    let error = os::errno();
     if fd < 0 {
         os::fail(path);
     }
-    ends_of(fd)
+    ends_of(fd, error)
 }
 
 // Says that a serial line could not be opened, and that nothing was sent.

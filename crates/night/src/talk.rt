@@ -267,7 +267,7 @@ fn show(report: i32, before: Talk, after: Talk) {
 }
 
 // Sends what is due, hears what becomes of it, and shows that where it is wished; does nothing where the talk has ended.
-fn further(ends: Ends, talk: Talk, shown: bool) -> Talk {
+pub(crate) fn further(ends: Ends, talk: Talk, shown: bool) -> Talk {
     if !send(ends.output, due(talk)) {
         return talk;
     }

@@ -11,13 +11,27 @@ pub(crate) const SECOND: usize = 3;
 
 pub(crate) const MOST_COMMAND: usize = 16;
 
+// The longest name of a trailer that is shown whole, and how much is shown at each end of a longer one.
+const MOST_NAME: usize = 32;
+
+const NAME_END: usize = 15;
+
+// Reasons of the system for which the C library's declarations have no name.
+const NO_DEVICE_NOW: i32 = 6;
+
+const BUSY: i32 = 16;
+
+const NO_DEVICE: i32 = 19;
+
 // What the program can do.
 pub(crate) enum Command {
     Save,
     Check,
     Restore,
+    Plan,
     Show,
     Yard,
+    Table,
     Lines,
     Unknown,
 }
@@ -33,11 +47,17 @@ pub(crate) fn asked_for(word: &[u8], count: usize) -> Command {
     if count == 4 && check::same(word, b"restore") {
         return Command::Restore;
     }
+    if count == 4 && check::same(word, b"plan") {
+        return Command::Plan;
+    }
     if count == 3 && check::same(word, b"show") {
         return Command::Show;
     }
     if count == 3 && check::same(word, b"yard") {
         return Command::Yard;
+    }
+    if count == 4 && check::same(word, b"yard") {
+        return Command::Table;
     }
     if count == 3 && check::same(word, b"lines") {
         return Command::Lines;
@@ -49,7 +69,7 @@ pub(crate) fn asked_for(word: &[u8], count: usize) -> Command {
 pub(crate) fn usage() {
     say(
         libc::STDERR_FILENO,
-        b"usage: night save LINE FILE | check FILE | restore LINE FILE | show LINE | yard LIST | lines LIST",
+        b"usage: night save LINE FILE | check FILE | restore LINE FILE | plan LINE FILE | show LINE | yard LIST [tsv] | lines LIST",
     );
 }
 
@@ -93,6 +113,58 @@ pub(crate) fn put(fd: i32, text: &[u8], len: usize) -> bool {
 pub(crate) fn name(report: i32, name: &[u8]) {
     io::write_all(report, name);
     io::write_all(report, b": ");
+}
+
+// Writes a name that a row begins with. A long one is written by its two ends, so that it does not push the rest off the row.
+pub(crate) fn short(report: i32, name: &[u8]) {
+    if name.len() <= MOST_NAME {
+        io::write_all(report, name);
+        return;
+    }
+    let n = front(NAME_END, name);
+    io::write_all(report, &name[..n]);
+    io::write_all(report, b"..");
+    let from = name.len() - NAME_END;
+    io::write_all(report, &name[from..]);
+}
+
+// Puts the system's reason, by its number.
+pub(crate) fn put_reason(line: Line, error: i32) -> Line {
+    if error == libc::ENOENT {
+        return line.put(b"No such file or directory");
+    }
+    if error == libc::EACCES {
+        return line.put(b"Permission denied");
+    }
+    if error == libc::EIO {
+        return line.put(b"Input/output error");
+    }
+    if error == NO_DEVICE_NOW {
+        return line.put(b"No such device or address");
+    }
+    if error == NO_DEVICE {
+        return line.put(b"No such device");
+    }
+    if error == BUSY {
+        return line.put(b"Device or resource busy");
+    }
+    if error == libc::EISDIR {
+        return line.put(b"Is a directory");
+    }
+    if error == libc::ENOTDIR {
+        return line.put(b"Not a directory");
+    }
+    line.put(b"error ").put_number(number_of(error))
+}
+
+// Returns a number, and no more than 4096.
+fn usual(n: usize) -> usize {
+    if n < 4096 { n } else { 4096 }
+}
+
+// Returns a small number of the system, such as an error's or an open file's, as a count; a negative one is 0.
+pub(crate) fn number_of(n: i32) -> usize {
+    if n > 0 { usual(n as usize) } else { 0 }
 }
 
 // Returns whether a character separates words.

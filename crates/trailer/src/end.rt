@@ -14,7 +14,7 @@ pub(crate) fn store(board: Board) {
     let written = backup::write(table, &mut text);
     match written {
         Written::Len(count) => keep(&path[..len], &text, count),
-        Written::Refused(_) => words::say(b"refused 12: the board's table is not allowed"),
+        Written::Refused(_) => words::say(b"not written: the board's table is not allowed"),
     }
 }
 
@@ -23,10 +23,12 @@ fn keep(path: &[u8], text: &[u8], count: usize) {
     let fd = os::open_overwrite(path);
     if fd < 0 {
         os::fail(path);
+        words::say(b"not written: END cannot be opened");
         return;
     }
     if !words::put(fd, text, count) {
         os::fail(path);
+        words::say(b"not written: END may be incomplete");
     }
     libc::close(fd);
 }

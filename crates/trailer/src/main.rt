@@ -8,6 +8,9 @@
 // END     a file for the settings at the end; none is written
 // PRODUCT, VERSION  four hex digits each; A381 and 4401
 // SERIAL  0 to 32 characters; none
+//
+// A program of this language has no exit status. Where the board does not start, or its settings at the end are not written, the last line on
+// standard error begins with "trailer: not", which the launcher turns into one.
 mod end;
 mod serve;
 mod start;
@@ -28,6 +31,7 @@ fn main() {
     let fd = os::open_update(&path[..len]);
     if fd < 0 {
         os::fail(&path[..len]);
+        words::say(b"not started: LINE cannot be opened");
         return;
     }
     let served = serve::device(begun.board, fd);

@@ -38,7 +38,7 @@ fn number(place: usize, otherwise: u16) -> words::Number {
     let len = words::word(place, &mut text);
     let number = words::hex(&text[..len], otherwise);
     if !number.is {
-        words::say(b"PRODUCT and VERSION are four hex digits each, such as A381");
+        words::say(b"not started: PRODUCT and VERSION are four hex digits each, such as A381");
     }
     number
 }
@@ -78,7 +78,7 @@ fn judged_start(judged: Handed) -> Begun {
     match verdict {
         Verdict::Accepted => Begun { ready: true, board },
         Verdict::Refused(_) => {
-            words::say(b"refused 12: SERIAL has over 32 characters, or one outside 0x20..0x7E");
+            words::say(b"not started: SERIAL has over 32 characters, or one outside 0x20..0x7E");
             none()
         }
     }
@@ -105,6 +105,7 @@ fn table() -> Chosen {
     let fd = os::open_read(&path[..len]);
     if fd < 0 {
         os::fail(&path[..len]);
+        words::say(b"not started: START cannot be read");
         return no_table();
     }
     let mut text = io::buffer();
@@ -121,7 +122,7 @@ fn read(text: &[u8]) -> Chosen {
     match verdict {
         Checked::Accepted => Chosen { ready: true, table },
         Checked::Refused { number: _, line: _ } => {
-            words::say(b"START is refused: `night check` says why");
+            words::say(b"not started: START is refused, and `night check` says why");
             no_table()
         }
     }

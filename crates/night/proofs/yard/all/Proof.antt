@@ -7,13 +7,10 @@ use Rattle.night.proofs.yard.all.Statement.{statement}
 use Rattle.night.proofs.yard.all.Tie as tie
 
 abbrev Inv-loop : tie.InvT-loop
-Inv-loop list tally₀ at₀ tally at = at ≤ length list
+Inv-loop list sheet₀ at₀ sheet at = at ≤ length list
 
 abbrev μ-loop : tie.MeasureT-loop
-μ-loop list tally₀ at₀ tally at = length list - at
-
-nothing-requires : tie.Need-nothing-requires Inv-loop μ-loop
-nothing-requires c κs = search needs
+μ-loop list sheet₀ at₀ sheet at = length list - at
 
 loop-holds : tie.Need-loop-holds Inv-loop μ-loop
 loop-holds c = search needs
@@ -51,7 +48,6 @@ all-spec =
     (tie.spec
     Inv-loop
     μ-loop
-    nothing-requires
     loop-holds
     add-find
     find-requires

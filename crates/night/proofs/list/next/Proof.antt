@@ -1,10 +1,10 @@
--- `night::rows::next` meets its contract. The invariant: the place lies between `from` and the end. Assumes nothing.
+-- `night::list::next` meets its contract. The invariant: the place lies between `from` and the end. Assumes nothing.
 use Prim.Native.Nat.{_≤_, _-_}
 use lib.ListN.{length}
 use native.Mathlib.Omega.{arith}
 use borrow.Author.Needs.{needs}
-use Rattle.night.proofs.rows.next.Statement.{statement}
-use Rattle.night.proofs.rows.next.Tie as tie
+use Rattle.night.proofs.list.next.Statement.{statement}
+use Rattle.night.proofs.list.next.Tie as tie
 
 abbrev Inv-loop : tie.InvT-loop
 Inv-loop row from blank at₀ at = (from ≤ at) × (at ≤ length row)

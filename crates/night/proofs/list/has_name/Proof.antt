@@ -1,16 +1,16 @@
--- `night::rows::is_in` meets its contract. Assumes nothing.
+-- `night::list::has_name` meets its contract. Assumes nothing.
 use Prim.Native.Nat.{_≤_, _-_}
 use lib.ListN.{length}
 use native.Mathlib.Omega.{arith}
 use borrow.Author.Needs.{needs}
-use Rattle.night.proofs.rows.is_in.Statement.{statement}
-use Rattle.night.proofs.rows.is_in.Tie as tie
+use Rattle.night.proofs.list.has_name.Statement.{statement}
+use Rattle.night.proofs.list.has_name.Tie as tie
 
 abbrev Inv-loop : tie.InvT-loop
-Inv-loop list line at₀ at = at ≤ length list
+Inv-loop names name at₀ at = at ≤ length names
 
 abbrev μ-loop : tie.MeasureT-loop
-μ-loop list line at₀ at = length list - at
+μ-loop names name at₀ at = length names - at
 
 loop-holds : tie.Need-loop-holds Inv-loop μ-loop
 loop-holds c = search needs
@@ -21,17 +21,17 @@ add-find c = search needs
 find-requires : tie.Need-find-requires Inv-loop μ-loop
 find-requires c κs = search needs
 
-sub-has-line : tie.Need-sub-has-line Inv-loop μ-loop
-sub-has-line c = search needs
+sub-is-named : tie.Need-sub-is-named Inv-loop μ-loop
+sub-is-named c = search needs
 
-part-has-line-start : tie.Need-part-has-line-start Inv-loop μ-loop
-part-has-line-start c = search needs
+part-is-named-start : tie.Need-part-is-named-start Inv-loop μ-loop
+part-is-named-start c = search needs
 
-part-has-line-end : tie.Need-part-has-line-end Inv-loop μ-loop
-part-has-line-end c = search needs
+part-is-named-end : tie.Need-part-is-named-end Inv-loop μ-loop
+part-is-named-end c = search needs
 
-has-line-requires : tie.Need-has-line-requires Inv-loop μ-loop
-has-line-requires c κs = search needs
+is-named-requires : tie.Need-is-named-requires Inv-loop μ-loop
+is-named-requires c κs = search needs
 
 returns : tie.Need-returns Inv-loop μ-loop
 returns c = search needs
@@ -45,8 +45,8 @@ loop-again c = search needs
 returns-2 : tie.Need-returns-2 Inv-loop μ-loop
 returns-2 c = search needs
 
-pub is-in-spec : {M : Type 1} → statement M
-is-in-spec =
+pub has-name-spec : {M : Type 1} → statement M
+has-name-spec =
     tie.close
     (tie.spec
     Inv-loop
@@ -54,10 +54,10 @@ is-in-spec =
     loop-holds
     add-find
     find-requires
-    sub-has-line
-    part-has-line-start
-    part-has-line-end
-    has-line-requires
+    sub-is-named
+    part-is-named-start
+    part-is-named-end
+    is-named-requires
     returns
     loop-less
     loop-again

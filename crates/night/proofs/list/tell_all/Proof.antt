@@ -1,10 +1,10 @@
--- `night::rows::tell_all` meets its contract. Assumes nothing.
+-- `night::list::tell_all` meets its contract. Assumes nothing.
 use Prim.Native.Nat.{_≤_, _-_}
 use lib.ListN.{length}
 use native.Mathlib.Omega.{arith}
 use borrow.Author.Needs.{needs}
-use Rattle.night.proofs.rows.tell_all.Statement.{statement}
-use Rattle.night.proofs.rows.tell_all.Tie as tie
+use Rattle.night.proofs.list.tell_all.Statement.{statement}
+use Rattle.night.proofs.list.tell_all.Tie as tie
 
 abbrev Inv-loop : tie.InvT-loop
 Inv-loop list at₀ at = at ≤ length list

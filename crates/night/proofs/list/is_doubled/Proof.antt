@@ -1,16 +1,16 @@
--- `night::rows::is_doubled` meets its contract. Assumes nothing.
+-- `night::list::is_doubled` meets its contract. Assumes nothing.
 use Prim.Native.Nat.{_≤_, _-_}
 use lib.ListN.{length}
 use native.Mathlib.Omega.{arith}
 use borrow.Author.Needs.{needs}
-use Rattle.night.proofs.rows.is_doubled.Statement.{statement}
-use Rattle.night.proofs.rows.is_doubled.Tie as tie
+use Rattle.night.proofs.list.is_doubled.Statement.{statement}
+use Rattle.night.proofs.list.is_doubled.Tie as tie
 
 abbrev Inv-loop : tie.InvT-loop
-Inv-loop list at₀ at = at ≤ length list
+Inv-loop list report at₀ at = at ≤ length list
 
 abbrev μ-loop : tie.MeasureT-loop
-μ-loop list at₀ at = length list - at
+μ-loop list report at₀ at = length list - at
 
 loop-holds : tie.Need-loop-holds Inv-loop μ-loop
 loop-holds c = search needs

@@ -1,0 +1,81 @@
+// The serial of a board, by one Get of 010A. What a serial is, `view` decides.
+use crate::serial::Ends;
+use crate::talk;
+use crate::talk::Talk;
+use crate::words;
+use lines::Line;
+use view::Sight;
+use view::Viewed;
+use view::Viewer;
+
+// Whether the board told a serial, and its characters, of which there are none where it did not.
+pub(crate) struct Serial {
+    pub(crate) told: bool,
+    pub(crate) line: Line,
+}
+
+// Returns the serial of a board that told none.
+pub(crate) fn untold() -> Serial {
+    Serial {
+        told: false,
+        line: Line::start(),
+    }
+}
+
+// Returns a viewer to which the serial is due: the product, which comes before it, is passed over as one that the board does not know.
+fn due() -> Viewed {
+    let started = Viewer::start();
+    let viewer = started.viewer;
+    viewer.reply(paper::GET_CODE, &[0x00, 0x01, paper::UNKNOWN_FLAG])
+}
+
+// Returns the serial in a value, which ends at the first zero byte.
+fn of_value(value: &[u8]) -> Serial {
+    let end = bytes::scan::find(value, 0, value.len(), 0);
+    let n = words::front(end, value);
+    Serial {
+        told: true,
+        line: Line::start().put(&value[..n]),
+    }
+}
+
+// Returns the serial in the data of an answer, whose first three bytes are no part of it.
+fn of_answer(sight: Sight, data: &[u8]) -> Serial {
+    if data.len() < paper::FRONT {
+        return untold();
+    }
+    match sight {
+        Sight::Nothing => untold(),
+        Sight::Understood(_) => of_value(&data[paper::FRONT..]),
+        Sight::Strange(_) => untold(),
+    }
+}
+
+// Returns the serial that was told in a talk.
+fn of_talk(talk: Talk) -> Serial {
+    let viewed = talk.viewed;
+    let sight = viewed.sight;
+    let said = talk.said;
+    let n = words::front(talk.len, &said);
+    of_answer(sight, &said[..n])
+}
+
+// Returns a talk in which the serial is due.
+fn begun() -> Talk {
+    let mut talk = talk::viewing();
+    talk.viewed = due();
+    talk
+}
+
+// Asks a board for its serial.
+pub(crate) fn ask(ends: Ends) -> Serial {
+    of_talk(talk::further(ends, begun(), false))
+}
+
+// Returns whether the board told this serial.
+pub(crate) fn is(serial: Serial, wanted: &[u8]) -> bool {
+    let line = serial.line;
+    let chars = line.chars;
+    let n = words::front(line.len, &chars);
+    serial.told && check::same(&chars[..n], wanted)
+}
