@@ -23,11 +23,7 @@ use Rattle.answers.specs.Requests.{getRequest}
 use Rattle.requests.specs.Calls.{getWritten, setOf, setWritten}
 use Rattle.requests.specs.Laws.{getFrame, SetIsRequest}
 
--- a Get is its frame, by the frame writer's rule
-pub get-is : (id room : ℕ) → writing getCode (said id 0 []) room ≡ getWritten id room
-unfolding getWritten writing
-get-is id room = refl
-
+-- with room a Get is written as its bytes
 pub get-made : (id room : ℕ) → frameRoom ≤ room → getWritten id room ≡ writtenAs (getRequest id)
 unfolding getWritten
 get-made id room enough = rw (le-ltb room frameRoom enough)
@@ -36,6 +32,11 @@ pub get-bytes : (id : ℕ) → id < 256 ^ 2 → getRequest id ≡ getFrame id
 get-bytes id small =
     let high : id / 256 % 256 ≡ id / 256 = omega arith in
     ap (λ (b : ℕ). frame 7 (id % 256 ∷ b ∷ 0 ∷ [])) high
+
+-- a Get is its frame, by the frame writer's rule
+pub get-is : (id room : ℕ) → writing getCode (said id 0 []) room ≡ getWritten id room
+unfolding getWritten writing
+get-is id room = refl
 
 -- one byte or two hold a number
 pub holds-is : (width n : ℕ) → 1 ≤ width → width ≤ 2 → n < 65536 → (eqb width 2 || ltb n 256) ≡ ltb n (256 ^ width)
