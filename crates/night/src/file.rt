@@ -405,11 +405,35 @@ fn note_as(report: i32, name: &[u8], serial: Line) {
         words::say(report, b"no serial is noted");
         return;
     }
+    tell_before(report, name, serial);
     let kept = replace_line(name, serial.put(b"\n"));
     match kept {
         Kept::Not => words::say(report, b"no serial is noted: its file cannot be written"),
         Kept::Unsure => tell_noted(report, name, serial),
         Kept::Whole => tell_noted(report, name, serial),
+    }
+}
+
+// Says so where another serial is noted under a name: the file was saved from another board.
+fn tell_before(report: i32, name: &[u8], serial: Line) {
+    let fd = os::open_read(name);
+    if fd < 0 {
+        return;
+    }
+    let mut old = io::buffer();
+    let len = io::read_full(fd, &mut old);
+    libc::close(fd);
+    tell_other(report, &old[..len], serial);
+}
+
+// Says which serial was noted, where it is another one than now.
+fn tell_other(report: i32, old: &[u8], serial: Line) {
+    let chars = serial.chars;
+    let n = words::front(serial.len, &chars);
+    let len = words::filled(old);
+    if !check::same(&old[..len], &chars[..n]) {
+        io::write_all(report, b"another board than before, whose serial was ");
+        words::say(report, &old[..len]);
     }
 }
 

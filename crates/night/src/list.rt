@@ -141,16 +141,27 @@ fn gather(row: &[u8], names: &mut [u8], used: usize, report: i32) -> Gathered {
     }
     let again = is_known(names, used, &name[..n]);
     if again {
-        words::name(report, b"nothing was begun: two rows have one line");
-        io::write_all(report, &row[path..end]);
-        io::write_all(report, b" is ");
-        words::say(report, &name[..n]);
+        tell_alias(report, &row[path..end], &name[..n]);
     }
     let begun = added(names, used, b"\n");
     Gathered {
         again,
         used: added(names, begun, &name[..n]),
     }
+}
+
+// Says that an earlier row has a line by another name, and the system's own name of it.
+fn tell_alias(report: i32, line: &[u8], real: &[u8]) {
+    words::name(
+        report,
+        b"nothing was begun: two rows have one line by two names",
+    );
+    io::write_all(report, line);
+    if !check::same(line, real) {
+        io::write_all(report, b" is ");
+        io::write_all(report, real);
+    }
+    words::end(report);
 }
 
 // Returns whether a name is among those gathered.

@@ -197,11 +197,14 @@ fn put_way(line: Line, way: Way) -> Line {
     }
 }
 
-// Writes the row of a table for machines: name, serial, way, and how many Sets were confirmed of how many that were due, tabs between.
+// Writes the row of a table for machines: name, serial, way, and how many Sets were confirmed of how many that were due, tabs between. The
+// name of a row that is no trailer's is the row, up to its first tab.
 fn tell_columns(name: &[u8], serial: Serial, before: Tally, after: Tally) {
     let out = libc::STDOUT_FILENO;
     let line = serial.line;
-    io::write_all(out, name);
+    let end = bytes::scan::find(name, 0, name.len(), b'\t');
+    let n = words::front(end, name);
+    io::write_all(out, &name[..n]);
     words::add(out, Line::start().put(b"\t"));
     words::add(out, line);
     let way = put_way(Line::start().put(b"\t"), way_of(before, after));
