@@ -4,6 +4,7 @@ use mathlib.Core.Bool.{true}
 use mathlib.Core.List.{List, [], _∷_}
 use Prim.Native.Nat.{ℕ, _≤_}
 use native.Mathlib.Omega.{arith}
+use borrow.Author.Tests.{lt-ltb, le-ltb}
 use lib.ListN.{length, take}
 use lib.Seq.{take-all}
 use Rattle.wire.specs.Parsing.{Ended, good, refused}
@@ -18,9 +19,14 @@ use Rattle.reply.specs.Events.{OnStream, nothing, a-frame, a-refusal, a-silence
 use Rattle.listen.specs.declared.Told.{Told}
 use Rattle.listen.specs.Hearing.{boxHearing}
 use Rattle.listen.specs.Calls.{toldBy, listening}
-use Rattle.listen.specs.Laws.{eventsIn, Whole, TakenIsWithin, FrameIsWhole, EventsAreOnStream}
+use Rattle.listen.specs.Laws.{eventsIn, Whole, CallIsRefused, TakenIsWithin, FrameIsWhole, EventsAreOnStream}
 use Rattle.listen.proofs.Hearing.{box-heard}
 use Rattle.listen.proofs.Settling.{cases}
+
+pub call-refused : CallIsRefused
+unfolding listening
+call-refused =
+    record { short = λ l piece time room h. rw (lt-ltb room 35 h); stray = λ l piece time room h e. rw (le-ltb room 35 h, e) }
 
 pub taken-fits : TakenIsWithin
 taken-fits l piece time room =

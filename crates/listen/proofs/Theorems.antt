@@ -1,5 +1,5 @@
 -- The statements of specs/Laws.antt, proved. Assumes nothing.
-use Rattle.listen.specs.Laws.{AnyCutting, WholeIsTold, AllIsTaken, PatienceEnds, RequestEnds, LateTakesNothing, TakenIsWithin, FrameIsWhole, EventsAreOnStream}
+use Rattle.listen.specs.Laws.{AnyCutting, WholeIsTold, AllIsTaken, PatienceEnds, RequestEnds, LateTakesNothing, CallIsRefused, TakenIsWithin, FrameIsWhole, EventsAreOnStream}
 use Rattle.listen.proofs.Merging as merging
 use Rattle.listen.proofs.Patience as patience
 use Rattle.listen.proofs.Leaning as leaning
@@ -24,6 +24,9 @@ late-takes-nothing = patience.takes-nothing
 
 pub taken-is-within : TakenIsWithin
 taken-is-within = leaning.taken-fits
+
+pub call-is-refused : CallIsRefused
+call-is-refused = leaning.call-refused
 
 pub frame-is-whole : FrameIsWhole
 frame-is-whole = leaning.frame-whole

@@ -1,12 +1,13 @@
 -- What is proved of the definitions, as statements to compare with the papers. Each is proved under its name in proofs/Theorems.antt.
 -- Assumes nothing.
-use Prim.Native.Nat.{ℕ, zero, _+_, _≤_}
+use Prim.Native.Nat.{ℕ, zero, _+_, _≤_, _<_}
 use mathlib.Core.Path.{_≡_}
 use mathlib.Core.Logic.{_↔_}
-use mathlib.Core.Bool.{Bool, true, cond, _&&_, not}
+use mathlib.Core.Bool.{Bool, true, false, cond, _&&_, not}
 use mathlib.Core.List.{List, [], _∷_, _++_}
 use lib.ListN.{length, take}
 use lib.Dec.{leb, eqb}
+use Rattle.laws.specs.Promise.{Given}
 use Rattle.laws.specs.Cutting.{Step, Offer, calls, ready}
 use Rattle.paper.specs.Numbers.{mostData}
 use Rattle.wire.specs.Parsing.{Ended, good, refused}
@@ -17,6 +18,7 @@ use Rattle.reply.specs.Events.{Event, heard, refusedFrame, noAnswer, OnStream}
 use Rattle.listen.specs.Calls.{requestTime, trailerTime, isOver, starting, asking, listening}
 use Rattle.listen.specs.declared.Listener.{Listener}
 use Rattle.listen.specs.declared.Told.{Told}
+use Rattle.listen.specs.declared.Listened.{Listened}
 
 -- 1. The stream in any cutting. What a read tells of the stream: a frame with its data, of the length that is said; a frame that is refused;
 -- or no frame.
@@ -125,6 +127,14 @@ pub record Untouched (l : Listener) (piece : List ℕ) (time room : ℕ) : Type 
 abbrev pub LateTakesNothing : Type 0
 LateTakesNothing =
     (l : Listener) (piece : List ℕ) (time room : ℕ) → listening l piece time room .answer .told ≡ Told.NoAnswer → Untouched l piece time room
+
+-- 11 and 12: "no byte taken or written", and the listener comes back as it was.
+abbrev pub nothingDone : Listener → ℕ → Given Listened
+nothingDone l number = record { answer = record { listener = l; told = Told.Refused number; taken = 0 }; written = [] }
+
+pub record CallIsRefused : Type 0 where
+  pub short : (l : Listener) (piece : List ℕ) (time room : ℕ) → room < 35 → listening l piece time room ≡ nothingDone l 11
+  pub stray : (l : Listener) (piece : List ℕ) (time room : ℕ) → 35 ≤ room → allowed (l .held) ≡ false → listening l piece time room ≡ nothingDone l 12
 
 -- 3. What the caller of one read may lean on, whatever it handed in: no more bytes are taken than the piece has; and a frame that is told
 -- has its data at the front of the buffer, as many bytes as are said, within what the writer takes.
