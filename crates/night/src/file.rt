@@ -306,6 +306,7 @@ fn set_aside(
 ) -> Kept {
     if !write_new(name, old) {
         os::fail(path);
+        os::unlink(name);
         return Kept::Not;
     }
     let kept = replace(path, text);

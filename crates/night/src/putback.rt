@@ -89,7 +89,7 @@ fn counted(due: usize) -> Line {
     counted
         .put(b" of ")
         .put_number(settings::COUNT)
-        .put(b" settings would be set; nothing was sent")
+        .put(b" settings would be set; no Set was sent")
 }
 
 // Returns what a restore would do.
