@@ -1,7 +1,8 @@
 -- The statements of specs/Laws.antt, proved. Assumes nothing.
-use Rattle.collect.specs.Laws.{AllowedIsReached, CallsFollow, TableIsCarried, TableIsAllowed, BoardIsRead}
+use Rattle.collect.specs.Laws.{AllowedIsReached, CallsFollow, TableIsCarried, TableIsAllowed, BoardIsRead, SilenceStops}
 use Rattle.collect.proofs.Boards.{allowed-reached}
 use Rattle.collect.proofs.Calling.{calls-run, table-carried, table-allowed, board-read}
+use Rattle.collect.proofs.Silences as silences
 
 pub allowed-is-reached : AllowedIsReached
 allowed-is-reached = allowed-reached
@@ -17,3 +18,6 @@ table-is-allowed = table-allowed
 
 pub board-is-read : BoardIsRead
 board-is-read = board-read
+
+pub silence-stops : SilenceStops
+silence-stops = silences.silence-stops
