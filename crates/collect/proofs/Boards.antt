@@ -1,34 +1,37 @@
 -- A board that answers every Get is read; so every allowed state is reached. Assumes nothing.
 use mathlib.Core.Path.{_≡_, refl, sym, ap, ap₂, subst, _∙_}
-use mathlib.Core.Bool.{Bool, true, false, _&&_}
+use mathlib.Core.Bool.{Bool, true, false, cond, _&&_}
 use mathlib.Core.List.{List, [], _∷_, _++_, append-nil}
-use Prim.Native.Nat.{ℕ, suc, _+_, _-_, _^_, _≤_, _<_}
+use Prim.Native.Nat.{ℕ, zero, suc, _+_, _-_, _/_, _%_, _^_, _≤_, _<_}
 use native.Mathlib.Omega.{arith}
-use borrow.Author.Tests.{eq-eqb, ltb-true}
+use borrow.Author.Tests.{eq-eqb, eqb-true, ltb-true, ltb-false, leb-true}
 use lib.ListN.{length, getD, take, drop, replicate, length-append, length-drop, take-append-drop}
+use lib.Dec.{ltb, leb, eqb}
 use lib.Seq.{append-snoc, getD-append-seam, length-take-le}
-use Rattle.laws.proofs.Bools.{and-left, and-right}
+use Rattle.laws.specs.Lists.{Bytes}
+use Rattle.laws.proofs.Bools.{and-left, and-right, both}
 use Rattle.laws.proofs.Lists.{every-zero, upTo-at}
 use Rattle.endian.specs.Numbers.{little, fromLittle}
 use Rattle.endian.proofs.Theorems.{little-is-read}
 use Rattle.settings.specs.Columns.{count, idAt, widthAt}
 use Rattle.settings.proofs.Theorems.{rows-hold, allowed-has-room}
-use Rattle.endian.proofs.Little.{length-little}
+use Rattle.endian.proofs.Little.{length-little, bytes-little}
 use Rattle.paper.specs.Numbers.{getCode}
+use Rattle.answers.specs.Answers.{said}
 use Rattle.reply.specs.declared.Status.{Status}
 use Rattle.reply.specs.declared.Heeded.{Heeded}
 use Rattle.reply.specs.Calls.{heeding}
 use Rattle.reply.proofs.Flags.{said-small}
 use Rattle.reply.proofs.Heeding.{said-heeded}
 use Rattle.reply.specs.Events.{Event, heard, noAnswer, OnStream, nothing, a-frame, a-silence}
-use Rattle.collect.specs.Collecting.{fits, valued, intakeOf, halted, moved, advanced, begun, within, allFit, noneAfter, allowed}
+use Rattle.collect.specs.Collecting.{fits, valued, intakeOf, mostTries, moved, advanced, begun, within, allFit, noneAfter, allowed}
 use Rattle.collect.specs.Laws.{run, goodReply, replies}
 use Rattle.collect.specs.declared.Collector.{Collector}
 use Rattle.collect.specs.declared.intake.Intake.{Intake}
 use Rattle.collect.proofs.Deciding.{heeded-is}
-use Rattle.collect.proofs.Moving.{few-answered, allowed-within, silence-stops}
+use Rattle.collect.proofs.Moving.{few-answered, allowed-within, silence-counts}
 use Rattle.collect.proofs.Fitting.{fits-front, AllFit, front-fit}
-use Rattle.collect.proofs.Reaching.{zeros, held, begun-held, held-waits, next-length, held-takes, held-advances}
+use Rattle.collect.proofs.Reaching.{zeros, shaped, held, begun-held, held-waits, next-length, held-takes, held-advances, held-halts, held-silenced, held-ended}
 
 -- a good reply to the Get of a place is taken
 fits-room : (l : List ℕ) (k n : ℕ) → k < count → fits l k n ≡ true → n < 256 ^ widthAt k
@@ -45,8 +48,8 @@ reply-taken l k n h f =
     let good : heeding getCode (idAt k) getCode (goodReply k n) ≡ Heeded.Good = said-heeded getCode (idAt k) (rows-hold k h .id-holds) refl Status.Good (little (widthAt k) n) in
     sym (heeded-is l k getCode (goodReply k n) Heeded.Good good) ∙ valued-takes l k (little (widthAt k) n) n (length-little (widthAt k) n) number f
 
-pub board-run : (more l : List ℕ) → AllFit (l ++ more) → length (l ++ more) ≤ count → run (held l) (replies (length l) more) ≡ held (l ++ more)
-board-run [] l all few = ap held (sym (append-nil l))
+pub board-run : (more l : List ℕ) → AllFit (l ++ more) → length (l ++ more) ≤ count → run (held l 0) (replies (length l) more) ≡ held (l ++ more) 0
+board-run [] l all few = ap (λ (m : List ℕ). held m 0) (sym (append-nil l))
 board-run (n ∷ more) l all few =
     let size : length (l ++ n ∷ more) ≡ length l + suc (length more) = length-append l (n ∷ more) in
     let h : length l < count = omega arith in
@@ -55,12 +58,12 @@ board-run (n ∷ more) l all few =
     let fit : fits l (length l) n ≡ true =
     sym (fits-front l (n ∷ more) (length l) n most) ∙ ap (fits (l ++ n ∷ more) (length l)) (sym (getD-append-seam l n more 0)) ∙ all .at (length l) there in
     let e : Event = heard getCode (goodReply (length l) n) in
-    let one : advanced (held l) e ≡ held (l ++ n ∷ []) =
-    held-advances l h e ∙ ap (moved (held l)) (reply-taken l (length l) n h fit) ∙ held-takes l h n in
+    let one : advanced (held l 0) e ≡ held (l ++ n ∷ []) 0 =
+    held-advances l 0 h e ∙ ap (moved (held l 0)) (reply-taken l (length l) n h fit) ∙ held-takes l 0 h n in
     let snoc : (l ++ n ∷ []) ++ more ≡ l ++ n ∷ more = append-snoc l n more in
     ap₂ (λ (c : Collector) (k : ℕ). run c (replies k more)) one (sym (next-length l n))
     ∙ board-run more (l ++ n ∷ []) (subst AllFit (sym snoc) all) (rw snoc few)
-    ∙ ap held snoc
+    ∙ ap (λ (m : List ℕ). held m 0) snoc
 
 -- one row of events after another
 pub run-append : (c : Collector) (xs ys : List Event) → run c (xs ++ ys) ≡ run (run c xs) ys
@@ -72,10 +75,48 @@ replies-stream : (numbers : List ℕ) (k : ℕ) {more : List Event} → OnStream
 replies-stream [] k r = r
 replies-stream (n ∷ numbers) k r = a-frame (said-small (idAt k) (widthAt k) n) (replies-stream numbers (suc k) r)
 
-same-state : (c d : Collector) → c .len ≡ d .len → c .numbers ≡ d .numbers → c .stopped ≡ d .stopped → c ≡ d
-same-state c d e f g =
-    ap₂ (λ (i : ℕ) (l : List ℕ). record { len = i; numbers = l; stopped = c .stopped }) e f
-    ∙ ap (λ (s : Bool). record { len = d .len; numbers = d .numbers; stopped = s }) g
+silences-stream : (n : ℕ) {more : List Event} → OnStream more → OnStream (replicate n noAnswer ++ more)
+silences-stream zero r = r
+silences-stream (suc n) r = a-silence (silences-stream n r)
+
+unknown-small : (id : ℕ) → Bytes (said id 1 [])
+unknown-small id =
+    let front = bytes-little 2 id in
+    let low = and-left (ltb (id % 256) 256) _ front in
+    let high = and-left (ltb (id / 256 % 256) 256) true (and-right (ltb (id % 256) 256) _ front) in
+    record { below = both _ _ low (both _ _ high refl) }
+
+same-state : (c d : Collector) → c .len ≡ d .len → c .numbers ≡ d .numbers → c .silences ≡ d .silences → c .stopped ≡ d .stopped → c ≡ d
+same-state c d e f g h = λ i. record { len = e i; numbers = f i; silences = g i; stopped = h i }
+
+-- silences, and a reply that turns the Get down
+module _ (l : List ℕ) (h : length l < count) where
+  one-silence : (n : ℕ) → suc n < mostTries → advanced (held l n) noAnswer ≡ held l (suc n)
+  one-silence n k = sym (silence-counts (held l n) (held-waits l n h)) ∙ held-silenced l n k
+
+  silent-run : (n before : ℕ) → before + n < mostTries → run (held l before) (replicate n noAnswer) ≡ held l (before + n)
+  silent-run zero before k = ap (held l) (let none : before ≡ before + 0 = omega arith in none)
+  silent-run (suc n) before k =
+      ap (λ (c : Collector). run c (replicate n noAnswer)) (one-silence before (omega arith))
+      ∙ silent-run n (suc before) (omega arith)
+      ∙ ap (held l) (let sum : suc before + n ≡ before + suc n = omega arith in sum)
+
+  silent-from : (n : ℕ) → n < mostTries → run (held l 0) (replicate n noAnswer) ≡ held l n
+  silent-from n k = silent-run n 0 (omega arith) ∙ ap (held l) (let same : 0 + n ≡ n = omega arith in same)
+
+  last-silence : advanced (held l 2) noAnswer ≡ shaped l mostTries true
+  last-silence = sym (silence-counts (held l 2) (held-waits l 2 h)) ∙ held-ended l 2 refl
+
+  abbrev unknown : Event
+  unknown = heard getCode (said (idAt (length l)) 1 [])
+
+  turned-down : (n : ℕ) → advanced (held l n) unknown ≡ shaped l n true
+  turned-down n =
+      let bad : heeding getCode (idAt (length l)) getCode (said (idAt (length l)) 1 []) ≡ Heeded.Bad Status.UnknownId =
+      said-heeded getCode (idAt (length l)) (rows-hold (length l) h .id-holds) refl Status.UnknownId [] in
+      held-advances l n h unknown
+      ∙ ap (moved (held l n)) (sym (heeded-is l (length l) getCode (said (idAt (length l)) 1 []) (Heeded.Bad Status.UnknownId) bad))
+      ∙ held-halts l n
 
 -- the numbers of an allowed collector, as they were answered
 module _ (c : Collector) (long : length (c .numbers) ≡ count) (ok : allowed c ≡ true) where
@@ -83,14 +124,14 @@ module _ (c : Collector) (long : length (c .numbers) ≡ count) (ok : allowed c 
   l = take (c .len) (c .numbers)
 
   few : c .len ≤ count
-  few = few-answered (c .len) (c .stopped) (allowed-within c ok)
+  few = few-answered (c .len) (c .silences) (c .stopped) (allowed-within c ok)
 
   l-long : length l ≡ c .len
   l-long = length-take-le (c .len) (c .numbers) (rw long few)
 
   rest-fit : (allFit (c .numbers) (c .len) && noneAfter (c .numbers) (c .len)) ≡ true
   unfolding allowed
-  rest-fit = and-right (within (c .len) (c .stopped)) _ ok
+  rest-fit = and-right (within (c .len) (c .silences) (c .stopped)) _ ok
 
   numbers-are : c .numbers ≡ l ++ zeros l
   numbers-are =
@@ -109,20 +150,47 @@ module _ (c : Collector) (long : length (c .numbers) ≡ count) (ok : allowed c 
       front-fit l (zeros l)
       (λ j h. subst (λ (x : List ℕ). fits x j (getD x j 0) ≡ true) numbers-are (numbers-fit j (rw l-long at h)))
 
-  l-run : run begun (replies 0 l) ≡ held l
+  l-run : run begun (replies 0 l) ≡ held l 0
   l-run = rw begun-held (board-run l [] l-fit (rw l-long few))
 
-  pub reached : (s : Bool) → c .stopped ≡ s → within (c .len) s ≡ true → (events : List Event) × OnStream events × (c ≡ run begun events)
-  reached false e w = (
-    replies 0 l,
-    subst OnStream (append-nil (replies 0 l)) (replies-stream l 0 nothing),
-    same-state c (held l) (sym l-long) numbers-are e ∙ sym l-run,
-  )
+  -- and then these events
+  after : (events : List Event) (d : Collector) → run (held l 0) events ≡ d → run begun (replies 0 l ++ events) ≡ d
+  after events d e = run-append begun (replies 0 l) events ∙ ap (λ (x : Collector). run x events) l-run ∙ e
+
+  is-shaped : (s : Bool) → c .stopped ≡ s → c ≡ shaped l (c .silences) s
+  is-shaped s e = same-state c (shaped l (c .silences) s) (sym l-long) numbers-are refl e
+
+  abbrev Reached : Type 0
+  Reached = (events : List Event) × OnStream events × (c ≡ run begun events)
+
+  by-events : (s : Bool) → c .stopped ≡ s → (events : List Event) → OnStream events → run (held l 0) events ≡ shaped l (c .silences) s → Reached
+  by-events s e events o r = (replies 0 l ++ events, replies-stream l 0 o, is-shaped s e ∙ sym (after events (shaped l (c .silences) s) r))
+
+  silent-stream : (n : ℕ) → OnStream (replicate n noAnswer)
+  silent-stream n = subst OnStream (append-nil (replicate n noAnswer)) (silences-stream n nothing)
+
+  waiting-reached : c .stopped ≡ false → (b : Bool) → ltb (c .len) count ≡ b → cond b (ltb (c .silences) mostTries) (eqb (c .len) count && eqb (c .silences) 0) ≡ true → Reached
+  waiting-reached e true t w =
+      let less : length l < count = rw l-long (ltb-true _ _ t) in
+      by-events false e (replicate (c .silences) noAnswer) (silent-stream (c .silences)) (silent-from l less (c .silences) (ltb-true _ _ w))
+  waiting-reached e false t w =
+      let none : c .silences ≡ 0 = eqb-true (c .silences) 0 (and-right (eqb (c .len) count) (eqb (c .silences) 0) w) in
+      by-events false e [] nothing (ap (held l) (sym none))
+
+  stopped-reached : c .stopped ≡ true → length l < count → (b : Bool) → ltb (c .silences) mostTries ≡ b → c .silences ≤ mostTries → Reached
+  stopped-reached e less true t most =
+      by-events true e (replicate (c .silences) noAnswer ++ unknown l less ∷ []) (silences-stream (c .silences) (a-frame (unknown-small _) nothing))
+      (run-append (held l 0) (replicate (c .silences) noAnswer) (unknown l less ∷ [])
+      ∙ ap (λ (d : Collector). advanced d (unknown l less)) (silent-from l less (c .silences) (ltb-true _ _ t))
+      ∙ turned-down l less (c .silences))
+  stopped-reached e less false t most =
+      let past : mostTries ≤ c .silences = ltb-false _ _ t in
+      let last : mostTries ≡ c .silences = omega arith in
+      by-events true e (noAnswer ∷ noAnswer ∷ noAnswer ∷ []) (a-silence (a-silence (a-silence nothing)))
+      (ap (λ (d : Collector). advanced d noAnswer) (silent-from l less 2 (omega arith)) ∙ last-silence l less ∙ ap (λ (n : ℕ). shaped l n true) last)
+
+  pub reached : (s : Bool) → c .stopped ≡ s → within (c .len) (c .silences) s ≡ true → Reached
+  reached false e w = waiting-reached e (ltb (c .len) count) refl w
   reached true e w =
-      let less : length l < count = rw l-long (ltb-true _ _ w) in
-      let is : c ≡ halted (held l) = unfold halted in same-state c (record { len = length l; numbers = l ++ zeros l; stopped = true }) (sym l-long) numbers-are e in (
-        replies 0 l ++ noAnswer ∷ [],
-        replies-stream l 0 (a-silence nothing),
-        is ∙ silence-stops (held l) (held-waits l less) ∙ ap (λ (d : Collector). advanced d noAnswer) (sym l-run)
-            ∙ sym (run-append begun (replies 0 l) (noAnswer ∷ [])),
-      )
+      let few : c .len < count = ltb-true _ _ (and-left (ltb (c .len) count) (leb (c .silences) mostTries) w) in
+      stopped-reached e (rw l-long few) (ltb (c .silences) mostTries) refl (leb-true _ _ (and-right (ltb (c .len) count) (leb (c .silences) mostTries) w))

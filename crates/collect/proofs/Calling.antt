@@ -1,6 +1,6 @@
 -- A row of calls, and what the last one answers. Assumes nothing.
 use mathlib.Core.Path.{_≡_, refl, sym, ap, ap₂, subst, _∙_}
-use mathlib.Core.Logic.{_≢_, ⊎-elim}
+use mathlib.Core.Logic.{_≢_}
 use mathlib.Core.Bool.{Bool, true, false}
 use mathlib.Core.List.{List, [], _∷_, _++_, append-nil}
 use Prim.Native.Nat.{ℕ, _-_, _≤_, _<_}
@@ -14,7 +14,7 @@ use Rattle.tables.specs.Rules.{factory}
 use Rattle.tables.specs.Rules as tables
 use Rattle.tables.specs.declared.Table.{Table}
 use Rattle.reply.specs.Events.{Event}
-use Rattle.collect.specs.Collecting.{halted, advanced, begun, allowed}
+use Rattle.collect.specs.Collecting.{advanced, begun, allowed}
 use Rattle.collect.specs.Calls.{stageOf, tableOf, good, stray, starting, collecting}
 use Rattle.collect.specs.Laws.{run, calls, AllowedIsReached, CallsFollow, Holds, TableIsCarried, Handed, TableIsAllowed, replies, BoardIsRead}
 use Rattle.collect.specs.declared.Collector.{Collector}
@@ -27,7 +27,7 @@ use Rattle.collect.proofs.Boards.{board-run, run-append, reached}
 use Rattle.collect.proofs.Carrying.{taking-carried}
 
 -- a row of calls from the start hands back what the events give
-good-collector : (c : Collector) → good c .collector ≡ c
+pub good-collector : (c : Collector) → good c .collector ≡ c
 unfolding good
 good-collector c = refl
 
@@ -77,10 +77,7 @@ record Shape (c : Collector) (l : List ℕ) : Type 0 where
   numbers-are : c .numbers ≡ l ++ zeros l
 
 shape : {c : Collector} {l : List ℕ} → Ends c l → Shape c l
-unfolding halted
-shape {c} {l} e =
-    ⊎-elim (λ is. record { len-is = ap (λ (d : Collector). d .len) is; numbers-are = ap (λ (d : Collector). d .numbers) is })
-    (λ is. record { len-is = ap (λ (d : Collector). d .len) (is .0); numbers-are = ap (λ (d : Collector). d .numbers) (is .0) }) (e .is)
+shape {c} {l} e = record { len-is = ap (λ (d : Collector). d .len) (e .is); numbers-are = ap (λ (d : Collector). d .numbers) (e .is) }
 
 no-zeros : (l : List ℕ) → length l ≡ count → l ++ zeros l ≡ l
 no-zeros l e =
@@ -129,8 +126,8 @@ module _ (c : Collector) (l : List ℕ) (e : Ends c l) where
 
 pub table-carried : TableIsCarried
 table-carried events on =
-    subst (λ (l : List ℕ). Holds l (calls starting events)) (taking-carried on [])
-    (subst (Holds (taking [] events)) (sym (called events)) (ends-holds _ _ (begun-ends events)))
+    subst (λ (l : List ℕ). Holds l (calls starting events)) (taking-carried on 0 [])
+    (subst (Holds (taking 0 [] events)) (sym (called events)) (ends-holds _ _ (begun-ends events)))
 
 run-handed : (events : List Event) → Handed (good (run begun events))
 run-handed events = ends-handed _ _ (begun-ends events)
@@ -158,8 +155,8 @@ pub table-allowed : TableIsAllowed
 table-allowed = (starting-handed, call-handed)
 
 -- a board that holds an allowed table is read
-held-full : (l : List ℕ) → length l ≡ count → held l ≡ record { len = count; numbers = l; stopped = false }
-held-full l e = ap₂ (λ (i : ℕ) (x : List ℕ). record { len = i; numbers = x; stopped = false }) e (no-zeros l e)
+held-full : (l : List ℕ) → length l ≡ count → held l 0 ≡ record { len = count; numbers = l; silences = 0; stopped = false }
+held-full l e = ap₂ (λ (i : ℕ) (x : List ℕ). record { len = i; numbers = x; silences = 0; stopped = false }) e (no-zeros l e)
 
 pub board-read : BoardIsRead
 unfolding good

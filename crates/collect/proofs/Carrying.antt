@@ -3,7 +3,7 @@ use mathlib.Core.Path.{_≡_, refl, sym, ap, _∙_}
 use mathlib.Core.Logic.{_≢_}
 use mathlib.Core.Bool.{Bool, true, false, cond, _&&_}
 use mathlib.Core.List.{List, [], _∷_, _++_}
-use Prim.Native.Nat.{ℕ, _<_}
+use Prim.Native.Nat.{ℕ, suc, _<_}
 use borrow.Author.Tests.{eqb-true, eqb-false, ltb-true}
 use lib.ListN.{length, getD, drop}
 use lib.Dec.{ltb, eqb}
@@ -24,11 +24,11 @@ use Rattle.reply.specs.declared.Status.{Status}
 use Rattle.reply.specs.declared.Heeded.{Heeded}
 use Rattle.reply.proofs.Flags.{flag-good, said-answers, none-answers}
 use Rattle.reply.proofs.Theorems.{heed-is-said}
-use Rattle.collect.specs.Collecting.{fits, valued, onHeeded, intakeOf}
-use Rattle.collect.specs.Laws.{goodReply, carries, following, carried}
+use Rattle.collect.specs.Collecting.{fits, valued, onHeeded, intakeOf, mostTries}
+use Rattle.collect.specs.Laws.{goodReply, carries, following, carriedAfter}
 use Rattle.collect.specs.declared.intake.Intake.{Intake}
 use Rattle.collect.proofs.Deciding.{heeded-is}
-use Rattle.collect.proofs.Reaching.{taking}
+use Rattle.collect.proofs.Reaching.{taking, takingOn}
 
 same-as : (xs ys : List ℕ) → xs ≡ ys → same xs ys ≡ true
 same-as xs ys e = ap (same xs) (sym e) ∙ same-self xs
@@ -95,27 +95,30 @@ unfolding intakeOf carries
 silence-carries l k = refl
 
 -- so what is taken of a row of events is what they carry
-next-carried : (l : List ℕ) (e : Event) (more : List Event) → (length l < count → intakeOf l (length l) e ≡ carries l (length l) e)
-    → ((m : List ℕ) → taking m more ≡ carried m more) → taking l (e ∷ more) ≡ carried l (e ∷ more)
-next-carried l e more here later = by (ltb (length l) count) refl
+abbrev carriedOn : ℕ → List ℕ → List Event → Intake → List ℕ
+carriedOn silences l more v =
+    following (λ n. carriedAfter 0 (l ++ n ∷ []) more) l (carriedAfter silences l more)
+    (cond (ltb (suc silences) mostTries) (carriedAfter (suc silences) l more) l) v
+
+next-carried : (silences : ℕ) (l : List ℕ) (e : Event) (more : List Event) → (length l < count → intakeOf l (length l) e ≡ carries l (length l) e)
+    → ((n : ℕ) (m : List ℕ) → taking n m more ≡ carriedAfter n m more) → taking silences l (e ∷ more) ≡ carriedAfter silences l (e ∷ more)
+next-carried silences l e more here later = by (ltb (length l) count) refl
   where
-    after : (v : Intake) → following (λ n. taking (l ++ n ∷ []) more) l (taking l more) v
-        ≡ following (λ n. carried (l ++ n ∷ []) more) l (carried l more) v
-    after (Intake.Takes n) = later (l ++ n ∷ [])
+    after : (v : Intake) → takingOn silences l more v ≡ carriedOn silences l more v
+    after (Intake.Takes n) = later 0 (l ++ n ∷ [])
     after Intake.Stops = refl
-    after Intake.Waits = later l
+    after Intake.Waits = later silences l
+    after Intake.Silence = ap (λ (x : List ℕ). cond (ltb (suc silences) mostTries) x l) (later (suc silences) l)
 
-    by : (b : Bool) → ltb (length l) count ≡ b
-        → cond b (following (λ n. taking (l ++ n ∷ []) more) l (taking l more) (intakeOf l (length l) e)) l
-        ≡ cond b (following (λ n. carried (l ++ n ∷ []) more) l (carried l more) (carries l (length l) e)) l
+    by : (b : Bool) → ltb (length l) count ≡ b → cond b (takingOn silences l more (intakeOf l (length l) e)) l ≡ cond b (carriedOn silences l more (carries l (length l) e)) l
     by false t = refl
-    by true t = ap (following (λ n. taking (l ++ n ∷ []) more) l (taking l more)) (here (ltb-true _ _ t)) ∙ after (carries l (length l) e)
+    by true t = ap (takingOn silences l more) (here (ltb-true _ _ t)) ∙ after (carries l (length l) e)
 
-pub taking-carried : {events : List Event} → OnStream events → (l : List ℕ) → taking l events ≡ carried l events
-taking-carried nothing l = refl
-taking-carried (a-frame {command} {bytes} {more} small later) l =
-    next-carried l (heard command bytes) more (λ h. heard-carries l (length l) command bytes small h) (λ m. taking-carried later m)
-taking-carried (a-refusal {more} later) l =
-    next-carried l refusedFrame more (λ h. refused-carries l (length l)) (λ m. taking-carried later m)
-taking-carried (a-silence {more} later) l =
-    next-carried l noAnswer more (λ h. silence-carries l (length l)) (λ m. taking-carried later m)
+pub taking-carried : {events : List Event} → OnStream events → (silences : ℕ) (l : List ℕ) → taking silences l events ≡ carriedAfter silences l events
+taking-carried nothing silences l = refl
+taking-carried (a-frame {command} {bytes} {more} small later) silences l =
+    next-carried silences l (heard command bytes) more (λ h. heard-carries l (length l) command bytes small h) (λ n m. taking-carried later n m)
+taking-carried (a-refusal {more} later) silences l =
+    next-carried silences l refusedFrame more (λ h. refused-carries l (length l)) (λ n m. taking-carried later n m)
+taking-carried (a-silence {more} later) silences l =
+    next-carried silences l noAnswer more (λ h. silence-carries l (length l)) (λ n m. taking-carried later n m)

@@ -7,5 +7,6 @@ pub mod Reaching
 pub mod Boards
 pub mod Carrying
 pub mod Calling
+pub mod Silences
 pub mod Theorems
 pub mod Same

@@ -1,18 +1,18 @@
 -- The states of a collector, by the tests in their order. Assumes nothing.
 use mathlib.Core.Path.{_≡_, refl, sym, _∙_}
-use mathlib.Core.Bool.{Bool, true, false, not, _&&_, and-assoc, and-true}
+use mathlib.Core.Bool.{Bool, true, false, cond, not, _&&_, and-assoc, and-true}
 use mathlib.Core.List.{List}
 use Prim.Native.Nat.{ℕ, _+_, _≤_, _<_}
 use native.Mathlib.Omega.{arith}
-use borrow.Author.Tests.{ltb-true, leb-true}
+use borrow.Author.Tests.{ltb-true, eqb-true}
 use lib.ListN.{length, getD, drop, drop-of-length-le}
-use lib.Dec.{eqb}
+use lib.Dec.{ltb, leb, eqb}
 use Rattle.laws.specs.Lists.{every}
 use Rattle.laws.proofs.Lists.{drop-turn}
 use Rattle.laws.proofs.Bools.{and-left, and-right, pick}
 use Rattle.settings.specs.Columns.{count}
 use Rattle.reply.specs.Events.{Event, refusedFrame, noAnswer}
-use Rattle.collect.specs.Collecting.{intakeOf, halted, moved, isWaiting, advanced, within, allFit, noneAfter, allowed}
+use Rattle.collect.specs.Collecting.{intakeOf, mostTries, silenced, moved, isWaiting, advanced, within, allFit, noneAfter, allowed}
 use Rattle.collect.specs.Calls.{good, stray, told, collecting}
 use Rattle.collect.specs.declared.Collector.{Collector}
 
@@ -25,21 +25,25 @@ pub none-end : (l : List ℕ) (i : ℕ) (all x : Bool) → length l ≤ i → (a
 none-end l i all x h e = sym (and-true all) ∙ rw (drop-of-length-le l h) at e
 
 -- no more are answered than there are
-pub few-answered : (len : ℕ) (stopped : Bool) → within len stopped ≡ true → len ≤ count
-few-answered len true e = let less : len < count = ltb-true len count e in omega arith
-few-answered len false e = leb-true len count e
+pub few-answered : (len silences : ℕ) (stopped : Bool) → within len silences stopped ≡ true → len ≤ count
+few-answered len silences true e = let less : len < count = ltb-true len count (and-left (ltb len count) (leb silences mostTries) e) in omega arith
+few-answered len silences false e = by (ltb len count) refl e
+  where
+    by : (b : Bool) → ltb len count ≡ b → cond b (ltb silences mostTries) (eqb len count && eqb silences 0) ≡ true → len ≤ count
+    by true t f = let less : len < count = ltb-true len count t in omega arith
+    by false t f = let all : len ≡ count = eqb-true len count (and-left (eqb len count) (eqb silences 0) f) in omega arith
 
 -- which collectors are allowed
 module _ (c : Collector) where
-  pub allowed-not : within (c .len) (c .stopped) ≡ false → false ≡ allowed c
+  pub allowed-not : within (c .len) (c .silences) (c .stopped) ≡ false → false ≡ allowed c
   unfolding allowed
   allowed-not e = rw e
 
-  pub allowed-rest : within (c .len) (c .stopped) ≡ true → (allFit (c .numbers) (c .len) && noneAfter (c .numbers) (c .len)) ≡ allowed c
+  pub allowed-rest : within (c .len) (c .silences) (c .stopped) ≡ true → (allFit (c .numbers) (c .len) && noneAfter (c .numbers) (c .len)) ≡ allowed c
   unfolding allowed
   allowed-rest e = rw e
 
-  pub allowed-within : allowed c ≡ true → within (c .len) (c .stopped) ≡ true
+  pub allowed-within : allowed c ≡ true → within (c .len) (c .silences) (c .stopped) ≡ true
   unfolding allowed
   allowed-within e = and-left _ (allFit (c .numbers) (c .len) && noneAfter (c .numbers) (c .len)) e
 
@@ -73,7 +77,7 @@ module _ (c : Collector) where
   unfolding told
   told-good is = rw is
 
-  refused-waits : advanced c refusedFrame ≡ c
+  pub refused-waits : advanced c refusedFrame ≡ c
   unfolding advanced intakeOf
   refused-waits = pick (λ d. d ≡ c) (isWaiting c) refl refl
 
@@ -81,5 +85,5 @@ module _ (c : Collector) where
   unfolding told collecting
   collecting-refused = rw refused-waits
 
-  pub silence-stops : isWaiting c ≡ true → halted c ≡ advanced c noAnswer
-  silence-stops is = unfold intakeOf in waiting-moves noAnswer is
+  pub silence-counts : isWaiting c ≡ true → silenced c ≡ advanced c noAnswer
+  silence-counts is = unfold intakeOf in waiting-moves noAnswer is

@@ -1,19 +1,18 @@
 -- The states that a start and events give. Assumes nothing.
 use mathlib.Core.Path.{_≡_, refl, sym, ap, ap₂, subst, _∙_}
-use mathlib.Core.Logic.{_⊎_, inl, inr, ⊎-elim}
-use mathlib.Core.Bool.{Bool, true, false, cond}
+use mathlib.Core.Bool.{Bool, true, false, cond, _&&_}
 use mathlib.Core.List.{List, [], _∷_, _++_}
 use Prim.Native.Nat.{ℕ, suc, _+_, _-_, _≤_, _<_}
 use native.Mathlib.Omega.{arith}
-use borrow.Author.Tests.{lt-ltb, le-ltb, le-leb, ltb-true, ltb-false}
+use borrow.Author.Tests.{lt-ltb, le-ltb, lt-leb, le-leb, ltb-true, ltb-false, eq-eqb}
 use lib.ListN.{length, getD, set, replicate, length-append, List·getD-append}
 use lib.Seq.{drop-append-seam, set-append-seam, append-snoc}
-use lib.Dec.{ltb}
+use lib.Dec.{ltb, leb, eqb}
 use Rattle.laws.proofs.Bools.{both}
 use Rattle.laws.proofs.Lists.{every-replicate, upTo-all}
 use Rattle.settings.specs.Columns.{count}
 use Rattle.reply.specs.Events.{Event}
-use Rattle.collect.specs.Collecting.{fits, intakeOf, took, halted, moved, isWaiting, advanced, begun, allFit, noneAfter, allowed}
+use Rattle.collect.specs.Collecting.{fits, intakeOf, took, halted, mostTries, counted, silenced, moved, isWaiting, advanced, begun, within, allFit, noneAfter, allowed}
 use Rattle.collect.specs.Laws.{run, following}
 use Rattle.collect.specs.declared.Collector.{Collector}
 use Rattle.collect.specs.declared.intake.Intake.{Intake}
@@ -21,26 +20,29 @@ use Rattle.collect.proofs.Moving.{waiting-moves, ended-stays}
 use Rattle.collect.proofs.Fitting.{fits-front, AllFit, none-fit, more-fit}
 use Rattle.collect.proofs.Intakes.{intake-same, Taken, intake-taken}
 
--- the collector that waits with these numbers answered, or is done
+-- a collector with these numbers answered, after this many silences; and one that has not stopped
 abbrev pub zeros : List ℕ → List ℕ
 zeros l = replicate (count - length l) 0
 
-abbrev pub held : List ℕ → Collector
-held l = record { len = length l; numbers = l ++ zeros l; stopped = false }
+abbrev pub shaped : List ℕ → ℕ → Bool → Collector
+shaped l silences stopped = record { len = length l; numbers = l ++ zeros l; silences = silences; stopped = stopped }
 
-pub begun-held : begun ≡ held []
+abbrev pub held : List ℕ → ℕ → Collector
+held l silences = shaped l silences false
+
+pub begun-held : begun ≡ held [] 0
 unfolding begun
 begun-held = refl
 
-pub held-waits : (l : List ℕ) → length l < count → isWaiting (held l) ≡ true
+pub held-waits : (l : List ℕ) (silences : ℕ) → length l < count → isWaiting (held l silences) ≡ true
 unfolding isWaiting
-held-waits l h = lt-ltb (length l) count h
+held-waits l silences h = lt-ltb (length l) count h
 
 pub next-length : (l : List ℕ) (n : ℕ) → length (l ++ n ∷ []) ≡ suc (length l)
 next-length l n = length-append l (n ∷ []) ∙ (let one : length l + 1 ≡ suc (length l) = omega arith in one)
 
-module _ (l : List ℕ) (h : length l < count) where
-  pub held-takes : (n : ℕ) → took (held l) n ≡ held (l ++ n ∷ [])
+module _ (l : List ℕ) (silences : ℕ) (h : length l < count) where
+  pub held-takes : (n : ℕ) → took (held l silences) n ≡ held (l ++ n ∷ []) 0
   unfolding took
   held-takes n =
       let len : suc (length l) ≡ length (l ++ n ∷ []) = sym (next-length l n) in
@@ -48,69 +50,138 @@ module _ (l : List ℕ) (h : length l < count) where
       let more : set (l ++ zeros l) (length l) n ≡ (l ++ n ∷ []) ++ zeros (l ++ n ∷ []) =
       ap (λ (m : ℕ). set (l ++ replicate m 0) (length l) n) room ∙ set-append-seam l 0 (zeros (l ++ n ∷ [])) n
       ∙ sym (append-snoc l n (zeros (l ++ n ∷ []))) in
-      ap₂ (λ (i : ℕ) (xs : List ℕ). record { len = i; numbers = xs; stopped = false }) len more
+      ap₂ (λ (i : ℕ) (xs : List ℕ). record { len = i; numbers = xs; silences = 0; stopped = false }) len more
 
-  pub held-advances : (e : Event) → advanced (held l) e ≡ moved (held l) (intakeOf l (length l) e)
+  pub held-advances : (e : Event) → advanced (held l silences) e ≡ moved (held l silences) (intakeOf l (length l) e)
   held-advances e =
-      sym (waiting-moves (held l) e (held-waits l h))
-      ∙ ap (moved (held l)) (intake-same (l ++ zeros l) l (length l) (λ n. fits-front l (zeros l) (length l) n (omega arith)) e)
+      sym (waiting-moves (held l silences) e (held-waits l silences h))
+      ∙ ap (moved (held l silences)) (intake-same (l ++ zeros l) l (length l) (λ n. fits-front l (zeros l) (length l) n (omega arith)) e)
+
+-- a reply that does not fit stops, a silence counts, and the third stops too
+pub held-halts : (l : List ℕ) (silences : ℕ) → halted (held l silences) ≡ shaped l silences true
+unfolding halted
+held-halts l silences = refl
+
+module _ (l : List ℕ) (silences : ℕ) where
+  pub held-silenced : suc silences < mostTries → silenced (held l silences) ≡ held l (suc silences)
+  unfolding silenced
+  held-silenced h =
+      let next : counted silences ≡ suc silences = omega arith in
+      ap₂ (λ (n : ℕ) (s : Bool). shaped l n s) next (ap (leb mostTries) next ∙ lt-leb mostTries (suc silences) h)
+
+  pub held-ended : silences ≡ 2 → silenced (held l silences) ≡ shaped l mostTries true
+  unfolding silenced
+  held-ended e =
+      let next : counted silences ≡ mostTries = omega arith in
+      ap₂ (λ (n : ℕ) (s : Bool). shaped l n s) next (ap (leb mostTries) next)
 
 -- ended stays ended
 run-stays : (c : Collector) → isWaiting c ≡ false → (events : List Event) → run c events ≡ c
 run-stays c is [] = refl
 run-stays c is (x ∷ more) = rw (sym (ended-stays c x is)) (run-stays c is more)
 
-done-stays : (l : List ℕ) → length l ≡ count → isWaiting (held l) ≡ false
+done-stays : (l : List ℕ) (silences : ℕ) → length l ≡ count → isWaiting (held l silences) ≡ false
 unfolding isWaiting
-done-stays l e = le-ltb (length l) count (omega arith)
+done-stays l silences e = le-ltb (length l) count (omega arith)
 
-stopped-stays : (c : Collector) → isWaiting (halted c) ≡ false
-unfolding isWaiting halted
-stopped-stays c = refl
+stopped-stays : (l : List ℕ) (silences : ℕ) → isWaiting (shaped l silences true) ≡ false
+unfolding isWaiting
+stopped-stays l silences = refl
 
 -- what events come to: the numbers taken, and a collector that holds them
 pub record Ends (c : Collector) (l : List ℕ) : Type 0 where
   pub fit : AllFit l
   pub few : length l ≤ count
-  pub is : (c ≡ held l) ⊎ ((c ≡ halted (held l)) × (length l < count))
+  pub silences : ℕ
+  pub stopped : Bool
+  pub is : c ≡ shaped l silences stopped
+  pub in-ends : within (length l) silences stopped ≡ true
 
-abbrev pub taking : List ℕ → List Event → List ℕ
-taking l [] = l
-taking l (e ∷ more) =
-    cond (ltb (length l) count) (following (λ n. taking (l ++ n ∷ []) more) l (taking l more) (intakeOf l (length l) e)) l
+abbrev pub taking : ℕ → List ℕ → List Event → List ℕ
+taking silences l [] = l
+taking silences l (e ∷ more) =
+    cond (ltb (length l) count)
+    (following (λ n. taking 0 (l ++ n ∷ []) more) l (taking silences l more)
+    (cond (ltb (suc silences) mostTries) (taking (suc silences) l more) l)
+    (intakeOf l (length l) e))
+    l
 
-intake-ends : (l : List ℕ) (more : List Event) → AllFit l → length l < count
-    → ((n : ℕ) → fits l (length l) n ≡ true → Ends (run (held (l ++ n ∷ [])) more) (taking (l ++ n ∷ []) more))
-    → Ends (run (held l) more) (taking l more)
-    → (v : Intake) → Taken l (length l) v
-    → Ends (run (moved (held l) v) more) (following (λ n. taking (l ++ n ∷ []) more) l (taking l more) v)
-intake-ends l more all h next later (Intake.Takes n) t =
-    rw (held-takes l h n) (next n (t .fit n refl))
-intake-ends l more all h next later Intake.Stops t =
-    record { fit = all; few = omega arith; is = inr (run-stays (halted (held l)) (stopped-stays (held l)) more, h) }
-intake-ends l more all h next later Intake.Waits t = later
+-- what is taken of the events after one that does this
+abbrev pub takingOn : ℕ → List ℕ → List Event → Intake → List ℕ
+takingOn silences l more v =
+    following (λ n. taking 0 (l ++ n ∷ []) more) l (taking silences l more) (cond (ltb (suc silences) mostTries) (taking (suc silences) l more) l) v
 
-pub run-ends : (events : List Event) (l : List ℕ) → AllFit l → length l ≤ count → Ends (run (held l) events) (taking l events)
-run-ends [] l all few = record { fit = all; few = few; is = inl refl }
-run-ends (e ∷ more) l all few =
+-- how many silences there may be
+stopped-within : (len silences : ℕ) → len < count → silences ≤ mostTries → within len silences true ≡ true
+stopped-within len silences h k = both (ltb len count) (leb silences mostTries) (lt-ltb len count h) (le-leb silences mostTries k)
+
+waiting-within : (len silences : ℕ) → len < count → silences < mostTries → within len silences false ≡ true
+waiting-within len silences h k = rw (lt-ltb len count h) (lt-ltb silences mostTries k)
+
+pub within-waiting : (len silences : ℕ) → len < count → within len silences false ≡ true → silences < mostTries
+within-waiting len silences h w = ltb-true silences mostTries (rw (lt-ltb len count h) at w)
+
+pub fresh-within : (len : ℕ) → len ≤ count → within len 0 false ≡ true
+fresh-within len few = by (ltb len count) refl
+  where
+    by : (b : Bool) → ltb len count ≡ b → cond b (ltb 0 mostTries) (eqb len count && eqb 0 0) ≡ true
+    by true t = refl
+    by false t =
+        let past : count ≤ len = ltb-false len count t in
+        rw (eq-eqb len count (omega arith))
+
+module _ (l : List ℕ) (silences : ℕ) (more : List Event) (all : AllFit l) (h : length l < count) (left : silences < mostTries) where
+  ended : (n : ℕ) (c : Collector) → c ≡ shaped l n true → n ≤ mostTries → Ends (run c more) l
+  ended n c is k =
+      record {
+        fit = all;
+        few = omega arith;
+        silences = n;
+        stopped = true;
+        is = ap (λ (d : Collector). run d more) is ∙ run-stays (shaped l n true) (stopped-stays l n) more;
+        in-ends = stopped-within (length l) n h k;
+      }
+
+  intake-ends : ((n : ℕ) → fits l (length l) n ≡ true → Ends (run (held (l ++ n ∷ []) 0) more) (taking 0 (l ++ n ∷ []) more))
+      → Ends (run (held l silences) more) (taking silences l more)
+      → (suc silences < mostTries → Ends (run (held l (suc silences)) more) (taking (suc silences) l more))
+      → (v : Intake) → Taken l (length l) v
+      → Ends (run (moved (held l silences) v) more) (takingOn silences l more v)
+  intake-ends next later again (Intake.Takes n) t = rw (held-takes l silences h n) (next n (t .fit n refl))
+  intake-ends next later again Intake.Stops t = ended silences (halted (held l silences)) (held-halts l silences) (omega arith)
+  intake-ends next later again Intake.Waits t = later
+  intake-ends next later again Intake.Silence t = by (ltb (suc silences) mostTries) refl
+    where
+      by : (b : Bool) → ltb (suc silences) mostTries ≡ b → Ends (run (silenced (held l silences)) more) (cond b (taking (suc silences) l more) l)
+      by true e = let few = ltb-true (suc silences) mostTries e in rw (held-silenced l silences few) (again few)
+      by false e =
+          let last : mostTries ≤ suc silences = ltb-false (suc silences) mostTries e in
+          ended mostTries (silenced (held l silences)) (held-ended l silences (omega arith)) (omega arith)
+
+pub run-ends : (events : List Event) (l : List ℕ) (silences : ℕ) → AllFit l → length l ≤ count → within (length l) silences false ≡ true
+    → Ends (run (held l silences) events) (taking silences l events)
+run-ends [] l silences all few w = record { fit = all; few = few; silences = silences; stopped = false; is = refl; in-ends = w }
+run-ends (e ∷ more) l silences all few w =
     choose-ends (ltb (length l) count) refl
-    (λ h. rw (held-advances l h e)
-    (intake-ends l more all h
-    (λ n f. run-ends more (l ++ n ∷ []) (more-fit l n all f) (rw (next-length l n) h))
-    (run-ends more l all few) (intakeOf l (length l) e) (intake-taken l (length l) e)))
+    (λ h. rw (held-advances l silences h e)
+    (intake-ends l silences more all h (within-waiting (length l) silences h w)
+    (λ n f. run-ends more (l ++ n ∷ []) 0 (more-fit l n all f) (rw (next-length l n) h) (fresh-within (length (l ++ n ∷ [])) (rw (next-length l n) h)))
+    (run-ends more l silences all few w)
+    (λ k. run-ends more l (suc silences) all few (waiting-within (length l) (suc silences) h k))
+    (intakeOf l (length l) e) (intake-taken l (length l) e)))
   where
     choose-ends : (b : Bool) → ltb (length l) count ≡ b
-        → (length l < count → Ends (run (advanced (held l) e) more) (following (λ n. taking (l ++ n ∷ []) more) l (taking l more) (intakeOf l (length l) e)))
-        → Ends (run (advanced (held l) e) more) (cond b (following (λ n. taking (l ++ n ∷ []) more) l (taking l more) (intakeOf l (length l) e)) l)
+        → (length l < count → Ends (run (advanced (held l silences) e) more) (takingOn silences l more (intakeOf l (length l) e)))
+        → Ends (run (advanced (held l silences) e) more) (cond b (takingOn silences l more (intakeOf l (length l) e)) l)
     choose-ends true t waiting = waiting (ltb-true _ _ t)
     choose-ends false t waiting =
         let past : count ≤ length l = ltb-false _ _ t in
         let full : length l ≡ count = omega arith in
-        record { fit = all; few = few; is = inl (run-stays (held l) (done-stays l full) (e ∷ more)) }
+        record { fit = all; few = few; silences = silences; stopped = false; is = run-stays (held l silences) (done-stays l silences full) (e ∷ more); in-ends = w }
 
 -- all such states are allowed
-pub begun-ends : (events : List Event) → Ends (run begun events) (taking [] events)
-begun-ends events = rw begun-held (run-ends events [] none-fit (omega arith))
+pub begun-ends : (events : List Event) → Ends (run begun events) (taking 0 [] events)
+begun-ends events = rw begun-held (run-ends events [] 0 none-fit (omega arith) (fresh-within 0 (omega arith)))
 
 module _ (l : List ℕ) (all : AllFit l) where
   held-fit : allFit (l ++ zeros l) (length l) ≡ true
@@ -124,17 +195,9 @@ module _ (l : List ℕ) (all : AllFit l) where
   held-none : noneAfter (l ++ zeros l) (length l) ≡ true
   held-none = rw (drop-append-seam l (zeros l)) (every-replicate (count - length l))
 
-  held-allowed : length l ≤ count → allowed (held l) ≡ true
+  shaped-allowed : (silences : ℕ) (stopped : Bool) → within (length l) silences stopped ≡ true → allowed (shaped l silences stopped) ≡ true
   unfolding allowed
-  held-allowed h = both _ _ (le-leb (length l) count h) (both _ _ held-fit held-none)
-
-  stopped-allowed : length l < count → allowed (halted (held l)) ≡ true
-  unfolding allowed halted
-  stopped-allowed h = both _ _ (lt-ltb (length l) count h) (both _ _ held-fit held-none)
+  shaped-allowed silences stopped w = both (within (length l) silences stopped) _ w (both _ _ held-fit held-none)
 
 pub ends-allowed : {c : Collector} {l : List ℕ} → Ends c l → allowed c ≡ true
-ends-allowed {c} {l} e =
-    ⊎-elim
-    (λ is. subst (λ (d : Collector). allowed d ≡ true) (sym is) (held-allowed l (e .fit) (e .few)))
-    (λ is. subst (λ (d : Collector). allowed d ≡ true) (sym (is .0)) (stopped-allowed l (e .fit) (is .1)))
-    (e .is)
+ends-allowed {c} {l} e = subst (λ (d : Collector). allowed d ≡ true) (sym (e .is)) (shaped-allowed l (e .fit) (e .silences) (e .stopped) (e .in-ends))

@@ -1,6 +1,6 @@
 -- A collector asks a Get for each setting in order and takes the numbers that the board answers. All of it is ours; where the words are
 -- in quotes they are document 01's of the follower, "Restore list and its following", which is the model. Assumes nothing.
-use Prim.Native.Nat.{ℕ, suc}
+use Prim.Native.Nat.{ℕ, suc, min}
 use mathlib.Core.Bool.{Bool, true, false, cond, not, _&&_}
 use mathlib.Core.List.{List}
 use lib.ListN.{length, getD, set, drop, replicate}
@@ -33,24 +33,41 @@ onHeeded numbers k value Heeded.Waits = Intake.Waits
 onHeeded numbers k value Heeded.Good = valued numbers k value
 onHeeded numbers k value (Heeded.Bad status) = Intake.Stops
 
--- what is taken of an event while the setting at place k is due, with the numbers answered so far; "The caller may say "no answer", which
--- stops."
+-- what is taken of an event while the setting at place k is due, with the numbers answered so far
 unfoldable pub intakeOf : List ℕ → ℕ → Event → Intake
 intakeOf numbers k (heard command bytes) = onHeeded numbers k (rest bytes) (heeding getCode (idAt k) command bytes)
 intakeOf numbers k refusedFrame = Intake.Waits
-intakeOf numbers k noAnswer = Intake.Stops
+intakeOf numbers k noAnswer = Intake.Silence
 
--- a collector after the answer to its Get
+-- a collector after what came to its Get
 unfoldable pub took : Collector → ℕ → Collector
-took c n = record { len = suc (c .len); numbers = set (c .numbers) (c .len) n; stopped = c .stopped }
+took c n = record { len = suc (c .len); numbers = set (c .numbers) (c .len) n; silences = 0; stopped = c .stopped }
 
 unfoldable pub halted : Collector → Collector
-halted c = record { len = c .len; numbers = c .numbers; stopped = true }
+halted c = record { len = c .len; numbers = c .numbers; silences = c .silences; stopped = true }
+
+-- "The caller may say "no answer", which stops": a Get changes nothing on the board, so it is asked again, three times in all (ours), and the
+-- third "no answer" in a row stops
+abbrev pub mostTries : ℕ
+mostTries = 3
+
+abbrev pub counted : ℕ → ℕ
+counted silences = min mostTries (suc silences)
+
+unfoldable pub silenced : Collector → Collector
+silenced c =
+    record {
+      len = c .len;
+      numbers = c .numbers;
+      silences = counted (c .silences);
+      stopped = leb mostTries (counted (c .silences));
+    }
 
 abbrev pub moved : Collector → Intake → Collector
 moved c (Intake.Takes n) = took c n
 moved c Intake.Stops = halted c
 moved c Intake.Waits = c
+moved c Intake.Silence = silenced c
 
 -- and after an event. "All confirmed ends as done. Ended stays ended."
 unfoldable pub isWaiting : Collector → Bool
@@ -61,12 +78,15 @@ advanced c e = cond (isWaiting c) (moved c (intakeOf (c .numbers) (c .len) e)) c
 
 -- the start: nothing is answered, the first setting is due
 unfoldable pub begun : Collector
-begun = record { len = 0; numbers = replicate count 0; stopped = false }
+begun = record { len = 0; numbers = replicate count 0; silences = 0; stopped = false }
 
 -- A state is allowed when a start and events give it (the law AllowedIsReached): no more settings are answered than there are, and fewer
--- where it stopped, every number answered fits those before it, and 0 is past them.
-abbrev pub within : ℕ → Bool → Bool
-within len stopped = cond stopped (ltb len count) (leb len count)
+-- where it stopped, every number answered fits those before it, and 0 is past them; there are fewer than three silences while a setting is
+-- due, at most three where it stopped, and none where all are answered.
+abbrev pub within : ℕ → ℕ → Bool → Bool
+within len silences stopped =
+    cond stopped (ltb len count && leb silences mostTries)
+    (cond (ltb len count) (ltb silences mostTries) (eqb len count && eqb silences 0))
 
 unfoldable pub allFit : List ℕ → ℕ → Bool
 allFit numbers len = upTo len (λ j. fits numbers j (getD numbers j 0))
@@ -75,4 +95,4 @@ abbrev pub noneAfter : List ℕ → ℕ → Bool
 noneAfter numbers len = every (eqb 0) (drop len numbers)
 
 unfoldable pub allowed : Collector → Bool
-allowed c = within (c .len) (c .stopped) && (allFit (c .numbers) (c .len) && noneAfter (c .numbers) (c .len))
+allowed c = within (c .len) (c .silences) (c .stopped) && (allFit (c .numbers) (c .len) && noneAfter (c .numbers) (c .len))

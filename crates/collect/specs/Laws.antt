@@ -6,17 +6,18 @@ use mathlib.Core.Logic.{_≢_, _↔_}
 use mathlib.Core.Bool.{true, false, cond, _&&_}
 use mathlib.Core.List.{List, [], _∷_, _++_}
 use lib.ListN.{length, take, drop}
-use lib.Dec.{ltb}
+use lib.Dec.{ltb, eqb}
 use Rattle.laws.specs.Lists.{same}
 use Rattle.endian.specs.Numbers.{little, fromLittle}
 use Rattle.settings.specs.Columns.{count, idAt, widthAt}
+use Rattle.settings.specs.declared.Setting.{Setting}
 use Rattle.tables.specs.Rules.{factory}
 use Rattle.tables.specs.Rules as tables
 use Rattle.tables.specs.declared.Table.{Table}
 use Rattle.paper.specs.Numbers.{getCode}
 use Rattle.answers.specs.Answers.{said}
 use Rattle.reply.specs.Events.{Event, heard, refusedFrame, noAnswer, OnStream, answers}
-use Rattle.collect.specs.Collecting.{fits, advanced, begun, allowed}
+use Rattle.collect.specs.Collecting.{fits, mostTries, advanced, begun, allowed}
 use Rattle.collect.specs.Calls.{starting, collecting}
 use Rattle.collect.specs.declared.Collector.{Collector}
 use Rattle.collect.specs.declared.Stage.{Stage}
@@ -50,8 +51,8 @@ CallsFollow = (events : List Event) → calls starting events .collector ≡ run
 abbrev pub goodReply : ℕ → ℕ → List ℕ
 goodReply k n = said (idAt k) 0 (little (widthAt k) n)
 
--- what an event carries for place k, with the numbers so far: the number of a good reply, if it fits; any other reply to the Get and "no
--- answer" end it; everything else carries nothing
+-- what an event carries for place k, with the numbers so far: the number of a good reply, if it fits; any other reply to the Get ends it;
+-- "no answer" is a silence; everything else carries nothing
 unfoldable pub carries : List ℕ → ℕ → Event → Intake
 carries so-far k (heard command bytes) =
     let n = fromLittle (drop 3 bytes) in
@@ -59,20 +60,26 @@ carries so-far k (heard command bytes) =
     (cond (same bytes (goodReply k n) && fits so-far k n) (Intake.Takes n) Intake.Stops)
     Intake.Waits
 carries so-far k refusedFrame = Intake.Waits
-carries so-far k noAnswer = Intake.Stops
+carries so-far k noAnswer = Intake.Silence
 
--- the numbers carried, one after the other, until it ends or every setting has one
-abbrev pub following : (ℕ → List ℕ) → List ℕ → List ℕ → Intake → List ℕ
-following next so-far later (Intake.Takes n) = next n
-following next so-far later Intake.Stops = so-far
-following next so-far later Intake.Waits = later
+-- the numbers carried, one after the other, until it ends or every setting has one; with how many silences came since the last
+abbrev pub following : (ℕ → List ℕ) → List ℕ → List ℕ → List ℕ → Intake → List ℕ
+following next so-far later silent (Intake.Takes n) = next n
+following next so-far later silent Intake.Stops = so-far
+following next so-far later silent Intake.Waits = later
+following next so-far later silent Intake.Silence = silent
+
+abbrev pub carriedAfter : ℕ → List ℕ → List Event → List ℕ
+carriedAfter silences so-far [] = so-far
+carriedAfter silences so-far (e ∷ more) =
+    cond (ltb (length so-far) count)
+    (following (λ n. carriedAfter 0 (so-far ++ n ∷ []) more) so-far (carriedAfter silences so-far more)
+    (cond (ltb (suc silences) mostTries) (carriedAfter (suc silences) so-far more) so-far)
+    (carries so-far (length so-far) e))
+    so-far
 
 abbrev pub carried : List ℕ → List Event → List ℕ
-carried so-far [] = so-far
-carried so-far (e ∷ more) =
-    cond (ltb (length so-far) count)
-    (following (λ n. carried (so-far ++ n ∷ []) more) so-far (carried so-far more) (carries so-far (length so-far) e))
-    so-far
+carried so-far events = carriedAfter 0 so-far events
 
 -- what the last call answers, by the numbers carried
 pub record Holds (numbers : List ℕ) (last : Collected) : Type 0 where
@@ -102,8 +109,32 @@ BoardIsRead =
     (t : Table) → length (t .numbers) ≡ count → tables.allowed t ≡ true
     → calls starting (replies 0 (t .numbers))
     ≡ record {
-      collector = record { len = count; numbers = t .numbers; stopped = false };
+      collector = record { len = count; numbers = t .numbers; silences = 0; stopped = false };
       stage = Stage.Done;
       answered = count;
       table = t;
     }
+
+-- 5. When silence stops. How many times no answer came since the last setting was answered, by what the calls answer.
+abbrev pub silencesBy : Event → ℕ → ℕ
+silencesBy (heard command bytes) n = n
+silencesBy refusedFrame n = n
+silencesBy noAnswer n = suc n
+
+abbrev pub silencesAfter : Collected → ℕ → List Event → ℕ
+silencesAfter last n [] = n
+silencesAfter last n (e ∷ more) =
+    let next = collecting (last .collector) e in
+    silencesAfter next (cond (eqb (next .answered) (last .answered)) (silencesBy e n) 0) more
+
+-- A setting is due after any events. One more "no answer" stops the collector there exactly when it is the third in a row, and otherwise
+-- the same setting stays due, with nothing else changed in the answer.
+pub record Silent (last next : Collected) (before : ℕ) (s : Setting) : Type 0 where
+  pub stops-when : (next .stage ≡ Stage.Stopped s) ↔ (before ≡ 2)
+  pub else-waits : before ≢ 2 → next .stage ≡ Stage.Waiting s
+  pub answered-same : next .answered ≡ last .answered
+
+abbrev pub SilenceStops : Type 0
+SilenceStops =
+    (events : List Event) (s : Setting) → calls starting events .stage ≡ Stage.Waiting s
+    → Silent (calls starting events) (collecting (calls starting events .collector) noAnswer) (silencesAfter starting 0 events) s

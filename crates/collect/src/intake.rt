@@ -1,4 +1,4 @@
-// What is taken of a frame while a setting is due.
+// What is taken of an event while a setting is due.
 ghost use Prim.Native.Nat.{_<_};
 ghost use mathlib.Core.Path.{_≡_};
 ghost use lib.ListN.{drop};
@@ -9,11 +9,12 @@ use crate::place;
 use reply::Heeded;
 use settings::COUNT;
 
-// What a frame does: its number is taken, the collector stops, or it waits on.
+// What an event does: its number is taken, the collector stops, it waits on, or one more time there was no answer.
 pub(crate) enum Intake {
     Takes(u16),
     Stops,
     Waits,
+    Silence,
 }
 
 // Returns what the value of a good reply with the due id does: it stops on another width or a number that does not fit.

@@ -13,11 +13,12 @@ mod intake;
 mod place;
 mod state;
 
-// How many settings were answered, their numbers in the order of the ids, 0 past them, and whether it has stopped. Which setting is due, and
-// whether all is done, follows from these.
+// How many settings were answered, their numbers in the order of the ids, 0 past them, how many times no answer came to the Get of the one
+// that is due, and whether it has stopped. Which setting is due, and whether all is done, follows from these.
 pub struct Collector {
     pub len: usize,
     pub numbers: [u16; COUNT],
+    pub silences: usize,
     pub stopped: bool,
 }
 
@@ -70,7 +71,8 @@ impl Collector {
         answer::told(self)
     }
 
-    // Notes that no answer came, which stops a collector that waits. Refuses 12 for one that no start and events give.
+    // Notes that no answer came: the same setting stays due, and the third time in a row stops a collector that waits. Refuses 12 for one
+    // that no start and events give.
     pub fn no_answer(self) -> Collected
         ensures { λ r. ⌜ r ≡ collecting self noAnswer ⌝ }
     {

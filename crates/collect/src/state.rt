@@ -10,6 +10,9 @@ use crate::intake::Intake;
 use crate::place;
 use settings::COUNT;
 
+// How many times a Get is sent before no answer stops a collector (ours).
+const MOST_TRIES: usize = 3;
+
 // Returns the start: nothing is answered.
 pub(crate) fn begun() -> Collector
     ensures { λ r. ⌜ r ≡ spec.begun ⌝ }
@@ -17,18 +20,22 @@ pub(crate) fn begun() -> Collector
     Collector {
         len: 0,
         numbers: [0u16; COUNT],
+        silences: 0,
         stopped: false,
     }
 }
 
-// Returns whether no more settings are answered than there are, and fewer where it stopped.
-fn is_within(len: usize, stopped: bool) -> bool
-    ensures { λ r. ⌜ r ≡ spec.within len stopped ⌝ }
+// Returns whether no more settings are answered than there are, fewer where it stopped, and there were no more silences than there can be.
+fn is_within(len: usize, silences: usize, stopped: bool) -> bool
+    ensures { λ r. ⌜ r ≡ spec.within len silences stopped ⌝ }
 {
     if stopped {
-        return len < COUNT;
+        return (len < COUNT) & (silences <= MOST_TRIES);
     }
-    len <= COUNT
+    if len < COUNT {
+        return silences < MOST_TRIES;
+    }
+    (len == COUNT) & (silences == 0)
 }
 
 // Returns whether every number answered fits those before it.
@@ -64,7 +71,7 @@ pub(crate) fn is_allowed(collector: Collector) -> bool
     ensures { λ r. ⌜ r ≡ spec.allowed collector ⌝ }
 {
     let len = collector.len;
-    if !is_within(len, collector.stopped) {
+    if !is_within(len, collector.silences, collector.stopped) {
         return false;
     }
     let numbers = collector.numbers;
@@ -86,9 +93,11 @@ fn took(collector: Collector, number: u16) -> Collector
     let len = collector.len;
     let mut numbers = collector.numbers;
     numbers[len] = number;
+    let silences = 0;
     Collector {
         len: len + 1,
         numbers,
+        silences,
         stopped: collector.stopped,
     }
 }
@@ -101,11 +110,36 @@ fn halted(collector: Collector) -> Collector
     Collector {
         len: collector.len,
         numbers,
+        silences: collector.silences,
         stopped: true,
     }
 }
 
-// Returns a collector that waited, after the answer to its Get.
+// Returns one silence more, up to the last.
+fn counted(silences: usize) -> usize
+    ensures { λ r. ⌜ r ≡ spec.counted silences ⌝ }
+{
+    if MOST_TRIES <= silences {
+        return MOST_TRIES;
+    }
+    silences + 1
+}
+
+// Returns a collector to whose Get no answer came once more. The third time it stops.
+fn silenced(collector: Collector) -> Collector
+    ensures { λ r. ⌜ r ≡ spec.silenced collector ⌝ }
+{
+    let numbers = collector.numbers;
+    let silences = counted(collector.silences);
+    Collector {
+        len: collector.len,
+        numbers,
+        silences,
+        stopped: MOST_TRIES <= silences,
+    }
+}
+
+// Returns a collector that waited, after what came to its Get.
 fn moved(collector: Collector, intake: Intake) -> Collector
     requires { ⌜ collector .len < count ⌝ }
     ensures { λ r. ⌜ r ≡ spec.moved collector intake ⌝ }
@@ -114,6 +148,7 @@ fn moved(collector: Collector, intake: Intake) -> Collector
         Intake::Takes(number) => took(collector, number),
         Intake::Stops => halted(collector),
         Intake::Waits => collector,
+        Intake::Silence => silenced(collector),
     }
 }
 
@@ -138,5 +173,5 @@ pub(crate) fn after_silence(collector: Collector) -> Collector
     if !is_waiting(collector) {
         return collector;
     }
-    halted(collector)
+    silenced(collector)
 }

@@ -6,11 +6,22 @@ use listen::Told;
 // The listener's time is over long before there are this many turns.
 const MOST_TURNS: u32 = 1000000000;
 
-// What was told, and the data of the frame, if it was one.
+// What was told, the data of the frame, if it was one, and whether nothing more can come.
 pub(crate) struct News {
     pub(crate) listener: Listener,
     pub(crate) told: Told,
     pub(crate) data: [u8; paper::MOST_DATA],
+    pub(crate) ended: bool,
+}
+
+// Returns the news that no answer came.
+pub(crate) fn silence(listener: Listener, ended: bool) -> News {
+    News {
+        listener,
+        told: Told::NoAnswer,
+        data: [0u8; paper::MOST_DATA],
+        ended,
+    }
 }
 
 // Returns whether a read says that nothing more can come: it failed, or gave nothing where that is no second of silence on a serial line.
@@ -21,17 +32,13 @@ fn is_end(input: i32, got: isize) -> bool {
 // Reads one byte, so that nothing is ever left over, and then the clock, without which the box waits for nothing.
 fn once(input: i32, listener: Listener) -> News {
     let mut byte = [0u8; 1];
-    let mut data = [0u8; paper::MOST_DATA];
     let got = libc::read(input, &mut byte);
     let now = clock::time();
     if is_end(input, got) || now == 0 {
-        return News {
-            listener,
-            told: Told::NoAnswer,
-            data,
-        };
+        return silence(listener, true);
     }
     let len = io::count(got, &byte);
+    let mut data = [0u8; paper::MOST_DATA];
     let listened = listener.read(&byte[..len], now, &mut data);
     let next = listened.listener;
     let told = listened.told;
@@ -39,6 +46,7 @@ fn once(input: i32, listener: Listener) -> News {
         listener: next,
         told,
         data,
+        ended: false,
     }
 }
 

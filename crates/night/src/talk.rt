@@ -24,6 +24,8 @@ use wire::Written;
 // The listener's time is over long before there are this many frames that say nothing of what was asked.
 const MOST_EVENTS: u32 = 1000000000;
 
+const MOST_REQUESTS: usize = 3 * settings::COUNT;
+
 // Which machine asks.
 pub(crate) enum Asker {
     Collector,
@@ -31,8 +33,8 @@ pub(crate) enum Asker {
     Viewer,
 }
 
-// A talk: the machine that asks and two at rest, whether the board was silent, and the data of the frame heard last, none if that was no
-// frame.
+// A talk: the machine that asks and two at rest, whether the board was silent, whether nothing more can come, and the data of the frame
+// heard last, none if that was no frame.
 pub(crate) struct Talk {
     pub(crate) asker: Asker,
     pub(crate) listener: Listener,
@@ -40,6 +42,7 @@ pub(crate) struct Talk {
     pub(crate) followed: Followed,
     pub(crate) viewed: Viewed,
     pub(crate) silent: bool,
+    pub(crate) ended: bool,
     pub(crate) said: [u8; paper::MOST_DATA],
     pub(crate) len: usize,
 }
@@ -59,6 +62,7 @@ fn started(asker: Asker, begun: u64, followed: Followed) -> Talk {
         followed,
         viewed: Viewer::start(),
         silent: false,
+        ended: false,
         said: [0u8; paper::MOST_DATA],
         len: 0,
     }
@@ -112,9 +116,9 @@ fn is_due(turn: Turn) -> bool {
     }
 }
 
-// Returns whether the request after `before` answered ones is still open.
+// Returns whether the request after `before` answered ones is still open: nothing has answered it, and its time is not over.
 fn waits(talk: Talk, before: usize) -> bool {
-    is_due(due(talk)) & (answered(talk) == before)
+    is_due(due(talk)) & (answered(talk) == before) & !talk.silent
 }
 
 // Sends the frame that was written.
@@ -158,6 +162,7 @@ fn moved(talk: Talk, news: News, collected: Collected, followed: Followed, viewe
         followed,
         viewed,
         silent: is_silence(told),
+        ended: news.ended,
         said,
         len: ear::len_of(told),
     }
@@ -219,6 +224,7 @@ fn asked(talk: Talk) -> Talk {
         followed,
         viewed,
         silent: false,
+        ended: talk.ended,
         said,
         len: talk.len,
     }
@@ -236,20 +242,18 @@ fn answer(input: i32, talk: Talk) -> Talk {
     talk
 }
 
+// Tells the machine that asks that no answer came.
+fn unanswered(talk: Talk) -> Talk {
+    let listener = talk.listener;
+    heard(talk, ear::silence(listener, talk.ended))
+}
+
 // Ends the wait, whatever came: a request that is still open has got no answer.
 fn patient(talk: Talk, before: usize) -> Talk {
     if !waits(talk, before) {
         return talk;
     }
-    let listener = talk.listener;
-    heard(
-        talk,
-        News {
-            listener,
-            told: Told::NoAnswer,
-            data: [0u8; paper::MOST_DATA],
-        },
-    )
+    unanswered(talk)
 }
 
 // Shows what an answered request has brought.
@@ -266,8 +270,12 @@ fn show(report: i32, before: Talk, after: Talk) {
     }
 }
 
-// Sends what is due, hears what becomes of it, and shows that where it is wished; does nothing where the talk has ended.
+// Sends what is due, hears what becomes of it, and shows that where it is wished; does nothing where the talk has ended. Where nothing more
+// can come, there is nobody to send to.
 pub(crate) fn further(ends: Ends, talk: Talk, shown: bool) -> Talk {
+    if talk.ended {
+        return unanswered(talk);
+    }
     if !send(ends.output, due(talk)) {
         return talk;
     }
@@ -278,10 +286,10 @@ pub(crate) fn further(ends: Ends, talk: Talk, shown: bool) -> Talk {
     next
 }
 
-// Leads the talk to its end. No machine asks more than once for each setting, so there are no more turns than settings.
+// Leads the talk to its end. A machine asks for a setting three times at most, so there are no more turns than that.
 pub(crate) fn whole(ends: Ends, talk: Talk, shown: bool) -> Talk {
     let mut talk = talk;
-    let mut turns = settings::COUNT;
+    let mut turns = MOST_REQUESTS;
     while turns > 0 {
         talk = further(ends, talk, shown);
         turns -= 1;

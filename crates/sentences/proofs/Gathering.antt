@@ -71,7 +71,7 @@ module _ (c : Collector) where
 
   all-answered : Complete c → c .len ≡ count
   all-answered all =
-      let most : c .len ≤ count = few-answered (c .len) (c .stopped) (allowed-within c (all .is-allowed)) in
+      let most : c .len ≤ count = few-answered (c .len) (c .silences) (c .stopped) (allowed-within c (all .is-allowed)) in
       let least : count ≤ c .len = done-all (c .len) (c .stopped) (all .is-done) in
       omega arith
 

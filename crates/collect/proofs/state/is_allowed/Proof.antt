@@ -14,10 +14,10 @@ returns : tie.Need-returns
 returns c = allowed-not _ (sym (c .before .is-within .ensures) ∙ not-true _ (c .if1 .taken))
 
 all-fit-requires : tie.Need-all-fit-requires
-all-fit-requires c κs = let s = c .before .before .before in few-answered _ (s .args .collector .stopped) (sym (c .before .before .is-within .ensures) ∙ not-false _ (c .before .if1 .left))
+all-fit-requires c κs = let s = c .before .before .before in few-answered _ (s .args .collector .silences) (s .args .collector .stopped) (sym (c .before .before .is-within .ensures) ∙ not-false _ (c .before .if1 .left))
 
 none-after-requires : tie.Need-none-after-requires
-none-after-requires c κs = let s = c .before .before .before .before in few-answered _ (s .args .collector .stopped) (sym (c .before .before .before .is-within .ensures) ∙ not-false _ (c .before .before .if1 .left))
+none-after-requires c κs = let s = c .before .before .before .before in few-answered _ (s .args .collector .silences) (s .args .collector .stopped) (sym (c .before .before .before .is-within .ensures) ∙ not-false _ (c .before .before .if1 .left))
 
 returns-2 : tie.Need-returns-2
 returns-2 c = ap₂ (λ (a b : Bool). a && b) (c .before .all-fit .ensures) (c .none-after .ensures) ∙ allowed-rest _ (sym (c .before .before .before .before .is-within .ensures) ∙ not-false _ (c .before .before .before .if1 .left))

@@ -20,6 +20,12 @@ halted-requires c κs = search needs
 enum-told-2 : tie.Need-enum-told-2
 enum-told-2 c = search needs
 
+enum-told-3 : tie.Need-enum-told-3
+enum-told-3 c = search needs
+
+silenced-requires : tie.Need-silenced-requires
+silenced-requires c κs = search needs
+
 returns : tie.Need-returns
 returns c = c .took .ensures ∙ ap (moved _) (sym (c .before .before .intake .given .1))
 
@@ -28,6 +34,9 @@ returns-2 c = c .halted .ensures ∙ ap (moved _) (sym (c .before .enum-told .gi
 
 returns-3 : tie.Need-returns-3
 returns-3 c = ap (moved _) (sym (c .enum-told2 .given .1))
+
+returns-4 : tie.Need-returns-4
+returns-4 c = c .silenced .ensures ∙ ap (moved _) (sym (c .before .enum-told3 .given .1))
 
 pub moved-spec : {M : Type 1} → statement M
 moved-spec =
@@ -38,6 +47,9 @@ moved-spec =
     enum-told
     halted-requires
     enum-told-2
+    enum-told-3
+    silenced-requires
     returns
     returns-2
-    returns-3)
+    returns-3
+    returns-4)

@@ -11,12 +11,12 @@ mul-numbers c = search needs
 array-write-numbers : tie.Need-array-write-numbers
 array-write-numbers c = search needs
 
-add-t5 : tie.Need-add-t5
-add-t5 c = search needs
+add-t6 : tie.Need-add-t6
+add-t6 c = search needs
 
 returns : tie.Need-returns
 unfolding took
 returns c = rw (add-one (c .before .args .collector .len))
 
 pub took-spec : {M : Type 1} → statement M
-took-spec = tie.close (tie.spec mul-numbers array-write-numbers add-t5 returns)
+took-spec = tie.close (tie.spec mul-numbers array-write-numbers add-t6 returns)

@@ -1,0 +1,15 @@
+-- `collect::state::silenced` meets its contract. Assumes nothing.
+use borrow.Author.Needs.{needs}
+use Rattle.collect.specs.Collecting.{silenced}
+use Rattle.collect.proofs.state.silenced.Statement.{statement}
+use Rattle.collect.proofs.state.silenced.Tie as tie
+
+counted-requires : tie.Need-counted-requires
+counted-requires c κs = search needs
+
+returns : tie.Need-returns
+unfolding silenced
+returns c = rw (c .counted .ensures)
+
+pub silenced-spec : {M : Type 1} → statement M
+silenced-spec = tie.close (tie.spec counted-requires returns)
