@@ -29,7 +29,7 @@ const BYTES: u8 = b'b';
 // How many calls there are.
 const COUNT: usize = 22;
 
-const SIZE: usize = 226;
+const SIZE: usize = 225;
 
 const READ: usize = 0;
 
@@ -77,9 +77,9 @@ const GATHER: usize = 21;
 
 // Returns the calls, numbered from 0, each ended by a bar: its name, and the kinds of its words, the name's among them.
 fn table() -> [u8; SIZE]
-    ensures { λ r. ⌜ 226 ≡ length r ⌝ }
+    ensures { λ r. ⌜ 225 ≡ length r ⌝ }
 {
-    *b"read cnb|write cnnb|get cni|set cnnn|hear cnB|hold cnbnB|listen cnnnA|board cnP|serial cnbB|start ciibS|store cS|reply cnb|show cib|nearest cinn|change cnnS|text cnS|parse cL|list cnS|due cnS|follow cF|collect ciC|gather cnnC|"
+    *b"read cnb|write cnnb|get cni|set cnnn|hear cnB|hold cnbnB|listen cnnnA|board cnP|serial cnbB|start ciibS|store cS|reply cnb|show cib|nearest cinn|change cnnS|text cnS|parse cL|list cnS|due cnS|follow cF|collect ciC|gather cnC|"
 }
 
 // Returns whether a call has this name.

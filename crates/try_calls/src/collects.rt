@@ -26,18 +26,18 @@ const TWO_BYTES: usize = 5;
 // Answers `collect ID ITEM ..`: a start, and every setting before this id answered with its factory number; then what the items tell.
 pub fn collect(row: &[u8]) {
     let begun = Collector::start().collector;
-    items(answered(begun, filled::place_of(args::id(row, 1))), row, 2);
+    items(answered(begun, filled::place_of(args::id(row, 1))), row);
 }
 
-// Answers `gather LEN SILENCES ITEM ..`: a collector made by hand, with LEN settings answered, every number 0, after SILENCES silences.
+// Answers `gather LEN ITEM ..`: a collector made by hand, with LEN settings answered and every number 0.
 pub fn gather(row: &[u8]) {
     let made = Collector {
         len: args::number(row, 1),
         numbers: [0u16; COUNT],
-        silences: args::number(row, 2),
+        silences: 0,
         stopped: false,
     };
-    items(made, row, 3);
+    items(made, row);
 }
 
 // Returns a collector with the settings before a place answered, each with its factory number.
@@ -91,11 +91,11 @@ fn good(collector: Collector, setting: Setting, number: u16) -> Collector {
         .collector
 }
 
-// Hands a collector the items of a row, from a word on.
-fn items(collector: Collector, row: &[u8], first: usize) {
+// Hands a collector the items of a row.
+fn items(collector: Collector, row: &[u8]) {
     let words = count(row);
     let mut asking = collector;
-    let mut k = first;
+    let mut k = 2;
     while k < words {
         asking = item(asking, row, k);
         k += 1;
