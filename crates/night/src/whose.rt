@@ -62,7 +62,7 @@ fn of_talk(talk: Talk) -> Serial {
 
 // Returns a talk in which the serial is due.
 fn begun() -> Talk {
-    let mut talk = talk::viewing();
+    let mut talk = talk::viewing(ends.begun);
     talk.viewed = due();
     talk
 }
