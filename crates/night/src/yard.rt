@@ -36,31 +36,56 @@ fn work(list: &[u8]) {
     if rows::is_doubled(list) {
         return;
     }
-    let tally = all(list);
+    let mut left = io::large_buffer();
+    let first = round(list, &mut left, Tally::nothing(), false);
+    let tally = round(list, &mut left, first, true);
     words::tell(OUT, sentences::summed(tally));
 }
 
-// Restores the trailers of a list, a row each. Every row but the first begins with the newline before it, which is skipped as a blank.
-fn all(list: &[u8]) -> Tally {
-    let mut tally = Tally::nothing();
+// Restores the trailers of a list, a row each; in the last round those that are left. Every row but the first begins with the newline
+// before it, which is skipped as a blank.
+fn round(list: &[u8], left: &mut [u8], before: Tally, last: bool) -> Tally {
+    let mut tally = before;
     let mut at = 0;
     while at < list.len() {
         let end = bytes::scan::find(list, at + 1, list.len(), b'\n');
-        tally = row(tally, &list[at..end]);
+        tally = turn(tally, &list[at..end], at, left, last);
         at = end;
     }
     tally
 }
 
+// Restores the trailer of the row that begins at a place, in the last round only if it is left, and notes whether it is left then.
+fn turn(tally: Tally, text: &[u8], at: usize, left: &mut [u8], last: bool) -> Tally {
+    if left.len() <= at {
+        return tally;
+    }
+    if last & (left[at] == 0) {
+        return tally;
+    }
+    let after = row(tally, text, last);
+    left[at] = is_left(tally, after) as u8;
+    after
+}
+
+// Returns whether no trailer was counted: the row has none, or it is begun anew.
+fn is_left(before: Tally, after: Tally) -> bool {
+    (before.done == after.done)
+        & (before.equal == after.equal)
+        & (before.stopped == after.stopped)
+        & (before.silent == after.silent)
+        & (before.unbegun == after.unbegun)
+}
+
 // Restores the trailer of a row, without the blanks at the row's end.
-fn row(tally: Tally, row: &[u8]) -> Tally {
+fn row(tally: Tally, row: &[u8], last: bool) -> Tally {
     let len = words::filled(row);
-    listed(tally, &row[..len])
+    listed(tally, &row[..len], last)
 }
 
 // Restores the trailer of a row: name, serial line and file, blanks between; the file's name may have some too. An empty row and one that
 // begins with # are skipped.
-fn listed(tally: Tally, row: &[u8]) -> Tally {
+fn listed(tally: Tally, row: &[u8], last: bool) -> Tally {
     let name = rows::next(row, 0, false);
     if row.len() <= name {
         return tally;
@@ -84,6 +109,7 @@ fn listed(tally: Tally, row: &[u8]) -> Tally {
         &row[name..name_end],
         &row[path..path_end],
         &row[kept..],
+        last,
     )
 }
 
@@ -108,7 +134,7 @@ fn sums_with(name: &[u8], counted: Counted) -> Tally {
 }
 
 // Restores one trailer. Its serial line is opened first: where the serial line and the file are swapped, the device is not read as a file.
-fn trailer(tally: Tally, name: &[u8], path: &[u8], kept: &[u8]) -> Tally {
+fn trailer(tally: Tally, name: &[u8], path: &[u8], kept: &[u8], last: bool) -> Tally {
     if check::same(path, b"-") {
         return not_begun(tally, name, b"not begun: in a yard a line is a device");
     }
@@ -119,13 +145,13 @@ fn trailer(tally: Tally, name: &[u8], path: &[u8], kept: &[u8]) -> Tally {
     if !ends.open {
         return not_begun(tally, name, b"not begun: its line cannot be opened");
     }
-    let after = begun(tally, name, ends, kept);
+    let after = begun(tally, name, ends, kept, last);
     serial::close(ends);
     after
 }
 
 // Reads the file of a trailer whose serial line is open, and restores it if it is good.
-fn begun(tally: Tally, name: &[u8], ends: Ends, kept: &[u8]) -> Tally {
+fn begun(tally: Tally, name: &[u8], ends: Ends, kept: &[u8], last: bool) -> Tally {
     let text = file::read(kept);
     if !text.is {
         return not_begun(tally, name, b"not begun: its file cannot be read");
@@ -138,15 +164,15 @@ fn begun(tally: Tally, name: &[u8], ends: Ends, kept: &[u8]) -> Tally {
         checks::tell(OUT, verdict);
         return sums_with(name, tally.not_begun());
     }
-    restore(tally, name, ends, table)
+    restore(tally, name, ends, table, last)
 }
 
 // Reads the board's settings, and restores it if all were answered.
-fn restore(tally: Tally, name: &[u8], ends: Ends, to: Table) -> Tally {
+fn restore(tally: Tally, name: &[u8], ends: Ends, to: Table, last: bool) -> Tally {
     let collected = collecting::settings_of(ends, false);
     let stage = collected.stage;
     match stage {
-        Stage::Done => follow(tally, name, ends, collected.table, to),
+        Stage::Done => follow(tally, name, ends, collected.table, to, last),
         Stage::Waiting(_) => silent(tally, name, collected),
         Stage::Stopped(_) => silent(tally, name, collected),
         Stage::Refused(_) => silent(tally, name, collected),
@@ -160,12 +186,19 @@ fn silent(tally: Tally, name: &[u8], collected: Collected) -> Tally {
     sums_with(name, tally.silent())
 }
 
-// Follows the restore, tells its end, and counts the follower's own result.
-fn follow(tally: Tally, name: &[u8], ends: Ends, from: Table, to: Table) -> Tally {
+// Follows the restore, tells its end, and counts the follower's own result; one that is begun anew at the end of the round is counted then.
+fn follow(tally: Tally, name: &[u8], ends: Ends, from: Table, to: Table, last: bool) -> Tally {
     let restored = restoring::follow(ends, from, to, false);
     words::name(OUT, name);
-    restoring::tell_end(OUT, restored);
     let followed = restored.followed;
     let follower = followed.follower;
+    let anew = tally::begins_anew(follower, 0 < restored.len, last);
+    if anew {
+        io::write_all(OUT, b"once more at the end: ");
+    }
+    restoring::tell_end(OUT, restored);
+    if anew {
+        return tally;
+    }
     sums_with(name, tally.restored(follower, 0 < restored.len))
 }
