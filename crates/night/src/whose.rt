@@ -51,25 +51,30 @@ fn of_answer(sight: Sight, data: &[u8]) -> Serial {
     }
 }
 
-// Returns the serial that was told in a talk.
+// Returns the serial in the data of a reply, which are the front of a buffer, by what the viewer saw in it.
+fn of_data(sight: Sight, data: [u8; paper::MOST_DATA], len: usize) -> Serial {
+    let n = words::front(len, &data);
+    of_answer(sight, &data[..n])
+}
+
+// Returns the serial that a talk has brought.
 fn of_talk(talk: Talk) -> Serial {
     let viewed = talk.viewed;
     let sight = viewed.sight;
     let said = talk.said;
-    let n = words::front(talk.len, &said);
-    of_answer(sight, &said[..n])
+    of_data(sight, said, talk.len)
 }
 
-// Returns a talk in which the serial is due.
-fn begun() -> Talk {
-    let mut talk = talk::viewing(ends.begun);
+// Returns a talk in which the serial is due, of a trailer that was begun at this time.
+fn begun(time: u64) -> Talk {
+    let mut talk = talk::viewing(time);
     talk.viewed = due();
     talk
 }
 
 // Asks a board for its serial.
 pub(crate) fn ask(ends: Ends) -> Serial {
-    of_talk(talk::further(ends, begun(), false))
+    of_talk(talk::further(ends, begun(ends.begun), false))
 }
 
 // Returns whether the board told this serial.

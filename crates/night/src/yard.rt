@@ -19,11 +19,12 @@ use tally::Counted;
 use tally::Tally;
 use who::Verdict;
 
-// The sums so far, where the report goes, and whether there is a table for machines too.
+// The sums so far, where the report goes, whether there is a table for machines too, and whether this is the last round.
 struct Sheet {
     tally: Tally,
     report: i32,
     table: bool,
+    last: bool,
 }
 
 // The way in which the sums have counted a trailer, if they have.
@@ -74,25 +75,69 @@ fn work(list: &[u8], report: i32, table: bool) {
     if list::is_met_twice(list, report) {
         return;
     }
-    let sheet = Sheet {
-        tally: Tally::nothing(),
-        report,
-        table,
-    };
-    let ended = all(list, sheet);
+    let mut left = io::large_buffer();
+    let first = round(
+        list,
+        &mut left,
+        Sheet {
+            tally: Tally::nothing(),
+            report,
+            table,
+            last: false,
+        },
+    );
+    let tally = first.tally;
+    let ended = round(
+        list,
+        &mut left,
+        Sheet {
+            tally,
+            report,
+            table,
+            last: true,
+        },
+    );
     words::tell(report, sentences::summed(ended.tally));
 }
 
-// Restores the trailers of a list, a row each. Every row but the first begins with the newline before it, which is skipped as a blank.
-fn all(list: &[u8], sheet: Sheet) -> Sheet {
+// Restores the trailers of a list, a row each; in the last round those that are left. Every row but the first begins with the newline
+// before it, which is skipped as a blank.
+fn round(list: &[u8], left: &mut [u8], sheet: Sheet) -> Sheet {
     let mut sheet = sheet;
     let mut at = 0;
     while at < list.len() {
         let end = bytes::scan::find(list, at + 1, list.len(), b'\n');
-        sheet = row(sheet, &list[at..end]);
+        sheet = turn(sheet, &list[at..end], at, left);
         at = end;
     }
     sheet
+}
+
+// Restores the trailer of the row that begins at a place, in the last round only if it is left, and notes whether it is left then.
+fn turn(sheet: Sheet, text: &[u8], at: usize, left: &mut [u8]) -> Sheet {
+    if left.len() <= at {
+        return sheet;
+    }
+    if sheet.last & (left[at] == 0) {
+        return sheet;
+    }
+    let before = sheet.tally;
+    let after = row(sheet, text);
+    left[at] = is_left(before, after.tally) as u8;
+    after
+}
+
+// Returns whether no trailer was counted: the row has none, or its trailer is begun anew.
+fn is_left(before: Tally, after: Tally) -> bool {
+    let way = way_of(before, after);
+    match way {
+        Way::Done => false,
+        Way::Equal => false,
+        Way::Stopped => false,
+        Way::Silent => false,
+        Way::Unbegun => false,
+        Way::Uncounted => true,
+    }
 }
 
 // Restores the trailer of a row, without the blanks at the row's end.
@@ -166,9 +211,8 @@ fn word_of(way: Way) -> Line {
     }
 }
 
-// Begins the row of a trailer: its name, the serial of its board, and the word by which the sums have counted it.
-fn head(sheet: Sheet, name: &[u8], serial: Serial, counted: Counted) {
-    let report = sheet.report;
+// Begins the row of a trailer: its name, and the serial of its board.
+fn title(report: i32, name: &[u8], serial: Serial) {
     let line = serial.line;
     words::short(report, name);
     if 0 < line.len {
@@ -177,7 +221,12 @@ fn head(sheet: Sheet, name: &[u8], serial: Serial, counted: Counted) {
         io::write_all(report, b")");
     }
     io::write_all(report, b": ");
-    words::add(report, word_of(way_of(sheet.tally, counted.tally)));
+}
+
+// Begins the row of a trailer, with the word by which the sums have counted it.
+fn head(sheet: Sheet, name: &[u8], serial: Serial, counted: Counted) {
+    title(sheet.report, name, serial);
+    words::add(sheet.report, word_of(way_of(sheet.tally, counted.tally)));
 }
 
 // Returns how much a count has grown.
@@ -241,6 +290,7 @@ fn finish(sheet: Sheet, name: &[u8], serial: Serial, counted: Counted) -> Sheet 
         tally,
         report,
         table,
+        last: sheet.last,
     }
 }
 
@@ -350,11 +400,17 @@ fn unread(sheet: Sheet, name: &[u8], serial: Serial, read: Talk) -> Sheet {
     finish(sheet, name, serial, counted)
 }
 
-// Follows the restore, tells its end, and counts the follower's own result.
+// Follows the restore, tells its end, and counts the follower's own result; one that is begun anew at the end of the round is counted then.
 fn follow(sheet: Sheet, name: &[u8], ends: Ends, serial: Serial, from: Table, to: Table) -> Sheet {
     let restored = restoring::follow(ends, from, to, false);
     let followed = restored.followed;
     let follower = followed.follower;
+    if tally::begins_anew(follower, 0 < restored.len, sheet.last) {
+        title(sheet.report, name, serial);
+        io::write_all(sheet.report, b"once more at the end: ");
+        restoring::tell_end(sheet.report, restored);
+        return sheet;
+    }
     let tally = sheet.tally;
     let counted = tally.restored(follower, 0 < restored.len);
     head(sheet, name, serial, counted);

@@ -5,6 +5,7 @@ use Rattle.laws.proofs.Promise.{equal-same}
 use Rattle.follow.specs.declared.Follower.{Follower}
 use Rattle.tally.specs.declared.Tally.{Tally}
 use Rattle.tally.specs.declared.Counted.{Counted}
+use Rattle.tally.proofs.begins_anew.Reads as begins-anew
 use Rattle.tally.proofs.Tally.nothing.Reads as nothing
 use Rattle.tally.proofs.Tally.is_allowed.Reads as is-allowed
 use Rattle.tally.proofs.Tally.restored.Reads as restored
@@ -26,3 +27,7 @@ silent-same t r r′ met met′ = equal-same met met′
 
 pub not-begun-same : (t : Tally) (r r′ : Counted) → not-begun.Post tt (t, tt) r (t, tt) → not-begun.Post tt (t, tt) r′ (t, tt) → r ≡ r′
 not-begun-same t r r′ met met′ = equal-same met met′
+
+pub begins-anew-same : (f : Follower) (answered last r r′ : Bool)
+    → begins-anew.Post tt (f, (answered, (last, tt))) r (f, (answered, (last, tt))) → begins-anew.Post tt (f, (answered, (last, tt))) r′ (f, (answered, (last, tt))) → r ≡ r′
+begins-anew-same f answered last r r′ met met′ = equal-same met met′

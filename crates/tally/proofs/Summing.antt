@@ -14,10 +14,10 @@ use Rattle.restore.proofs.Theorems.{sets-are-few}
 use Rattle.follow.specs.Following.{standing, total, followerAllowed}
 use Rattle.follow.specs.declared.Follower.{Follower}
 use Rattle.follow.specs.declared.Standing.{Standing}
-use Rattle.tally.specs.Results.{Result, restored, silent, notBegun, nothing, hasEnded, endedAs, shareOf, fits, most, tallyAllowed, plus}
+use Rattle.tally.specs.Results.{Result, restored, silent, notBegun, nothing, hasEnded, isStopped, endedAs, shareOf, fits, most, tallyAllowed, plus}
 use Rattle.tally.specs.Calls.{counting}
 use Rattle.tally.specs.AsHeld.{Within}
-use Rattle.tally.specs.Laws.{tallied, fitting, one, number, addUp, isDone, isEqual, isStopped, wasDone, wasEqual, wasStopped, wasSilent, wasNotBegun, confirmedOf, dueOf, SumsUp, TallySumsUp, allFit, AllAreCounted}
+use Rattle.tally.specs.Laws.{tallied, fitting, one, number, addUp, isDone, isEqual, wasDone, wasEqual, wasStopped, wasSilent, wasNotBegun, confirmedOf, dueOf, SumsUp, TallySumsUp, allFit, AllAreCounted}
 use Rattle.tally.specs.declared.Tally.{Tally}
 use Rattle.tally.proofs.Counting.{of-within, counting-unfit, counting-fit, fits-is}
 

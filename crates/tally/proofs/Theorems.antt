@@ -1,7 +1,8 @@
 -- The statements of specs/Laws.antt, proved. Assumes nothing.
-use Rattle.tally.specs.Laws.{TallySumsUp, AllAreCounted, AllowedIsWithin}
+use Rattle.tally.specs.Laws.{TallySumsUp, AllAreCounted, AllowedIsWithin, BegunAnewExactly, EachCountsOnce}
 use Rattle.tally.proofs.Counting.{within-of, of-within}
 use Rattle.tally.proofs.Summing as summing
+use Rattle.tally.proofs.Rounds as rounds
 
 pub tally-sums-up : TallySumsUp
 tally-sums-up = summing.sums-up
@@ -11,3 +12,9 @@ all-are-counted = summing.all-counted
 
 pub allowed-is-within : AllowedIsWithin
 allowed-is-within t = (within-of t, of-within t)
+
+pub begun-anew-exactly : BegunAnewExactly
+begun-anew-exactly = rounds.anew-exactly
+
+pub each-counts-once : EachCountsOnce
+each-counts-once = rounds.each-once

@@ -9,9 +9,12 @@ use lib.ListN.{length}
 use Rattle.settings.specs.Columns.{count}
 use Rattle.restore.specs.Order.{dueSets}
 use Rattle.follow.specs.Following.{standing}
+use Rattle.follow.specs.Calls.{told}
+use Rattle.follow.specs.declared.Follower.{Follower}
+use Rattle.requests.specs.declared.Wanted.{Wanted}
 use Rattle.follow.specs.declared.Standing.{Standing}
-use Rattle.tally.specs.Results.{Result, restored, silent, notBegun, nothing, fits, most, tallyAllowed}
-use Rattle.tally.specs.Calls.{counting}
+use Rattle.tally.specs.Results.{Result, restored, silent, notBegun, nothing, isStopped, fits, most, tallyAllowed}
+use Rattle.tally.specs.Calls.{counting, begunAnew}
 use Rattle.tally.specs.AsHeld.{Within}
 use Rattle.tally.specs.declared.Tally.{Tally}
 
@@ -52,13 +55,6 @@ isEqual Standing.Equal = true
 isEqual Standing.Done = false
 isEqual (Standing.Stopped due) = false
 isEqual (Standing.Refused number) = false
-
-abbrev pub isStopped : Standing → Bool
-isStopped (Standing.Waiting due) = false
-isStopped Standing.Equal = false
-isStopped Standing.Done = false
-isStopped (Standing.Stopped due) = true
-isStopped (Standing.Refused number) = false
 
 -- the kinds of results
 abbrev pub wasDone : Result → Bool
@@ -130,3 +126,43 @@ AllAreCounted = (results : List Result) → length results ≤ mostTrailers → 
 -- 3. A tally is allowed exactly where none of its seven counts is over a million.
 abbrev pub AllowedIsWithin : Type 0
 AllowedIsWithin = (t : Tally) → (tallyAllowed t ≡ true) ↔ Within t
+
+-- 4. A trailer is begun anew exactly where its follower says that it stopped, the board said nothing to its last Set, and the round is not
+-- the last. So a refusal by the board is never tried again, nor a restore that is done.
+pub record Silently (f : Follower) (answered last : Bool) : Type 0 where
+  pub stopped-at : Wanted
+  pub stopped-is : told f .standing ≡ Standing.Stopped stopped-at
+  pub none-said : answered ≡ false
+  pub one-more : last ≡ false
+
+abbrev pub BegunAnewExactly : Type 0
+BegunAnewExactly = (f : Follower) (answered last : Bool) → (begunAnew f answered last ≡ true) ↔ Silently f answered last
+
+-- 5. Two rounds of a yard. Each trailer has a result in the first round, and one in the second if it is begun anew; the last one counts.
+pub record Trailer : Type 0 where
+  pub first : Result
+  pub second : Result
+
+abbrev pub isAnew : Result → Bool
+isAnew (restored f answered) = begunAnew f answered false
+isAnew silent = false
+isAnew notBegun = false
+
+abbrev pub lastResults : List Trailer → List Result
+lastResults [] = []
+lastResults (t ∷ more) = cond (isAnew (t .first)) (t .second) (t .first) ∷ lastResults more
+
+-- what is counted in each round
+abbrev pub firstRound : List Trailer → List Result
+firstRound [] = []
+firstRound (t ∷ more) = cond (isAnew (t .first)) (firstRound more) (t .first ∷ firstRound more)
+
+abbrev pub secondRound : List Trailer → List Result
+secondRound [] = []
+secondRound (t ∷ more) = cond (isAnew (t .first)) (t .second ∷ secondRound more) (secondRound more)
+
+-- Over the two rounds each trailer is counted once, with its last result.
+abbrev pub EachCountsOnce : Type 0
+EachCountsOnce =
+    (yard : List Trailer) → length yard ≤ mostTrailers → allFit (lastResults yard) ≡ true
+    → SumsUp (lastResults yard) (tallied (tallied nothing (firstRound yard)) (secondRound yard))

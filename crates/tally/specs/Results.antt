@@ -31,6 +31,14 @@ hasEnded Standing.Done = true
 hasEnded (Standing.Stopped due) = true
 hasEnded (Standing.Refused number) = false
 
+-- stopped
+abbrev pub isStopped : Standing → Bool
+isStopped (Standing.Waiting due) = false
+isStopped Standing.Equal = false
+isStopped Standing.Done = false
+isStopped (Standing.Stopped due) = true
+isStopped (Standing.Refused number) = false
+
 -- a follower that stopped, at another answer or at none
 abbrev pub stoppedAs : Bool → Tally
 stoppedAs answered = cond answered (tallyOf 0 0 1 0 0) (tallyOf 0 0 0 1 0)

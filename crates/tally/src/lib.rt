@@ -3,7 +3,7 @@
 ghost use mathlib.Core.Path.{_≡_};
 ghost use Rattle.tally.specs.Results.{nothing, tallyAllowed};
 ghost use Rattle.tally.specs.Results as results;
-ghost use Rattle.tally.specs.Calls.{counting};
+ghost use Rattle.tally.specs.Calls.{counting, begunAnew};
 use follow::Follower;
 use who::Verdict;
 
@@ -27,6 +27,16 @@ pub struct Tally {
 pub struct Counted {
     pub tally: Tally,
     pub verdict: Verdict,
+}
+
+// Returns whether a trailer is begun anew at the end of the round, and so not counted yet: its follower stopped, the board said nothing to
+// its last Set, and this is not the last round. A follower that no start and events give never is.
+pub fn begins_anew(follower: Follower, answered: bool, last: bool) -> bool
+    ensures { λ r. ⌜ r ≡ begunAnew follower answered last ⌝ }
+{
+    let followed = follower.told();
+    let standing = followed.standing;
+    share::is_stopped(standing) & !answered & !last
 }
 
 impl Tally {

@@ -1,6 +1,6 @@
 // What one trailer adds to the sums.
 ghost use mathlib.Core.Path.{_≡_};
-ghost use Rattle.tally.specs.Results.{tallyOf, endedAs, stoppedAs, hasEnded, withSets};
+ghost use Rattle.tally.specs.Results.{tallyOf, endedAs, stoppedAs, hasEnded, isStopped, withSets};
 use crate::Tally;
 use follow::Standing;
 
@@ -33,6 +33,19 @@ pub(crate) fn has_ended(standing: Standing) -> bool
         Standing::Waiting(_) => false,
         Standing::Equal => true,
         Standing::Done => true,
+        Standing::Stopped(_) => true,
+        Standing::Refused(_) => false,
+    }
+}
+
+// Returns whether a follower has stopped.
+pub(crate) fn is_stopped(standing: Standing) -> bool
+    ensures { λ r. ⌜ r ≡ isStopped standing ⌝ }
+{
+    match standing {
+        Standing::Waiting(_) => false,
+        Standing::Equal => false,
+        Standing::Done => false,
         Standing::Stopped(_) => true,
         Standing::Refused(_) => false,
     }
