@@ -38,8 +38,13 @@ fn once(input: i32, listener: Listener) -> News {
         return silence(listener, true);
     }
     let len = io::count(got, &byte);
+    heard(listener, &byte[..len], now)
+}
+
+// Hands what was read, and when, to the listener.
+fn heard(listener: Listener, piece: &[u8], now: u64) -> News {
     let mut data = [0u8; paper::MOST_DATA];
-    let listened = listener.read(&byte[..len], now, &mut data);
+    let listened = listener.read(piece, now, &mut data);
     let next = listened.listener;
     let told = listened.told;
     News {

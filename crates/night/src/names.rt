@@ -7,16 +7,24 @@ use lines::Line;
 use settings::COUNT;
 use settings::Found;
 
-// The unit of a setting's numbers.
-enum Unit {
-    Plain,
-    Volts,
-    Percent,
-    Kelvin,
-    AmpHours,
-    Minutes,
-    Amperes,
-}
+// The units of the settings' numbers, each as wide as the widest, with the blank before it.
+const SUFFIX: usize = 4;
+
+const SUFFIXES: usize = 28;
+
+const PLAIN: u8 = 0;
+
+const VOLTS: u8 = 1;
+
+const PERCENT: u8 = 2;
+
+const KELVIN: u8 = 3;
+
+const AMP_HOURS: u8 = 4;
+
+const MINUTES: u8 = 5;
+
+const AMPERES: u8 = 6;
 
 // The width of the column of names.
 const WIDE: usize = 22;
@@ -26,33 +34,33 @@ const ALL: usize = 572;
 // 0 degrees Celsius in steps of 0.01 K.
 const FREEZING: usize = 27315;
 
-const UNITS: [Unit; COUNT] = [
-    Unit::Volts, // 0320
-    Unit::Volts, // 0321
-    Unit::Volts, // 0322
-    Unit::Volts, // 0323
-    Unit::Percent, // 0328
-    Unit::Percent, // 0329
-    Unit::Kelvin, // 032A
-    Unit::Kelvin, // 032B
-    Unit::Kelvin, // 032C
-    Unit::Kelvin, // 032D
-    Unit::Plain, // 0400
-    Unit::AmpHours, // 1000
-    Unit::Volts, // 1001
-    Unit::Percent, // 1002
-    Unit::Minutes, // 1003
-    Unit::Percent, // 1004
-    Unit::Plain, // 1005
-    Unit::Amperes, // 1006
-    Unit::Minutes, // 1007
-    Unit::Percent, // 1008
-    Unit::Percent, // 1009
-    Unit::Plain, // EEF5
-    Unit::Plain, // EEF7
-    Unit::Amperes, // EEFB
-    Unit::Plain, // EEFC
-    Unit::Plain, // EEFE
+const UNITS: [u8; COUNT] = [
+    VOLTS, // 0320
+    VOLTS, // 0321
+    VOLTS, // 0322
+    VOLTS, // 0323
+    PERCENT, // 0328
+    PERCENT, // 0329
+    KELVIN, // 032A
+    KELVIN, // 032B
+    KELVIN, // 032C
+    KELVIN, // 032D
+    PLAIN, // 0400
+    AMP_HOURS, // 1000
+    VOLTS, // 1001
+    PERCENT, // 1002
+    MINUTES, // 1003
+    PERCENT, // 1004
+    PLAIN, // 1005
+    AMPERES, // 1006
+    MINUTES, // 1007
+    PERCENT, // 1008
+    PERCENT, // 1009
+    PLAIN, // EEF5
+    PLAIN, // EEF7
+    AMPERES, // EEFB
+    PLAIN, // EEFC
+    PLAIN, // EEFE
 ];
 
 // How many digits a number has after the point.
@@ -130,30 +138,60 @@ fn put_cell(line: Line, cell: &[u8], wide: bool) -> Line {
     line.put(&cell[..len])
 }
 
+// Puts the degrees Celsius of steps of 0.01 K.
+fn put_degrees(line: Line, steps: usize) -> Line {
+    if steps < FREEZING {
+        return line.put(b"-").put_pointed(FREEZING - steps, 2);
+    }
+    line.put_pointed(steps - FREEZING, 2)
+}
+
 // Puts a temperature in degrees Celsius: `(16.85 °C)`.
 fn put_celsius(line: Line, number: u16) -> Line {
-    let steps = number as usize;
-    let begun = line.put(b" (");
-    if steps < FREEZING {
-        return begun
-            .put(b"-")
-            .put_pointed(FREEZING - steps, 2)
-            .put(b" \xC2\xB0C)");
-    }
-    begun.put_pointed(steps - FREEZING, 2).put(b" \xC2\xB0C)")
+    put_degrees(line.put(b" ("), number as usize).put(b" \xC2\xB0C)")
+}
+
+// Returns all units.
+fn suffixes() -> [u8; SUFFIXES]
+    ensures { λ r. ⌜ 28 ≡ length r ⌝ }
+{
+    *b"     V   %   K   Ah  min A  "
 }
 
 // Puts a unit after its number.
-fn put_unit(line: Line, unit: Unit, number: u16) -> Line {
-    match unit {
-        Unit::Plain => line,
-        Unit::Volts => line.put(b" V"),
-        Unit::Percent => line.put(b" %"),
-        Unit::Kelvin => put_celsius(line.put(b" K"), number),
-        Unit::AmpHours => line.put(b" Ah"),
-        Unit::Minutes => line.put(b" min"),
-        Unit::Amperes => line.put(b" A"),
+fn put_suffix(line: Line, unit: u8) -> Line {
+    if AMPERES < unit {
+        return line;
     }
+    let all = suffixes();
+    let from = unit as usize * SUFFIX;
+    let to = from + SUFFIX;
+    put_cell(line, &all[from..to], false)
+}
+
+// Puts a unit after its number, and a temperature in degrees Celsius besides.
+fn put_unit(line: Line, unit: u8, number: u16) -> Line {
+    let line = put_suffix(line, unit);
+    if unit == KELVIN {
+        return put_celsius(line, number);
+    }
+    line
+}
+
+// Returns the unit of the setting at a place.
+fn unit_of(index: usize) -> u8 {
+    if COUNT <= index {
+        return PLAIN;
+    }
+    UNITS[index]
+}
+
+// Returns how many digits the setting at a place has after the point.
+fn decimals_of(index: usize) -> u8 {
+    if COUNT <= index {
+        return 0;
+    }
+    DECIMALS[index]
 }
 
 // Returns whether 0 is no amount but turns the setting off: an alarm, and the clearing point of a temperature.
@@ -172,8 +210,8 @@ pub(crate) fn put_amount(line: Line, index: usize, number: u16) -> Line {
     if is_off(index, number) {
         return line.put(b"off");
     }
-    let counted = line.put_pointed(number as usize, DECIMALS[index]);
-    put_unit(counted, UNITS[index], number)
+    let counted = line.put_pointed(number as usize, decimals_of(index));
+    put_unit(counted, unit_of(index), number)
 }
 
 // Returns the least number over 0 in a setting's range.
@@ -199,7 +237,7 @@ fn put_ends(line: Line, index: usize, least: u16, most: u16) -> Line {
     if COUNT <= index {
         return line;
     }
-    let begun = line.put_pointed(least as usize, DECIMALS[index]);
+    let begun = line.put_pointed(least as usize, decimals_of(index));
     put_amount(begun.put(b" to "), index, most)
 }
 

@@ -54,20 +54,21 @@ pub(crate) fn told_to(followed: Followed, told: Told, data: &[u8]) -> Followed {
 
 // Shows the Set that was just confirmed and, by the follower's own count, how many are.
 pub(crate) fn show(report: i32, before: Followed, after: Followed) {
-    let standing = before.standing;
     let follower = after.follower;
-    let Standing::Waiting(request) = standing else {
-        return;
+    words::add(report, sentences::progress(follower));
+    words::tell(report, put_set(Line::start(), due(before)));
+}
+
+// Puts the setting and the number of a Set.
+fn put_set(line: Line, turn: Turn) -> Line {
+    let Turn::Ask(request) = turn else {
+        return line;
     };
     let Request::Set(wanted) = request else {
-        return;
+        return line;
     };
     let setting = wanted.setting;
-    words::add(report, sentences::progress(follower));
-    words::tell(
-        report,
-        names::put_row(Line::start().put(b": "), setting.index, wanted.number),
-    );
+    names::put_row(line.put(b": "), setting.index, wanted.number)
 }
 
 // Shows one Set of the list, with the number that the board holds now.

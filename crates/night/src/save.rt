@@ -39,11 +39,20 @@ fn save(ends: Ends, path: &[u8]) {
     collecting::tell_end(ends.report, read);
     let collected = read.collected;
     let stage = collected.stage;
+    if is_done(stage) {
+        keep(ends, collected, path);
+    } else {
+        tell(ends.report, collected, Kept::Not, path);
+    }
+}
+
+// Returns whether every setting was read.
+fn is_done(stage: Stage) -> bool {
     match stage {
-        Stage::Done => keep(ends, collected, path),
-        Stage::Waiting(_) => tell(ends.report, collected, Kept::Not, b""),
-        Stage::Stopped(_) => tell(ends.report, collected, Kept::Not, b""),
-        Stage::Refused(_) => tell(ends.report, collected, Kept::Not, b""),
+        Stage::Done => true,
+        Stage::Waiting(_) => false,
+        Stage::Stopped(_) => false,
+        Stage::Refused(_) => false,
     }
 }
 
@@ -64,12 +73,17 @@ fn keep(ends: Ends, collected: Collected, path: &[u8]) {
 fn tell(report: i32, collected: Collected, kept: Kept, path: &[u8]) {
     let collector = collected.collector;
     words::add(report, sentences::saved(collector, kept));
+    tell_path(report, kept, path);
+    words::end(report);
+}
+
+// Adds the file's name, if it was written.
+fn tell_path(report: i32, kept: Kept, path: &[u8]) {
     match kept {
         Kept::Not => {}
         Kept::Unsure => named(report, b": ", path),
         Kept::Whole => named(report, b" to ", path),
     }
-    words::end(report);
 }
 
 // Adds the file's name, after a word.

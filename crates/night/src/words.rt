@@ -38,29 +38,43 @@ pub(crate) enum Command {
 
 // Returns the command of a word, where it has as many arguments as it needs.
 pub(crate) fn asked_for(word: &[u8], count: usize) -> Command {
-    if count == 4 && check::same(word, b"save") {
-        return Command::Save;
+    match count {
+        3 => of_one(word),
+        4 => of_two(word),
+        _ => Command::Unknown,
     }
-    if count == 3 && check::same(word, b"check") {
+}
+
+// Returns the command that has one argument.
+fn of_one(word: &[u8]) -> Command {
+    if check::same(word, b"check") {
         return Command::Check;
     }
-    if count == 4 && check::same(word, b"restore") {
-        return Command::Restore;
-    }
-    if count == 4 && check::same(word, b"plan") {
-        return Command::Plan;
-    }
-    if count == 3 && check::same(word, b"show") {
+    if check::same(word, b"show") {
         return Command::Show;
     }
-    if count == 3 && check::same(word, b"yard") {
+    if check::same(word, b"yard") {
         return Command::Yard;
     }
-    if count == 4 && check::same(word, b"yard") {
-        return Command::Table;
-    }
-    if count == 3 && check::same(word, b"lines") {
+    if check::same(word, b"lines") {
         return Command::Lines;
+    }
+    Command::Unknown
+}
+
+// Returns the command that has two arguments.
+fn of_two(word: &[u8]) -> Command {
+    if check::same(word, b"save") {
+        return Command::Save;
+    }
+    if check::same(word, b"restore") {
+        return Command::Restore;
+    }
+    if check::same(word, b"plan") {
+        return Command::Plan;
+    }
+    if check::same(word, b"yard") {
+        return Command::Table;
     }
     Command::Unknown
 }
@@ -139,6 +153,14 @@ pub(crate) fn put_reason(line: Line, error: i32) -> Line {
     if error == libc::EIO {
         return line.put(b"Input/output error");
     }
+    if error == libc::EISDIR {
+        return line.put(b"Is a directory");
+    }
+    put_other(line, error)
+}
+
+// Puts a reason that is less common.
+fn put_other(line: Line, error: i32) -> Line {
     if error == NO_DEVICE_NOW {
         return line.put(b"No such device or address");
     }
@@ -147,9 +169,6 @@ pub(crate) fn put_reason(line: Line, error: i32) -> Line {
     }
     if error == BUSY {
         return line.put(b"Device or resource busy");
-    }
-    if error == libc::EISDIR {
-        return line.put(b"Is a directory");
     }
     if error == libc::ENOTDIR {
         return line.put(b"Not a directory");

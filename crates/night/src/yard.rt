@@ -156,14 +156,19 @@ fn listed(sheet: Sheet, row: &[u8]) -> Sheet {
     if row[name] == b'#' {
         return sheet;
     }
-    let name_end = list::next(row, name, true);
+    named(sheet, &row[name..])
+}
+
+// Restores the trailer of a row that begins with its name.
+fn named(sheet: Sheet, row: &[u8]) -> Sheet {
+    let name_end = list::next(row, 0, true);
     let path = list::next(row, name_end, false);
     let path_end = list::next(row, path, true);
     let kept = list::next(row, path_end, false);
     if row.len() <= kept {
         return not_begun(
             sheet,
-            &row[name..],
+            row,
             whose::untold(),
             Line::start().put(b"a row has a name, a line and a file, blanks between"),
         );
@@ -171,7 +176,7 @@ fn listed(sheet: Sheet, row: &[u8]) -> Sheet {
     let mark = list::mark_of(row, kept);
     trailer(
         sheet,
-        &row[name..name_end],
+        &row[0..name_end],
         &row[path..path_end],
         &row[kept..mark],
         &row[mark..],
@@ -202,12 +207,10 @@ fn way_of(before: Tally, after: Tally) -> Way {
 fn word_of(way: Way) -> Line {
     let line = Line::start();
     match way {
-        Way::Done => line,
-        Way::Equal => line,
-        Way::Stopped => line,
         Way::Silent => line.put(b"silent: "),
         Way::Unbegun => line.put(b"not begun: "),
         Way::Uncounted => line.put(b"not counted: "),
+        _ => line,
     }
 }
 

@@ -80,12 +80,16 @@ unfoldable pub readingText : ℕ → List ℕ → List ℕ
 readingText id value = rowText (rowIn signedRows id) value
 
 -- A value that is understood: `product A381` ("00, product low, product high, FF"), `version 4401`.
+abbrev pub productText : List ℕ → List ℕ
+productText value = wordText (chars "product ") (getD value 2 0) (getD value 1 0) []
+
+abbrev pub versionText : List ℕ → List ℕ
+versionText value = wordText (chars "version ") (getD value 1 0) (getD value 0 0) []
+
 unfoldable pub wordsText : ℕ → List ℕ → List ℕ
 wordsText id value =
-    cond (eqb id paper.productId) (wordText (chars "product ") (getD value 2 0) (getD value 1 0) [])
-    (cond (eqb id paper.serialId) (serialText value)
-    (cond (eqb id paper.versionId) (wordText (chars "version ") (getD value 1 0) (getD value 0 0) [])
-    (readingText id value)))
+    cond (eqb id paper.productId) (productText value)
+    (cond (eqb id paper.serialId) (serialText value) (cond (eqb id paper.versionId) (versionText value) (readingText id value)))
 
 -- What a frame said of the id that was due, and nothing where it said nothing of it; nothing too where no start and replies give the viewer,
 -- as `view` then refuses it and looks at no frame.

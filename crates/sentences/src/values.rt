@@ -8,7 +8,7 @@ ghost use lib.IntN.{pos, negsuc};
 ghost use Rattle.endian.specs.Numbers.{fromLittle, signed};
 ghost use Rattle.view.specs.Values.{widthOf, isUnderstood};
 ghost use Rattle.lines.specs.Lines.{adding};
-ghost use Rattle.sentences.specs.Values.{wordText, strangeText, serialText, amountText, readingText, wordsText};
+ghost use Rattle.sentences.specs.Values.{wordText, strangeText, productText, versionText, serialText, amountText, readingText, wordsText};
 use lines::Line;
 
 // How many numbers two bytes and four bytes have: from half of it on, a number is negative. For the one reading without a sign it is twice
@@ -28,6 +28,22 @@ fn put_word(line: Line, before: &[u8], high: u8, low: u8, after: &[u8]) -> Line
     line.put(before)
         .put(&[h.high, h.low, l.high, l.low])
         .put(after)
+}
+
+// Puts the value of 0100. A product has its low byte first, and is printed high byte first.
+fn put_product(line: Line, value: &[u8]) -> Line
+    requires { ⌜ length (now value) ≡ 4 ⌝ }
+    ensures { λ r. ⌜ r ≡ adding line (productText (now (value .entry))) ⌝ }
+{
+    put_word(line, b"product ", value[2], value[1], b"")
+}
+
+// Puts the value of EEF9, likewise.
+fn put_version(line: Line, value: &[u8]) -> Line
+    requires { ⌜ length (now value) ≡ 2 ⌝ }
+    ensures { λ r. ⌜ r ≡ adding line (versionText (now (value .entry))) ⌝ }
+{
+    put_word(line, b"version ", value[1], value[0], b"")
 }
 
 // Puts that the answer of an id is not understood.
@@ -114,19 +130,19 @@ fn put_reading(line: Line, id: u16, value: &[u8]) -> Line
     put_amount(line, b"charge ", UNSIGNED_16, steps, 2, b" %")
 }
 
-// Puts a value that is understood, by its id. A product and a version have their low byte first, and are printed high byte first.
+// Puts a value that is understood, by its id.
 pub(crate) fn put_words(line: Line, id: u16, value: &[u8]) -> Line
     requires { ⌜ isUnderstood id (now value) ≡ true ⌝ }
     ensures { λ r. ⌜ r ≡ adding line (wordsText id (now (value .entry))) ⌝ }
 {
     if id == paper::PRODUCT_ID {
-        return put_word(line, b"product ", value[2], value[1], b"");
+        return put_product(line, value);
     }
     if id == paper::SERIAL_ID {
         return put_serial(line, value);
     }
     if id == paper::VERSION_ID {
-        return put_word(line, b"version ", value[1], value[0], b"");
+        return put_version(line, value);
     }
     put_reading(line, id, value)
 }

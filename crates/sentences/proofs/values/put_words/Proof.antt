@@ -1,6 +1,5 @@
 -- `sentences::values::put_words` meets its contract. Assumes nothing.
 use mathlib.Core.Path.{ap, _∙_}
-use native.Mathlib.Omega.{arith}
 use borrow.Author.Needs.{needs}
 use borrow.Author.Tests.{ne-eqb}
 use Rattle.view.specs.Values.{widthOf}
@@ -9,41 +8,25 @@ use Rattle.sentences.specs.Values.{wordsText}
 use Rattle.sentences.proofs.values.put_words.Statement.{statement}
 use Rattle.sentences.proofs.values.put_words.Tie as tie
 
-shared-slice-read-put-word : tie.Need-shared-slice-read-put-word
-shared-slice-read-put-word c =
-    let c4 = c .before .before .before .before in
-    omega (arith, product-wide _ _ (c4 .pre) (c .before .before .if1 .taken))
-
-shared-slice-read-put-word-2 : tie.Need-shared-slice-read-put-word-2
-shared-slice-read-put-word-2 c =
-    let c4 = c .before .before .before .before in
-    omega (arith, product-wide _ _ (c4 .before .pre) (c .before .before .before .if1 .taken))
+put-product-requires : tie.Need-put-product-requires
+put-product-requires c κs = product-wide _ _ (c .before .before .pre) (c .if1 .taken)
 
 returns : tie.Need-returns
 unfolding wordsText
-returns c =
-    let c4 = c .before .before .before .before in
-    rw (c4 .before .if1 .taken) (c .put-word .ensures)
+returns c = rw (c .before .if1 .taken) (c .put-product .ensures)
 
 returns-2 : tie.Need-returns-2
 unfolding wordsText
 returns-2 c = rw (c .before .if2 .taken) (c .put-serial .ensures)
 
-shared-slice-read-put-word-3 : tie.Need-shared-slice-read-put-word-3
-shared-slice-read-put-word-3 c =
+put-version-requires : tie.Need-put-version-requires
+put-version-requires c κs =
     let c4 = c .before .before .before .before in
-    omega (arith, reading-wide _ _ (c4 .before .before .pre) (c4 .if1 .left) (c .before .before .before .if2 .left) ∙ ap widthOf (c .before .before .if3 .taken))
-
-shared-slice-read-put-word-4 : tie.Need-shared-slice-read-put-word-4
-shared-slice-read-put-word-4 c =
-    let c4 = c .before .before .before .before in
-    omega (arith, reading-wide _ _ (c4 .before .before .before .pre) (c4 .before .if1 .left) (c4 .if2 .left) ∙ ap widthOf (c .before .before .before .if3 .taken))
+    reading-wide _ _ (c4 .pre) (c .before .before .if1 .left) (c .before .if2 .left) ∙ ap widthOf (c .if3 .taken)
 
 returns-3 : tie.Need-returns-3
 unfolding wordsText
-returns-3 c =
-    let c4 = c .before .before .before .before in
-    rw (c4 .before .if3 .taken) (c .put-word2 .ensures)
+returns-3 c = rw (c .before .if3 .taken) (c .put-version .ensures)
 
 put-reading-requires : tie.Need-put-reading-requires
 put-reading-requires c κs =
@@ -59,19 +42,11 @@ pub put-words-spec : {M : Type 1} → statement M
 put-words-spec =
     tie.close
     (tie.spec
-    (λ c. search needs)
-    shared-slice-read-put-word
-    shared-slice-read-put-word-2
-    (λ c. search needs)
-    (λ c κs. search needs)
+    put-product-requires
     returns
     (λ c κs. search needs)
     returns-2
-    (λ c. search needs)
-    shared-slice-read-put-word-3
-    shared-slice-read-put-word-4
-    (λ c. search needs)
-    (λ c κs. search needs)
+    put-version-requires
     returns-3
     put-reading-requires
     returns-4)
