@@ -46,7 +46,7 @@ module _ (t : Tally) where
   strays r is = by (tallyAllowed t) (fits r) refl refl
     where
       by : (a b : Bool) → tallyAllowed t ≡ a → fits r ≡ b → Stray t r
-      by true true e f = let told = counting-fit t r e f ∙ is in let z : _≡_ {A = ℕ} 0 1 = cc in absurd (omega arith)
+      by true true e f = let none : Verdict.Accepted ≡ Verdict.Refused 12 = ap (λ (x : Counted). x .verdict) (counting-fit t r e f ∙ is) in let z : _≡_ {A = ℕ} 0 1 = cc in absurd (omega arith)
       by true false e f = unfit r f
       by false b e f = over (λ w. false≢true (sym e ∙ of-within t w))
 
