@@ -51,21 +51,18 @@ module _ (t : Tally) where
       by false b e f = over (λ w. false≢true (sym e ∙ of-within t w))
 
   -- and such a one is not counted
-  uncounts : (r : Result) → (tallyAllowed t ≡ true → fits r ≡ false) → counting t r ≡ uncounted t
-  uncounts r f = by (tallyAllowed t) refl
-    where
-      by : (b : Bool) → tallyAllowed t ≡ b → counting t r ≡ uncounted t
-      by true e = sym (counting-unfit t r e (f e))
-      by false e = sym (counting-stray t r e)
+  over-uncounts : (r : Result) (b : Bool) → tallyAllowed t ≡ b → (b ≡ true → ⊥) → uncounted t ≡ counting t r
+  over-uncounts r true e none = absurd (none refl)
+  over-uncounts r false e none = counting-stray t r e
 
   unreached-unfit : (f : Follower) (a b : Bool) → followerAllowed f ≡ b → (b ≡ true → ⊥) → fits (restored f a) ≡ false
   unreached-unfit f a true e none = absurd (none refl)
   unreached-unfit f a false e none = fits-is f a ∙ rw e
 
   refused : (r : Result) → Stray t r → counting t r ≡ uncounted t
-  refused r (over none) = uncounts r (λ e. absurd (none (within-of t e)))
-  refused (restored f a) (unreached none) = uncounts (restored f a) (λ e. unreached-unfit f a (followerAllowed f) refl (λ ok. none (allowed-is-reached f .0 ok)))
-  refused (restored f a) (waits is) = uncounts (restored f a) (λ e. sym (ended-fits f (told f) refl a) ∙ ap hasEnded is)
+  refused r (over none) = sym (over-uncounts r (tallyAllowed t) refl (λ ok. none (within-of t ok)))
+  refused (restored f a) (unreached none) = sym (counting-unfit t (restored f a) (unreached-unfit f a (followerAllowed f) refl (λ ok. none (allowed-is-reached f .0 ok))))
+  refused (restored f a) (waits is) = sym (counting-unfit t (restored f a) (sym (ended-fits f (told f) refl a) ∙ ap hasEnded is))
 
 pub stray-refused : RefusedIsStray
 stray-refused t r = (strays t r, refused t r)
