@@ -33,21 +33,21 @@ row-inside k text n len h e =
     omega (arith, r .1)
 
 -- the lines that are left to read
-pub record Lined (text held : List ℕ) (at index : ℕ) : Type 0 where
+pub record Lined (text numbers : List ℕ) (at index : ℕ) : Type 0 where
   pub within : index ≤ count
   pub place : at ≤ length text
-  pub same : linesSay (drop index places) (index + 2) (record { numbers = held }) (drop at text) ≡ linesSay places 2 factory text
+  pub same : linesSay (drop index places) (index + 2) (record { numbers = numbers }) (drop at text) ≡ linesSay places 2 factory text
 
-pub lined-start : (text : List ℕ) {held : List ℕ} → held ≡ factory .numbers → Lined text held 0 0
+pub lined-start : (text : List ℕ) {numbers : List ℕ} → numbers ≡ factory .numbers → Lined text numbers 0 0
 lined-start text e = record { within = omega arith; place = omega arith; same = ap (λ (l : List ℕ). linesSay places 2 (record { numbers = l }) text) e }
 
-module _ {text held : List ℕ} {at index : ℕ} (h : index < count) (w : Lined text held at index) where
+module _ {text numbers : List ℕ} {at index : ℕ} (h : index < count) (w : Lined text numbers at index) where
   next-is : (x : Judged) → judging index (drop at text) ≡ x
-      → following (λ n len. linesSay (drop (index + 1) places) (suc (index + 2)) (changed (record { numbers = held }) index n) (drop len (drop at text))) (index + 2) x
+      → following (λ n len. linesSay (drop (index + 1) places) (suc (index + 2)) (changed (record { numbers = numbers }) index n) (drop len (drop at text))) (index + 2) x
       ≡ linesSay places 2 factory text
   next-is x e =
-      sym (lines-next index (drop (index + 1) places) (index + 2) (record { numbers = held }) (drop at text) x e)
-      ∙ ap (λ (ks : List ℕ). linesSay ks (index + 2) (record { numbers = held }) (drop at text)) (sym (places-turn index h)) ∙ w .same
+      sym (lines-next index (drop (index + 1) places) (index + 2) (record { numbers = numbers }) (drop at text) x e)
+      ∙ ap (λ (ks : List ℕ). linesSay ks (index + 2) (record { numbers = numbers }) (drop at text)) (sym (places-turn index h)) ∙ w .same
 
   pub lined-wrong : (refusal : ℕ) → judging index (drop at text) ≡ Judged.Refused refusal → refused refusal (index + 2) ≡ linesSay places 2 factory text
   lined-wrong refusal e = next-is (Judged.Refused refusal) e
@@ -60,21 +60,21 @@ module _ {text held : List ℕ} {at index : ℕ} (h : index < count) (w : Lined 
         let place : at ≤ length text = w .place in
         omega arith
 
-    pub lined-turn : Lined text (set held index n) (at + len) (index + 1)
+    pub lined-turn : Lined text (set numbers index n) (at + len) (index + 1)
     lined-turn =
         let line : index + 1 + 2 ≡ suc (index + 2) = omega arith in
         record {
           within = omega arith;
           place = lined-room;
           same =
-              ap₂ (λ (m : ℕ) (l : List ℕ). linesSay (drop (index + 1) places) m (changed (record { numbers = held }) index n) l) line (sym (drop-drop len at text))
+              ap₂ (λ (m : ℕ) (l : List ℕ). linesSay (drop (index + 1) places) m (changed (record { numbers = numbers }) index n) l) line (sym (drop-drop len at text))
               ∙ next-is (Judged.Number n len) e;
         }
 
-pub lined-end : {text held : List ℕ} {at index : ℕ} → count ≤ index → Lined text held at index
-    → endSays (record { numbers = held }) (length text - at) ≡ linesSay places 2 factory text
-lined-end {text} {held} {at} {index} h w =
+pub lined-end : {text numbers : List ℕ} {at index : ℕ} → count ≤ index → Lined text numbers at index
+    → endSays (record { numbers = numbers }) (length text - at) ≡ linesSay places 2 factory text
+lined-end {text} {numbers} {at} {index} h w =
     let past : length places ≤ index = rw places-long h in
-    ap (endSays (record { numbers = held })) (sym (length-drop at text))
-    ∙ sym (lines-end (index + 2) (record { numbers = held }) (drop at text))
-    ∙ ap (λ (ks : List ℕ). linesSay ks (index + 2) (record { numbers = held }) (drop at text)) (sym (drop-of-length-le places past)) ∙ w .same
+    ap (endSays (record { numbers = numbers })) (sym (length-drop at text))
+    ∙ sym (lines-end (index + 2) (record { numbers = numbers }) (drop at text))
+    ∙ ap (λ (ks : List ℕ). linesSay ks (index + 2) (record { numbers = numbers }) (drop at text)) (sym (drop-of-length-le places past)) ∙ w .same

@@ -44,10 +44,10 @@ pub fn write(table: Table, out: &mut [u8]) -> Written
     if !table.is_allowed() {
         return Written::Refused(paper::NOT_ALLOWED);
     }
-    let held = table.numbers;
+    let numbers = table.numbers;
     let header = header();
     let at = bytes::copy(&header, out);
-    Written::Len(writer::put_lines(held, out, at))
+    Written::Len(writer::put_lines(numbers, out, at))
 }
 
 // Reads a text: 13 for another first line, then line by line 14, 15, 16, then 18, then 17.

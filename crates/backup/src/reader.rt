@@ -36,13 +36,13 @@ pub(crate) fn begins(text: &[u8]) -> bool
 }
 
 // Judges the end of a text: no byte may follow, and every pair must agree.
-fn ended(more: usize, held: [u16; COUNT]) -> Backup
-    ensures { λ r. ⌜ r ≡ readAs (spec.endSays (record { numbers = held }) more) ⌝ }
+fn ended(more: usize, numbers: [u16; COUNT]) -> Backup
+    ensures { λ r. ⌜ r ≡ readAs (spec.endSays (record { numbers = numbers }) more) ⌝ }
 {
     if more != 0 {
         return refused(paper::MORE_BYTES, 0);
     }
-    let table = Table { numbers: held };
+    let table = Table { numbers };
     if !table.is_allowed() {
         return refused(paper::PAIR_DISAGREES, 0);
     }
@@ -56,19 +56,19 @@ fn ended(more: usize, held: [u16; COUNT]) -> Backup
 pub(crate) fn read_lines(text: &[u8]) -> Backup
     ensures { λ r. ⌜ r ≡ readAs (spec.linesSay spec.places 2 factory (now (text .entry))) ⌝ }
 {
-    let mut held = settings::factory_numbers();
+    let mut numbers = settings::factory_numbers();
     let mut at = 0;
     let mut index = 0;
     while index < COUNT {
         let judged = rows::judge(&text[at..], index);
         match judged {
             Judged::Number { number, len } => {
-                held[index] = number;
+                numbers[index] = number;
                 at += len;
             }
             Judged::Refused(number) => return refused(number, index + FIRST_LINE),
         }
         index += 1;
     }
-    ended(text.len() - at, held)
+    ended(text.len() - at, numbers)
 }

@@ -22,14 +22,14 @@ fn put_line(out: &mut [u8], at: usize, index: usize, n: u16) -> usize
 }
 
 // Puts a line for each setting from a place on, and returns the place after them.
-pub(crate) fn put_lines(held: [u16; COUNT], out: &mut [u8], start: usize) -> usize
+pub(crate) fn put_lines(numbers: [u16; COUNT], out: &mut [u8], start: usize) -> usize
     requires { ⌜ start + rowRoom * count ≤ length (now out) ⌝ }
-    ensures { λ r. ⌜ (r ≡ start + length (linesFor places (record { numbers = held }))) × (now (out .exit) ≡ sets (now (out .entry)) start (linesFor places (record { numbers = held }))) × (r ≤ length (now (out .entry))) ⌝ }
+    ensures { λ r. ⌜ (r ≡ start + length (linesFor places (record { numbers = numbers }))) × (now (out .exit) ≡ sets (now (out .entry)) start (linesFor places (record { numbers = numbers }))) × (r ≤ length (now (out .entry))) ⌝ }
 {
     let mut at = start;
     let mut index = 0;
     while index < COUNT {
-        at = put_line(out, at, index, held[index]);
+        at = put_line(out, at, index, numbers[index]);
         index += 1;
     }
     at

@@ -1,7 +1,7 @@
 -- A row of calls, and what the last one answers. Assumes nothing.
 use mathlib.Core.Path.{_≡_, refl, sym, ap, ap₂, subst, _∙_}
-use mathlib.Core.Logic.{_≢_}
-use mathlib.Core.Bool.{Bool, true, false}
+use mathlib.Core.Logic.{_≢_, _↔_}
+use mathlib.Core.Bool.{Bool, true, false, cond, false≢true}
 use mathlib.Core.List.{List, [], _∷_, _++_, append-nil}
 use Prim.Native.Nat.{ℕ, _-_, _≤_, _<_}
 use native.Mathlib.Omega.{arith}
@@ -10,17 +10,18 @@ use lib.ListN.{length, take, replicate}
 use lib.Seq.{take-append-seam}
 use lib.Dec.{ltb}
 use Rattle.settings.specs.Columns.{count}
+use Rattle.settings.specs.Calls.{settingAt}
 use Rattle.tables.specs.Rules.{factory}
 use Rattle.tables.specs.Rules as tables
 use Rattle.tables.specs.declared.Table.{Table}
 use Rattle.reply.specs.Events.{Event}
 use Rattle.collect.specs.Collecting.{advanced, begun, allowed}
-use Rattle.collect.specs.Calls.{stageOf, tableOf, good, stray, starting, collecting}
-use Rattle.collect.specs.Laws.{run, calls, AllowedIsReached, CallsFollow, Holds, TableIsCarried, Handed, TableIsAllowed, replies, BoardIsRead}
+use Rattle.collect.specs.Calls.{stageOf, tableOf, good, stray, told, starting, collecting}
+use Rattle.collect.specs.Laws.{run, calls, Reached, AllowedIsReached, refusedBy, RefusedIsStray, CallsFollow, Holds, TableIsCarried, Handed, TableIsAllowed, replies, BoardIsRead}
 use Rattle.collect.specs.declared.Collector.{Collector}
 use Rattle.collect.specs.declared.Stage.{Stage}
 use Rattle.collect.specs.declared.Collected.{Collected}
-use Rattle.collect.proofs.Moving.{allowed-within, collecting-stray, collecting-good}
+use Rattle.collect.proofs.Moving.{allowed-within, collecting-stray, collecting-good, told-stray, told-good}
 use Rattle.collect.proofs.Fitting.{table-fit, fit-table}
 use Rattle.collect.proofs.Reaching.{zeros, held, begun-held, Ends, taking, begun-ends, ends-allowed}
 use Rattle.collect.proofs.Boards.{board-run, run-append, reached}
@@ -54,6 +55,41 @@ reached-calls c long = (
       let some = reached c long ok (c .stopped) refl (allowed-within c ok) in
       record { events = some .0; stream = some .1; arrives = calls-run (some .0) ∙ sym (some .2) },
   λ r. subst (λ (d : Collector). allowed d ≡ true) (sym (calls-run (r .events)) ∙ r .arrives) (ends-allowed (begun-ends (r .events))),
+)
+
+-- an allowed collector is never told as refused
+abbrev isRefused : Stage → Bool
+isRefused (Stage.Waiting due) = false
+isRefused Stage.Done = false
+isRefused (Stage.Stopped due) = false
+isRefused (Stage.Refused number) = true
+
+good-stands : (c : Collector) → isRefused (good c .stage) ≡ false
+unfolding good
+good-stands c = by (ltb (c .len) count) (c .stopped)
+  where
+    by : (a b : Bool) → isRefused (cond a (cond b (Stage.Stopped (settingAt (c .len))) (Stage.Waiting (settingAt (c .len)))) Stage.Done) ≡ false
+    by true true = refl
+    by true false = refl
+    by false b = refl
+
+module _ (c : Collector) (long : length (c .numbers) ≡ count) where
+  -- refused exactly where the collector is stray, for an answer that is good where it is allowed
+  refused-when : (t : Collected) (d : Collector) → (allowed c ≡ true → good d ≡ t) → (allowed c ≡ false → stray c ≡ t) → (t ≡ refusedBy 12 c) ↔ (Reached c → ⊥)
+  unfolding stray
+  refused-when t d well bad = (
+    λ e r. false≢true (sym (good-stands d) ∙ ap (λ (x : Collected). isRefused (x .stage)) (well (reached-calls c long .1 r) ∙ e)),
+    λ none. by (allowed c) refl none,
+  )
+    where
+      by : (b : Bool) → allowed c ≡ b → (Reached c → ⊥) → t ≡ refusedBy 12 c
+      by true ok none = absurd (none (reached-calls c long .0 ok))
+      by false not none = sym (bad not)
+
+pub stray-refused : RefusedIsStray
+stray-refused c long = (
+  refused-when c long (told c) c (told-good c) (told-stray c),
+  λ e. refused-when c long (collecting c e) (advanced c e) (collecting-good c e) (collecting-stray c e),
 )
 
 -- how far it is, by how many are answered

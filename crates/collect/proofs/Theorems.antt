@@ -1,10 +1,13 @@
 -- The statements of specs/Laws.antt, proved. Assumes nothing.
-use Rattle.collect.specs.Laws.{AllowedIsReached, CallsFollow, TableIsCarried, TableIsAllowed, BoardIsRead, SilenceStops}
-use Rattle.collect.proofs.Calling.{reached-calls, calls-run, table-carried, table-allowed, board-read}
+use Rattle.collect.specs.Laws.{AllowedIsReached, RefusedIsStray, CallsFollow, TableIsCarried, TableIsAllowed, BoardIsRead, SilenceStops}
+use Rattle.collect.proofs.Calling.{reached-calls, stray-refused, calls-run, table-carried, table-allowed, board-read}
 use Rattle.collect.proofs.Silences as silences
 
 pub allowed-is-reached : AllowedIsReached
 allowed-is-reached = reached-calls
+
+pub refused-is-stray : RefusedIsStray
+refused-is-stray = stray-refused
 
 pub calls-follow : CallsFollow
 calls-follow = calls-run

@@ -18,7 +18,7 @@ use Rattle.paper.specs.Numbers.{getCode}
 use Rattle.answers.specs.Answers.{said}
 use Rattle.reply.specs.Events.{Event, heard, refusedFrame, noAnswer, OnStream, answers}
 use Rattle.collect.specs.Collecting.{fits, mostTries, advanced, begun, allowed}
-use Rattle.collect.specs.Calls.{starting, collecting}
+use Rattle.collect.specs.Calls.{told, starting, collecting}
 use Rattle.collect.specs.declared.Collector.{Collector}
 use Rattle.collect.specs.declared.Stage.{Stage}
 use Rattle.collect.specs.declared.Collected.{Collected}
@@ -37,6 +37,15 @@ pub record Reached (c : Collector) : Type 0 where
 
 abbrev pub AllowedIsReached : Type 0
 AllowedIsReached = (c : Collector) → length (c .numbers) ≡ count → (allowed c ≡ true) ↔ Reached c
+
+-- Every call on another is refused 12, with the collector "as it was, with counts [..] 0" and the factory table, and on no other.
+abbrev pub refusedBy : ℕ → Collector → Collected
+refusedBy number c = record { collector = c; stage = Stage.Refused number; answered = 0; table = factory }
+
+abbrev pub RefusedIsStray : Type 0
+RefusedIsStray =
+    (c : Collector) → length (c .numbers) ≡ count
+    → ((told c ≡ refusedBy 12 c) ↔ (Reached c → ⊥)) × ((e : Event) → (collecting c e ≡ refusedBy 12 c) ↔ (Reached c → ⊥))
 
 -- The collector that a row of calls hands back, by what an event makes of a collector: for proofs above.
 abbrev pub run : Collector → List Event → Collector

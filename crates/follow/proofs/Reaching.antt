@@ -180,14 +180,14 @@ allowed-reached f = (
 )
 
 -- an allowed follower is never told as refused
-abbrev isRefused : Standing → Bool
+abbrev pub isRefused : Standing → Bool
 isRefused (Standing.Waiting due) = false
 isRefused Standing.Equal = false
 isRefused Standing.Done = false
 isRefused (Standing.Stopped due) = false
 isRefused (Standing.Refused number) = true
 
-allowed-stands : (f : Follower) → followerAllowed f ≡ true → isRefused (standing f) ≡ false
+pub allowed-stands : (f : Follower) → followerAllowed f ≡ true → isRefused (standing f) ≡ false
 allowed-stands f ok = by (dueIn (f .from) (f .to) (f .confirmed)) refl (due-known (f .from) (f .to) (f .confirmed) _ refl)
   where
     set-stands : (b : Bool) (w : Wanted) → isRefused (cond b (Standing.Stopped w) (Standing.Waiting (Request.Set w))) ≡ false

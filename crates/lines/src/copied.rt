@@ -16,11 +16,11 @@ fn least(a: usize, b: usize) -> usize
 fn tidied(line: Line) -> Line
     ensures { λ r. ⌜ r ≡ lineOf (textOf line) ⌝ }
 {
-    let held = line.chars;
+    let chars = line.chars;
     let len = least(line.len, MOST);
-    let mut chars = [0u8; MOST];
-    bytes::copy(&held[..len], &mut chars);
-    Line { len, chars }
+    let mut tidy = [0u8; MOST];
+    bytes::copy(&chars[..len], &mut tidy);
+    Line { len, chars: tidy }
 }
 
 // Puts as many characters of the text as there is room for after those of a tidy line.

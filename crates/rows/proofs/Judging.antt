@@ -2,19 +2,19 @@
 use mathlib.Core.Path.{_≡_, refl, sym, ap, subst, _∙_}
 use mathlib.Core.Bool.{Bool, true, false, cond}
 use mathlib.Core.List.{List}
-use Prim.Native.Nat.{ℕ, _<_}
+use Prim.Native.Nat.{ℕ, _≤_, _<_}
 use native.Mathlib.Omega.{arith}
-use borrow.Author.Tests.{lt-ltb, eqb-true, eqb-false, eq-eqb, ne-eqb}
+use borrow.Author.Tests.{lt-ltb, le-ltb, ltb-true, ltb-false, eqb-true, eqb-false, eq-eqb, ne-eqb}
 use lib.ListN.{length, drop}
 use lib.Seq.{drop-at}
-use lib.Dec.{eqb}
+use lib.Dec.{ltb, eqb}
 use Rattle.paper.specs.Numbers as paper
 use Rattle.settings.specs.Columns.{count, idAt}
 use Rattle.settings.specs.Rules.{inRange}
 use Rattle.rows.specs.Row.{rowOf}
 use Rattle.rows.specs.Calls.{parsing, judgedAs, judging}
 use Rattle.rows.specs.Laws as laws
-use Rattle.rows.specs.Laws.{Begins, Reads, Judges, number, other, outside, JudgedExactly}
+use Rattle.rows.specs.Laws.{Begins, Reads, Judges, number, other, outside, JudgedExactly, PastIsRefused}
 use Rattle.rows.specs.declared.Row.{Row}
 use Rattle.rows.specs.declared.Judged.{Judged}
 use Rattle.rows.proofs.Rows.{begun, reads, read-exactly}
@@ -50,6 +50,21 @@ module _ (k : ℕ) (text : List ℕ) where
 pub judged-exactly : JudgedExactly
 judged-exactly k text answer h =
     (λ e. subst (Judges k text) (judged-here k text h ∙ e) (judges k text (parsing text) (reads text)), λ j. sym (judged-here k text h) ∙ given k text answer j)
+
+-- past the table, and there alone
+pub past-refused : PastIsRefused
+unfolding judging
+past-refused k text = (λ e. by (ltb k count) refl e, λ past. rw (le-ltb k count past))
+  where
+    within : (x : Judged) → Judges k text x → x ≡ Judged.Refused 12 → ⊥
+    within (Judged.Number n len) j e = let z : _≡_ {A = ℕ} 0 1 = cc in omega arith
+    within (Judged.Refused m) (laws.none f) e = let z : _≡_ {A = ℕ} 14 12 = cc in omega arith
+    within (Judged.Refused m) (other b d) e = let z : _≡_ {A = ℕ} 15 12 = cc in omega arith
+    within (Judged.Refused m) (outside b f) e = let z : _≡_ {A = ℕ} 16 12 = cc in omega arith
+
+    by : (b : Bool) → ltb k count ≡ b → cond b (judgedAs k (parsing text)) (Judged.Refused 12) ≡ Judged.Refused 12 → count ≤ k
+    by true h e = absurd (within (judgedAs k (parsing text)) (judges k text (parsing text) (reads text)) e)
+    by false h e = ltb-false k count h
 
 -- a row that has a number for its place is at the front, and the rest follows it
 pub numbered : (k : ℕ) (text : List ℕ) (n len : ℕ) → k < count → judging k text ≡ Judged.Number n len

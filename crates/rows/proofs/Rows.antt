@@ -26,9 +26,11 @@ use Rattle.lines.proofs.Digits.{digits-under}
 use Rattle.lines.proofs.Theorems.{line-is-text}
 use Rattle.rows.specs.Decimals.{isNumber}
 use Rattle.rows.specs.Row.{tab, idDigits, rowOf, rowRoom, lineLength, firstLine, isRow, idIn, numberIn}
+use Rattle.laws.specs.Promise.{Given}
 use Rattle.wire.specs.Calls.{unwritten, writtenAs}
+use Rattle.wire.specs.declared.Written.{Written}
 use Rattle.rows.specs.Calls.{writing, parsing}
-use Rattle.rows.specs.Laws.{RowIsShort, Begins, Reads, row, none, ReadExactly}
+use Rattle.rows.specs.Laws.{RowIsShort, Begins, Reads, row, none, ReadExactly, Writes, short, its-row, WrittenExactly}
 use Rattle.rows.specs.declared.Row.{Row}
 use Rattle.rows.proofs.Decimal.{number-digits, number-small, decimal-read, read-decimal}
 
@@ -41,6 +43,20 @@ module _ (id n room : ℕ) where
   pub write-made : rowRoom ≤ room → writing id n room ≡ writtenAs (rowOf id n)
   unfolding writing
   write-made h = rw (le-ltb room rowRoom h)
+
+  writes : Writes id n room (writing id n room)
+  writes = by (ltb room rowRoom) refl
+    where
+      by : (b : Bool) → ltb room rowRoom ≡ b → Writes id n room (writing id n room)
+      by true e = let h : room < rowRoom = ltb-true room rowRoom e in subst (Writes id n room) (sym (write-short h)) (short h)
+      by false e = let h : rowRoom ≤ room = ltb-false room rowRoom e in subst (Writes id n room) (sym (write-made h)) (its-row h)
+
+  written-as : (answer : Given Written) → Writes id n room answer → writing id n room ≡ answer
+  written-as answer (short h) = write-short h
+  written-as answer (its-row h) = write-made h
+
+pub written-exactly : WrittenExactly
+written-exactly id n room answer = (λ e. subst (Writes id n room) e (writes id n room), written-as id n room answer)
 
 -- a line so built, by the parts of the test; one of fewer than six characters has no number
 pub short-row : (line : List ℕ) → length line < 6 → isRow line ≡ false

@@ -2,17 +2,19 @@
 -- Assumes nothing.
 use Prim.Native.Nat.{ℕ, _≤_, _<_}
 use mathlib.Core.Path.{_≡_}
-use mathlib.Core.Logic.{_≢_}
+use mathlib.Core.Logic.{_≢_, _↔_}
 use mathlib.Core.Bool.{true, false}
-use mathlib.Core.List.{List, _++_}
+use mathlib.Core.List.{List, [], _++_}
 use lib.ListN.{length}
 use Rattle.paper.specs.Numbers as paper
+use Rattle.laws.specs.Promise.{Given}
+use Rattle.wire.specs.declared.Written.{Written}
 use Rattle.settings.specs.Columns.{count, idAt}
 use Rattle.settings.specs.Rules.{inRange}
 use Rattle.lines.specs.Numbers.{decimal}
 use Rattle.rows.specs.Decimals.{isNumber, valueOf}
 use Rattle.rows.specs.Row.{rowOf, rowRoom}
-use Rattle.rows.specs.Calls.{parsing, judging}
+use Rattle.rows.specs.Calls.{writing, parsing, judging}
 use Rattle.rows.specs.declared.Row.{Row}
 use Rattle.rows.specs.declared.Judged.{Judged}
 
@@ -50,6 +52,18 @@ abbrev pub JudgedExactly : Type 0
 JudgedExactly = (k : ℕ) (text : List ℕ) (answer : Judged) → k < count
     → (judging k text ≡ answer → Judges k text answer) × (Judges k text answer → judging k text ≡ answer)
 
+-- For a place past the table 12 is given, whatever the text, and for no other.
+abbrev pub PastIsRefused : Type 0
+PastIsRefused = (k : ℕ) (text : List ℕ) → (judging k text ≡ Judged.Refused 12) ↔ (count ≤ k)
+
 -- 4. Every row of such a number fits the room that writing needs.
 abbrev pub RowIsShort : Type 0
 RowIsShort = (id n : ℕ) → n < 100000 → length (rowOf id n) ≤ rowRoom
+
+-- 5. Writing: 11 exactly where the room is under 11 bytes, and then no byte is written; else the row.
+pub data Writes (id n room : ℕ) : Given Written → Type 0 where
+  short : room < 11 → Writes id n room (record { answer = Written.Refused 11; written = [] })
+  its-row : 11 ≤ room → Writes id n room (record { answer = Written.Len (length (rowOf id n)); written = rowOf id n })
+
+abbrev pub WrittenExactly : Type 0
+WrittenExactly = (id n room : ℕ) (answer : Given Written) → (writing id n room ≡ answer) ↔ Writes id n room answer

@@ -1,7 +1,7 @@
 -- What the calls come to. Assumes nothing.
 use mathlib.Core.Path.{_≡_, refl, sym, _∙_}
-use mathlib.Core.Bool.{Bool, true, false, _&&_}
-use Prim.Native.Nat.{ℕ, _≤_}
+use mathlib.Core.Bool.{Bool, true, false, cond, _&&_, and-true, and-false}
+use Prim.Native.Nat.{ℕ, _+_, _≤_}
 use native.Mathlib.Omega.{arith}
 use borrow.Author.Tests.{leb-true, le-leb}
 use lib.Dec.{leb}
@@ -59,13 +59,16 @@ module _ (t : Tally) (r : Result) where
   unfolding counting
   counting-stray e = rw e
 
-  pub counting-unfit : tallyAllowed t ≡ true → fits r ≡ false → uncounted t ≡ counting t r
+  pub counting-unfit : fits r ≡ false → uncounted t ≡ counting t r
   unfolding counting
-  counting-unfit e f = rw (e, f)
+  counting-unfit f = rw (f, and-false (tallyAllowed t))
+
+  pub counting-share : fits r ≡ true → cond (tallyAllowed t) (counted (plus t (shareOf r))) (uncounted t) ≡ counting t r
+  unfolding counting
+  counting-share f = rw (f, and-true (tallyAllowed t))
 
   pub counting-fit : tallyAllowed t ≡ true → fits r ≡ true → counted (plus t (shareOf r)) ≡ counting t r
-  unfolding counting
-  counting-fit e f = rw (e, f)
+  counting-fit e f = rw (sym (counting-share f), e)
 
 pub silent-fits : fits silent ≡ true
 unfolding fits
@@ -75,8 +78,9 @@ pub not-begun-fits : fits notBegun ≡ true
 unfolding fits
 not-begun-fits = refl
 
-pub ones-within : (t : Tally) {d e s n u : ℕ} → t ≡ tallyOf d e s n u → d ≤ 1 → e ≤ 1 → s ≤ 1 → n ≤ 1 → u ≤ 1 → Within t
-ones-within t is hd he hs hn hu =
+-- one trailer of one kind
+pub one-within : (t : Tally) (d e s n u : ℕ) → t ≡ tallyOf d e s n u → d + e + s + n + u ≤ 1 → Within t
+one-within t d e s n u is few =
     rw is
     (record {
       done-few = omega arith;
@@ -130,17 +134,17 @@ module _ (f : Follower) (followed : Followed) (says : followed ≡ told f) where
     pub never-refused : (number : ℕ) → setsDue (f .from) (f .to) ≡ Sets.Refused number → ⊥
     never-refused number e = let own = sets-told in let z : _≡_ {A = ℕ} 0 1 = cc in omega arith
 
-ended-ones : (o : Standing) (a : Bool) → Within (endedAs o a)
-ended-ones (Standing.Waiting due) a = ones-within _ refl (omega arith) (omega arith) (omega arith) (omega arith) (omega arith)
-ended-ones Standing.Equal a = ones-within _ refl (omega arith) (omega arith) (omega arith) (omega arith) (omega arith)
-ended-ones Standing.Done a = ones-within _ refl (omega arith) (omega arith) (omega arith) (omega arith) (omega arith)
-ended-ones (Standing.Stopped due) true = ones-within _ refl (omega arith) (omega arith) (omega arith) (omega arith) (omega arith)
-ended-ones (Standing.Stopped due) false = ones-within _ refl (omega arith) (omega arith) (omega arith) (omega arith) (omega arith)
-ended-ones (Standing.Refused number) a = ones-within _ refl (omega arith) (omega arith) (omega arith) (omega arith) (omega arith)
+ended-one : (o : Standing) (a : Bool) → Within (endedAs o a)
+ended-one (Standing.Waiting due) a = one-within _ 0 0 0 0 0 refl (omega arith)
+ended-one Standing.Equal a = one-within _ 0 1 0 0 0 refl (omega arith)
+ended-one Standing.Done a = one-within _ 1 0 0 0 0 refl (omega arith)
+ended-one (Standing.Stopped due) true = one-within _ 0 0 1 0 0 refl (omega arith)
+ended-one (Standing.Stopped due) false = one-within _ 0 0 0 1 0 refl (omega arith)
+ended-one (Standing.Refused number) a = one-within _ 0 0 0 0 0 refl (omega arith)
 
 pub share-within : (f : Follower) (a : Bool) → fits (restored f a) ≡ true → Within (shareOf (restored f a))
 share-within f a fit =
-    let ones : Within (endedAs (standing f) a) = ended-ones (standing f) a in
+    let ones : Within (endedAs (standing f) a) = ended-one (standing f) a in
     let ok : followerAllowed f ≡ true = and-left (followerAllowed f) (hasEnded (standing f)) (sym (fits-is f a) ∙ fit) in
     let few : f .confirmed ≤ count = confirmed-few f ok in
     let all : total f ≤ count = sets-are-few (f .from) (f .to) in

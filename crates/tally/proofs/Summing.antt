@@ -1,5 +1,5 @@
 -- The tally of a row of results is their sums. Assumes nothing.
-use mathlib.Core.Path.{_≡_, refl, sym, subst, _∙_}
+use mathlib.Core.Path.{_≡_, refl, sym, ap, subst, _∙_}
 use mathlib.Core.Bool.{Bool, true, false, cond, not, _&&_, false≢true}
 use mathlib.Core.List.{List, [], _∷_}
 use Prim.Native.Nat.{ℕ, suc, _+_, _*_, _≤_, _<_}
@@ -14,7 +14,7 @@ use Rattle.restore.proofs.Theorems.{sets-are-few}
 use Rattle.follow.specs.Following.{standing, total, followerAllowed}
 use Rattle.follow.specs.declared.Follower.{Follower}
 use Rattle.follow.specs.declared.Standing.{Standing}
-use Rattle.tally.specs.Results.{Result, restored, silent, notBegun, nothing, hasEnded, isStopped, endedAs, shareOf, fits, most, tallyAllowed, plus}
+use Rattle.tally.specs.Results.{Result, restored, silent, notBegun, tallyOf, nothing, hasEnded, isStopped, endedAs, withSets, shareOf, fits, most, tallyAllowed, plus}
 use Rattle.tally.specs.Calls.{counting}
 use Rattle.tally.specs.AsHeld.{Within}
 use Rattle.tally.specs.Laws.{tallied, fitting, one, number, addUp, isDone, isEqual, wasDone, wasEqual, wasStopped, wasSilent, wasNotBegun, confirmedOf, dueOf, SumsUp, TallySumsUp, allFit, AllAreCounted}
@@ -23,14 +23,20 @@ use Rattle.tally.proofs.Counting.{of-within, counting-unfit, counting-f
 
 -- What one result adds is what it is counted as by hand.
 
+abbrev byHand : Result → Tally
+byHand r =
+    record {
+      done = one (wasDone r);
+      equal = one (wasEqual r);
+      stopped = one (wasStopped r);
+      silent = one (wasSilent r);
+      unbegun = one (wasNotBegun r);
+      confirmed = confirmedOf r;
+      due = dueOf r;
+    }
+
 pub record Shares (r : Result) : Type 0 where
-  pub done-is : shareOf r .done ≡ one (wasDone r)
-  pub equal-is : shareOf r .equal ≡ one (wasEqual r)
-  pub stopped-is : shareOf r .stopped ≡ one (wasStopped r)
-  pub silent-is : shareOf r .silent ≡ one (wasSilent r)
-  pub unbegun-is : shareOf r .unbegun ≡ one (wasNotBegun r)
-  pub confirmed-is : shareOf r .confirmed ≡ confirmedOf r
-  pub due-is : shareOf r .due ≡ dueOf r
+  pub share-is : shareOf r ≡ byHand r
   pub once : one (wasDone r) + one (wasEqual r) + one (wasStopped r) + one (wasSilent r) + one (wasNotBegun r) ≡ 1
   pub confirmed-few : confirmedOf r ≤ dueOf r
   pub due-few : dueOf r ≤ count
@@ -45,19 +51,15 @@ follower-few f e = by (f .stopped) (and-right (bothAllowed (f .from) (f .to)) _ 
     by false h = leb-true _ _ h
 
 record Ended (o : Standing) (a : Bool) : Type 0 where
-  pub done-is : endedAs o a .done ≡ one (isDone o)
-  pub equal-is : endedAs o a .equal ≡ one (isEqual o)
-  pub stopped-is : endedAs o a .stopped ≡ one (isStopped o && a)
-  pub silent-is : endedAs o a .silent ≡ one (isStopped o && not a)
-  pub unbegun-is : endedAs o a .unbegun ≡ 0
+  pub share-is : endedAs o a ≡ tallyOf (one (isDone o)) (one (isEqual o)) (one (isStopped o && a)) (one (isStopped o && not a)) 0
   pub once : one (isDone o) + one (isEqual o) + one (isStopped o && a) + one (isStopped o && not a) + 0 ≡ 1
 
 ended : (o : Standing) (a : Bool) → hasEnded o ≡ true → Ended o a
 ended (Standing.Waiting due) a e = absurd (false≢true e)
-ended Standing.Equal a e = record { done-is = refl; equal-is = refl; stopped-is = refl; silent-is = refl; unbegun-is = refl; once = refl }
-ended Standing.Done a e = record { done-is = refl; equal-is = refl; stopped-is = refl; silent-is = refl; unbegun-is = refl; once = refl }
-ended (Standing.Stopped due) true e = record { done-is = refl; equal-is = refl; stopped-is = refl; silent-is = refl; unbegun-is = refl; once = refl }
-ended (Standing.Stopped due) false e = record { done-is = refl; equal-is = refl; stopped-is = refl; silent-is = refl; unbegun-is = refl; once = refl }
+ended Standing.Equal a e = record { share-is = refl; once = refl }
+ended Standing.Done a e = record { share-is = refl; once = refl }
+ended (Standing.Stopped due) true e = record { share-is = refl; once = refl }
+ended (Standing.Stopped due) false e = record { share-is = refl; once = refl }
 ended (Standing.Refused number) a e = absurd (false≢true e)
 
 shares : (r : Result) → fits r ≡ true → Shares r
@@ -65,43 +67,13 @@ shares (restored f a) e =
     let parts : (followerAllowed f && hasEnded (standing f)) ≡ true = sym (fits-is f a) ∙ e in
     let end : Ended (standing f) a = ended (standing f) a (and-right (followerAllowed f) (hasEnded (standing f)) parts) in
     record {
-      done-is = end .done-is;
-      equal-is = end .equal-is;
-      stopped-is = end .stopped-is;
-      silent-is = end .silent-is;
-      unbegun-is = end .unbegun-is;
-      confirmed-is = refl;
-      due-is = refl;
+      share-is = ap (λ (t : Tally). withSets t (f .confirmed) (total f)) (end .share-is);
       once = end .once;
       confirmed-few = follower-few f (and-left (followerAllowed f) (hasEnded (standing f)) parts);
       due-few = sets-are-few (f .from) (f .to);
     }
-shares silent e =
-    record {
-      done-is = refl;
-      equal-is = refl;
-      stopped-is = refl;
-      silent-is = refl;
-      unbegun-is = refl;
-      confirmed-is = refl;
-      due-is = refl;
-      once = refl;
-      confirmed-few = omega arith;
-      due-few = omega arith;
-    }
-shares notBegun e =
-    record {
-      done-is = refl;
-      equal-is = refl;
-      stopped-is = refl;
-      silent-is = refl;
-      unbegun-is = refl;
-      confirmed-is = refl;
-      due-is = refl;
-      once = refl;
-      confirmed-few = omega arith;
-      due-few = omega arith;
-    }
+shares silent e = record { share-is = refl; once = refl; confirmed-few = omega arith; due-few = omega arith }
+shares notBegun e = record { share-is = refl; once = refl; confirmed-few = omega arith; due-few = omega arith }
 
 -- A tally that has room for this many more.
 record Room (t : Tally) (n : ℕ) : Type 0 where
@@ -139,7 +111,8 @@ room-less t n r =
 
 room-plus : (t : Tally) (n : ℕ) (r : Result) → Shares r → Room t (suc n) → Room (plus t (shareOf r)) n
 room-plus t n r s room =
-    record {
+    rw (s .share-is)
+    (record {
       done-room = omega arith;
       equal-room = omega arith;
       stopped-room = omega arith;
@@ -147,7 +120,7 @@ room-plus t n r s room =
       unbegun-room = omega arith;
       confirmed-room = omega arith;
       due-room = omega arith;
-    }
+    })
 
 -- what a row of results adds to a tally
 record Adds (t : Tally) (results : List Result) (t′ : Tally) : Type 0 where
@@ -161,14 +134,15 @@ record Adds (t : Tally) (results : List Result) (t′ : Tally) : Type 0 where
 
 adds-one : (t : Tally) (r : Result) (rest : List Result) (t′ : Tally) → Shares r → Adds (plus t (shareOf r)) rest t′ → Adds t (r ∷ rest) t′
 adds-one t r rest t′ s a =
+    let b : Adds (plus t (byHand r)) rest t′ = subst (λ (x : Tally). Adds (plus t x) rest t′) (s .share-is) a in
     record {
-      done-are = omega (arith, s .done-is, a .done-are);
-      equal-are = omega (arith, s .equal-is, a .equal-are);
-      stopped-are = omega (arith, s .stopped-is, a .stopped-are);
-      silent-are = omega (arith, s .silent-is, a .silent-are);
-      unbegun-are = omega (arith, s .unbegun-is, a .unbegun-are);
-      confirmed-are = omega (arith, s .confirmed-is, a .confirmed-are);
-      due-are = omega (arith, s .due-is, a .due-are);
+      done-are = omega (arith, b .done-are);
+      equal-are = omega (arith, b .equal-are);
+      stopped-are = omega (arith, b .stopped-are);
+      silent-are = omega (arith, b .silent-are);
+      unbegun-are = omega (arith, b .unbegun-are);
+      confirmed-are = omega (arith, b .confirmed-are);
+      due-are = omega (arith, b .due-are);
     }
 
 adds : (results : List Result) (t : Tally) → Room t (length results) → Adds t (fitting results) (tallied t results)
@@ -193,7 +167,7 @@ adds (r ∷ more) t room = by (fits r) refl (adds more t) (adds more (plus t (sh
     by true e same grown =
         rw (e, sym (counting-fit t r ok e))
         (adds-one t r (fitting more) (tallied (plus t (shareOf r)) more) (shares r e) (grown (room-plus t (length more) r (shares r e) room)))
-    by false e same grown = rw (e, sym (counting-unfit t r ok e)) (same (room-less t (length more) room))
+    by false e same grown = rw (e, sym (counting-unfit t r e)) (same (room-less t (length more) room))
 
 -- every one that fits is counted once, and adds no more confirmed Sets than due ones
 record Kinds (results : List Result) : Type 0 where

@@ -1,6 +1,7 @@
 -- The statements of specs/Laws.antt, proved. Assumes nothing.
-use Rattle.tally.specs.Laws.{TallySumsUp, AllAreCounted, AllowedIsWithin, BegunAnewExactly, EachCountsOnce}
+use Rattle.tally.specs.Laws.{TallySumsUp, AllAreCounted, AllowedIsWithin, RefusedIsStray, BegunAnewExactly, EachCountsOnce}
 use Rattle.tally.proofs.Counting.{within-of, of-within}
+use Rattle.tally.proofs.Refusing.{stray-refused}
 use Rattle.tally.proofs.Summing as summing
 use Rattle.tally.proofs.Rounds as rounds
 
@@ -12,6 +13,9 @@ all-are-counted = summing.all-counted
 
 pub allowed-is-within : AllowedIsWithin
 allowed-is-within t = (within-of t, of-within t)
+
+pub refused-is-stray : RefusedIsStray
+refused-is-stray = stray-refused
 
 pub begun-anew-exactly : BegunAnewExactly
 begun-anew-exactly = rounds.anew-exactly

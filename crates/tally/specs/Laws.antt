@@ -6,12 +6,15 @@ use mathlib.Core.Logic.{_↔_}
 use mathlib.Core.Bool.{Bool, true, false, cond, not, _&&_}
 use mathlib.Core.List.{List, [], _∷_}
 use lib.ListN.{length}
+use Rattle.who.specs.declared.Verdict.{Verdict}
 use Rattle.settings.specs.Columns.{count}
 use Rattle.restore.specs.Order.{dueSets}
 use Rattle.follow.specs.Following.{standing}
 use Rattle.follow.specs.Calls.{told}
+use Rattle.follow.specs.Laws.{Reached}
 use Rattle.follow.specs.declared.Follower.{Follower}
 use Rattle.requests.specs.declared.Wanted.{Wanted}
+use Rattle.requests.specs.declared.Request.{Request}
 use Rattle.follow.specs.declared.Standing.{Standing}
 use Rattle.tally.specs.Results.{Result, restored, silent, notBegun, nothing, isStopped, fits, most, tallyAllowed}
 use Rattle.tally.specs.Calls.{counting, begunAnew}
@@ -126,6 +129,16 @@ AllAreCounted = (results : List Result) → length results ≤ mostTrailers → 
 -- 3. A tally is allowed exactly where none of its seven counts is over a million.
 abbrev pub AllowedIsWithin : Type 0
 AllowedIsWithin = (t : Tally) → (tallyAllowed t ≡ true) ↔ Within t
+
+-- A trailer is refused 12, and the tally "comes back as it was", exactly where that has a count over a million, or the trailer's follower is
+-- one that no start and events give or still waits.
+pub data Stray (t : Tally) : Result → Type 0 where
+  over : {r : Result} → (Within t → ⊥) → Stray t r
+  unreached : {f : Follower} {answered : Bool} → (Reached f → ⊥) → Stray t (restored f answered)
+  waits : {f : Follower} {answered : Bool} {due : Request} → told f .standing ≡ Standing.Waiting due → Stray t (restored f answered)
+
+abbrev pub RefusedIsStray : Type 0
+RefusedIsStray = (t : Tally) (r : Result) → (counting t r ≡ record { tally = t; verdict = Verdict.Refused 12 }) ↔ Stray t r
 
 -- 4. A trailer is begun anew exactly where its follower says that it stopped, the board said nothing to its last Set, and the round is not
 -- the last. So a refusal by the board is never tried again, nor a restore that is done.

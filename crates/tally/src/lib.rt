@@ -65,9 +65,6 @@ impl Tally {
     pub fn restored(self, follower: Follower, answered: bool) -> Counted
         ensures { λ r. ⌜ r ≡ counting self (results.restored follower answered) ⌝ }
     {
-        if !self.is_allowed() {
-            return sums::refused(self);
-        }
         sums::with_follower(self, follower, answered)
     }
 
@@ -75,10 +72,7 @@ impl Tally {
     pub fn silent(self) -> Counted
         ensures { λ r. ⌜ r ≡ counting self results.silent ⌝ }
     {
-        if !self.is_allowed() {
-            return sums::refused(self);
-        }
-        sums::accepted(sums::plus(self, share::tally_of(0, 0, 0, 1, 0)))
+        sums::with_share(self, share::tally_of(0, 0, 0, 1, 0))
     }
 
     // Counts a trailer that was not begun: its file was refused, or its serial line could not be opened. Refuses 12 for a tally with a
@@ -86,9 +80,6 @@ impl Tally {
     pub fn not_begun(self) -> Counted
         ensures { λ r. ⌜ r ≡ counting self results.notBegun ⌝ }
     {
-        if !self.is_allowed() {
-            return sums::refused(self);
-        }
-        sums::accepted(sums::plus(self, share::tally_of(0, 0, 0, 0, 1)))
+        sums::with_share(self, share::tally_of(0, 0, 0, 0, 1))
     }
 }

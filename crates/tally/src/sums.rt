@@ -1,6 +1,6 @@
 // How a trailer is counted: with its follower's own numbers.
 ghost use mathlib.Core.Path.{_≡_};
-ghost use mathlib.Core.Bool.{true};
+ghost use mathlib.Core.Bool.{cond};
 ghost use Rattle.tally.specs.Results.{tallyAllowed, plus, restored};
 ghost use Rattle.tally.specs.AsHeld.{Within};
 ghost use Rattle.tally.specs.Calls as calls;
@@ -12,7 +12,7 @@ use restore::Sets;
 use who::Verdict;
 
 // Returns the sum of two tallies, count by count.
-pub(crate) fn plus(tally: Tally, share: Tally) -> Tally
+fn plus(tally: Tally, share: Tally) -> Tally
     requires { ⌜ Within tally × Within share ⌝ }
     ensures { λ r. ⌜ r ≡ plus tally share ⌝ }
 {
@@ -28,7 +28,7 @@ pub(crate) fn plus(tally: Tally, share: Tally) -> Tally
 }
 
 // Refuses a trailer by 12, with the tally as it was.
-pub(crate) fn refused(tally: Tally) -> Counted
+fn refused(tally: Tally) -> Counted
     ensures { λ r. ⌜ r ≡ calls.uncounted tally ⌝ }
 {
     Counted {
@@ -38,7 +38,7 @@ pub(crate) fn refused(tally: Tally) -> Counted
 }
 
 // Returns the tally, with the trailer counted.
-pub(crate) fn accepted(tally: Tally) -> Counted
+fn accepted(tally: Tally) -> Counted
     ensures { λ r. ⌜ r ≡ calls.counted tally ⌝ }
 {
     Counted {
@@ -47,9 +47,19 @@ pub(crate) fn accepted(tally: Tally) -> Counted
     }
 }
 
+// Counts a trailer by its share. Refuses 12 for a tally that is not allowed.
+pub(crate) fn with_share(tally: Tally, share: Tally) -> Counted
+    requires { ⌜ Within share ⌝ }
+    ensures { λ r. ⌜ r ≡ cond (tallyAllowed tally) (calls.counted (plus tally share)) (calls.uncounted tally) ⌝ }
+{
+    if !tally.is_allowed() {
+        return refused(tally);
+    }
+    accepted(plus(tally, share))
+}
+
 // Counts a trailer by its follower's own result, with the Sets that it counted and those that were due.
 pub(crate) fn with_follower(tally: Tally, follower: Follower, answered: bool) -> Counted
-    requires { ⌜ tallyAllowed tally ≡ true ⌝ }
     ensures { λ r. ⌜ r ≡ calls.counting tally (restored follower answered) ⌝ }
 {
     let followed = follower.told();
@@ -59,10 +69,10 @@ pub(crate) fn with_follower(tally: Tally, follower: Follower, answered: bool) ->
     }
     let sets = restore::sets_due(follower.from, follower.to);
     match sets {
-        Sets::Due(due) => accepted(plus(
+        Sets::Due(due) => with_share(
             tally,
             share::share_of(standing, answered, followed.confirmed, due),
-        )),
+        ),
         Sets::Refused(_) => refused(tally),
     }
 }

@@ -1,5 +1,5 @@
 -- A row of replies: the viewer that it gives, and its counts. Assumes nothing.
-use mathlib.Core.Path.{_≡_, refl, sym, _∙_}
+use mathlib.Core.Path.{_≡_, refl, sym, ap, _∙_}
 use mathlib.Core.Logic.{_↔_}
 use mathlib.Core.Bool.{Bool, true, false, cond}
 use mathlib.Core.List.{List, [], _∷_}
@@ -12,8 +12,8 @@ use lib.Dec.{ltb, leb}
 use Rattle.laws.proofs.Bools.{and-left, and-right, both}
 use Rattle.laws.proofs.Lists.{drop-turn}
 use Rattle.view.specs.Values.{ids, count, idAt}
-use Rattle.view.specs.Calls.{sightAt, sightOf, answers, shows, moved, begun, allowed, nextOf, told, starting, viewing}
-use Rattle.view.specs.Laws.{Frame, calls, sightFor, counted, CountsAreTrue}
+use Rattle.view.specs.Calls.{sightAt, sightOf, answers, shows, moved, begun, allowed, nextOf, told, stray, starting, viewing}
+use Rattle.view.specs.Laws.{Frame, calls, RefusedIsStray, sightFor, counted, CountsAreTrue}
 use Rattle.view.specs.declared.Viewer.{Viewer}
 use Rattle.view.specs.declared.Next.{Next}
 use Rattle.view.specs.declared.Sight.{Sight}
@@ -49,6 +49,25 @@ sight-is v f = by (ltb (v .answered) count) refl
 pub viewed : (v : Viewer) (f : Frame) → allowed v ≡ true → viewing v (f .command) (f .bytes) ≡ told (moved v (sight v f)) (sight v f)
 unfolding viewing
 viewed v f ok = rw ok
+
+-- and on any other
+next-stands : (v : Viewer) (number : ℕ) → nextOf v ≡ Next.Refused number → ⊥
+next-stands v number = by (ltb (v .answered) count)
+  where
+    by : (b : Bool) → cond b (Next.Waiting (idAt (v .answered))) Next.Done ≡ Next.Refused number → ⊥
+    by true e = let z : _≡_ {A = ℕ} 0 1 = cc in omega arith
+    by false e = let z : _≡_ {A = ℕ} 0 1 = cc in omega arith
+
+pub refused-is-stray : RefusedIsStray
+unfolding viewing
+refused-is-stray v command bytes = (by (allowed v) refl, λ bad. rw bad)
+  where
+    next : Viewer
+    next = moved v (sightOf v command bytes)
+
+    by : (b : Bool) → allowed v ≡ b → cond b (told next (sightOf v command bytes)) (stray v) ≡ stray v → allowed v ≡ false
+    by true ok e = absurd (next-stands next 12 (ap (λ (w : Viewed). w .next) e))
+    by false bad e = bad
 
 one-answered : (s : Sight) → (shows s ≤ answers s) × (answers s ≤ 1)
 one-answered Sight.Nothing = (omega arith, omega arith)

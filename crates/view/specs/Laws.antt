@@ -2,7 +2,7 @@
 use Prim.Native.Nat.{ℕ, zero, _+_, _^_, _<_}
 use mathlib.Core.Path.{_≡_}
 use mathlib.Core.Logic.{_≢_, _↔_}
-use mathlib.Core.Bool.{true, cond}
+use mathlib.Core.Bool.{true, false, cond}
 use mathlib.Core.List.{List, [], _∷_, _++_}
 use lib.ListN.{length, drop}
 use lib.Dec.{ltb}
@@ -53,6 +53,12 @@ calls last (f ∷ more) = calls (viewing (last .viewer) (f .command) (f .bytes))
 
 abbrev pub AllowedIsReached : Type 0
 AllowedIsReached = (v : Viewer) → (allowed v ≡ true) ↔ ((frames : List Frame) × (v ≡ calls starting frames .viewer))
+
+-- Any other is refused 12 and comes "back as it was", with nothing seen, and no other is.
+abbrev pub RefusedIsStray : Type 0
+RefusedIsStray =
+    (v : Viewer) (command : ℕ) (bytes : List ℕ)
+    → (viewing v command bytes ≡ record { viewer = v; next = Next.Refused 12; sight = Sight.Nothing }) ↔ (allowed v ≡ false)
 
 -- 4. Its counts, with no viewer in them: a row of ids and a row of frames, where a frame that says something of the first id takes it away.
 abbrev pub sightFor : List ℕ → Frame → Sight

@@ -14,10 +14,10 @@ use Rattle.backup.proofs.reader.read_lines.Statement.{statement}
 use Rattle.backup.proofs.reader.read_lines.Tie as tie
 
 abbrev Inv-loop : tie.InvT-loop
-Inv-loop text held₀ at₀ index₀ held at index = Lined text held at index
+Inv-loop text numbers₀ at₀ index₀ numbers at index = Lined text numbers at index
 
 abbrev μ-loop : tie.MeasureT-loop
-μ-loop text held₀ at₀ index₀ held at index = count - index
+μ-loop text numbers₀ at₀ index₀ numbers at index = count - index
 
 short : (s : tie.Start Inv-loop μ-loop) → length (now (s .args .text)) < 0x8000000000000000
 short s = search needs
@@ -48,11 +48,11 @@ judge-requires c κs = tt
 enum-known-judged : tie.Need-enum-known-judged Inv-loop μ-loop
 enum-known-judged c = search needs
 
-mul-held : tie.Need-mul-held Inv-loop μ-loop
-mul-held c = search needs
+mul-numbers : tie.Need-mul-numbers Inv-loop μ-loop
+mul-numbers c = search needs
 
-array-write-held : tie.Need-array-write-held Inv-loop μ-loop
-array-write-held c = search needs
+array-write-numbers : tie.Need-array-write-numbers Inv-loop μ-loop
+array-write-numbers c = search needs
 
 add-at : tie.Need-add-at Inv-loop μ-loop
 add-at c =
@@ -99,5 +99,5 @@ pub read-lines-spec : {M : Type 1} → statement M
 read-lines-spec =
     tie.close
     (tie.spec
-    Inv-loop μ-loop factory-numbers-requires loop-holds sub-judge part-judge-start part-judge-end judge-requires enum-known-judged mul-held
-    array-write-held add-at enum-known-judged-2 add-refused refused-requires returns add-index loop-less loop-again sub-ended ended-requires returns-2)
+    Inv-loop μ-loop factory-numbers-requires loop-holds sub-judge part-judge-start part-judge-end judge-requires enum-known-judged mul-numbers
+    array-write-numbers add-at enum-known-judged-2 add-refused refused-requires returns add-index loop-less loop-again sub-ended ended-requires returns-2)

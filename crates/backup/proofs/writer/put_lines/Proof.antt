@@ -8,10 +8,10 @@ use Rattle.backup.proofs.writer.put_lines.Statement.{statement}
 use Rattle.backup.proofs.writer.put_lines.Tie as tie
 
 abbrev Inv-loop : tie.InvT-loop
-Inv-loop out₀ start held at₀ index₀ out at index = Listing out₀ start (record { numbers = held }) out at index
+Inv-loop out₀ start numbers at₀ index₀ out at index = Listing out₀ start (record { numbers = numbers }) out at index
 
 abbrev μ-loop : tie.MeasureT-loop
-μ-loop out₀ start held at₀ index₀ out at index = count - index
+μ-loop out₀ start numbers at₀ index₀ out at index = count - index
 
 loop-holds : tie.Need-loop-holds Inv-loop μ-loop
 loop-holds c = listing-start _ _ _ (c .before .pre)

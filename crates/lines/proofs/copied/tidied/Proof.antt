@@ -12,8 +12,8 @@ use Rattle.lines.proofs.copied.tidied.Tie as tie
 long : (c : tie.Start) → length (c .args .line .chars) ≡ most
 long c = search needs
 
-array-share-prefix-held : tie.Need-array-share-prefix-held
-array-share-prefix-held c = omega (arith, c .least .ensures, long (c .before .before))
+array-share-prefix-chars : tie.Need-array-share-prefix-chars
+array-share-prefix-chars c = omega (arith, c .least .ensures, long (c .before .before))
 
 slice-aggregate-copy : tie.Need-slice-aggregate-copy
 slice-aggregate-copy c = sym (kept-length _ (long (c .before .before .before)) _ (c .before .least .ensures))
@@ -33,4 +33,4 @@ pub tidied-spec : {M : Type 1} → statement M
 tidied-spec =
     tie.close
     (tie.spec
-    (λ c κs. search needs) array-share-prefix-held slice-aggregate-copy (λ c. search needs) copy-requires returns)
+    (λ c κs. search needs) array-share-prefix-chars slice-aggregate-copy (λ c. search needs) copy-requires returns)

@@ -1,10 +1,9 @@
 -- `tally::sums::with_follower` meets its contract. Assumes nothing.
-use mathlib.Core.Path.{_≡_, sym, ap, _∙_}
+use mathlib.Core.Path.{_≡_, sym, _∙_}
 use mathlib.Core.Bool.{true}
 use borrow.Author.Tests.{not-true, not-false}
-use Rattle.tally.specs.Results.{restored, fits, plus, shareOf}
-use Rattle.tally.specs.Calls.{counted}
-use Rattle.tally.proofs.Counting.{within-of, share-within, share-is, never-refused, ended-fits, counting-unfit, counting-fit}
+use Rattle.tally.specs.Results.{restored, fits, shareOf}
+use Rattle.tally.proofs.Counting.{share-within, share-is, never-refused, ended-fits, counting-unfit, counting-share}
 use borrow.Author.Needs.{needs}
 use Rattle.tally.proofs.sums.with_follower.Statement.{statement}
 use Rattle.tally.proofs.sums.with_follower.Tie as tie
@@ -26,7 +25,7 @@ refused-requires : tie.Need-refused-requires
 refused-requires c κs = search needs
 
 returns : tie.Need-returns
-returns c = c .refused .ensures ∙ counting-unfit _ _ (c .before .before .before .before .pre) (sym (ended-fits _ _ (c .before .before .before .told .ensures) _) ∙ sym (c .before .before .has-ended .ensures) ∙ not-true _ (c .before .if1 .taken))
+returns c = c .refused .ensures ∙ counting-unfit _ _ (sym (ended-fits _ _ (c .before .before .before .told .ensures) _) ∙ sym (c .before .before .has-ended .ensures) ∙ not-true _ (c .before .if1 .taken))
 
 sets-due-requires : tie.Need-sets-due-requires
 sets-due-requires c κs = search needs
@@ -37,11 +36,8 @@ enum-known-sets c = search needs
 share-of-requires : tie.Need-share-of-requires
 share-of-requires c κs = search needs
 
-plus-requires : tie.Need-plus-requires
-plus-requires c κs = (within-of _ (c .before .before .before .before .before .before .before .before .pre), rw (share c) (share-within _ _ (fit (c .before .before .before .before))))
-
-accepted-requires : tie.Need-accepted-requires
-accepted-requires c κs = search needs
+with-share-requires : tie.Need-with-share-requires
+with-share-requires c κs = rw (share c) (share-within _ _ (fit (c .before .before .before .before)))
 
 enum-told : tie.Need-enum-told
 enum-told c = search needs
@@ -50,7 +46,7 @@ refused-requires-2 : tie.Need-refused-requires-2
 refused-requires-2 c κs = search needs
 
 returns-2 : tie.Need-returns-2
-returns-2 c = c .accepted .ensures ∙ ap counted (c .before .plus .ensures ∙ ap (plus _) (share (c .before .before))) ∙ counting-fit _ _ (c .before .before .before .before .before .before .before .before .before .before .pre) (fit (c .before .before .before .before .before .before))
+returns-2 c = rw (c .with-share .ensures, share (c .before)) (counting-share _ _ (fit (c .before .before .before .before .before)))
 
 returns-3 : tie.Need-returns-3
 returns-3 c = absurd (never-refused _ _ (c .before .before .before .before .before .before .told .ensures) _ (fit (c .before .before .before)) _ (sym (c .before .before .before .sets-due .ensures) ∙ c .before .enum-told .given .1))
@@ -66,8 +62,7 @@ with-follower-spec =
     sets-due-requires
     enum-known-sets
     share-of-requires
-    plus-requires
-    accepted-requires
+    with-share-requires
     enum-told
     refused-requires-2
     returns-2
