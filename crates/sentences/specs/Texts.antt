@@ -94,11 +94,15 @@ checkedText (Checked.Refused number row) = refusalText number row
 
 -- A yard's night.
 
+abbrev pub endedText : Tally → List ℕ
+endedText t =
+    betweenText (chars "yard: ") (t .done) (chars " done, ") ++ betweenText [] (t .equal) (chars " equal, ")
+    ++ betweenText [] (t .stopped) (chars " stopped, ")
+
 unfoldable pub countsText : Tally → List ℕ
 countsText t =
-    betweenText (chars "yard: ") (t .done) (chars " done, ") ++ betweenText [] (t .equal) (chars " equal, ")
-    ++ betweenText [] (t .stopped) (chars " stopped, ") ++ betweenText [] (t .silent) (chars " silent, ")
-    ++ betweenText [] (t .unbegun) (chars " not begun; ") ++ ofText [] (t .confirmed) (t .due) (chars " settings confirmed")
+    endedText t ++ betweenText [] (t .silent) (chars " silent, ") ++ betweenText [] (t .unbegun) (chars " not begun; ")
+    ++ ofText [] (t .confirmed) (t .due) (chars " settings confirmed")
 
 -- 12 where a count is over a million
 unfoldable pub summedText : Tally → List ℕ

@@ -45,13 +45,17 @@ abbrev pub row : ℕ → Bool → ℕ → String → String → (Float → Shown
 row id hasSign decimals word unit kind = record { id = id; hasSign = hasSign; decimals = decimals; word = word; unit = unit; kind = kind }
 
 -- "ED8D signed 16, 0.01 V; ED8F signed 16, 0.1 A; ED8C signed 32, 0.001 A; EEFF signed 32, 0.1 Ah; 0FFF unsigned 16, 0.01 %"
+abbrev pub wideRows : List Row
+wideRows =
+    row paper.fineId true 3 "current " " A" Shown.Amperes ∷
+    row paper.consumedId true 1 "consumed " " Ah" Shown.AmpHours ∷
+    []
+
 abbrev pub signedRows : List Row
 signedRows =
     row paper.voltageId true 2 "voltage " " V" Shown.Volts ∷
     row paper.currentId true 1 "current " " A" Shown.Amperes ∷
-    row paper.fineId true 3 "current " " A" Shown.Amperes ∷
-    row paper.consumedId true 1 "consumed " " Ah" Shown.AmpHours ∷
-    []
+    wideRows
 
 abbrev pub chargeRow : Row
 chargeRow = row paper.chargeId false 2 "charge " " %" Shown.Percent
@@ -75,6 +79,9 @@ amountText before whole decimals after = before ++ wholeText whole decimals ++ a
 
 abbrev pub rowText : Row → List ℕ → List ℕ
 rowText r value = amountText (chars (r .word)) (wholeOf r value) (r .decimals) (chars (r .unit))
+
+unfoldable pub wideText : ℕ → List ℕ → List ℕ
+wideText id value = rowText (rowIn wideRows id) value
 
 unfoldable pub readingText : ℕ → List ℕ → List ℕ
 readingText id value = rowText (rowIn signedRows id) value

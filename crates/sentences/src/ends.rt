@@ -2,8 +2,8 @@ ghost use Prim.Native.Nat.{_-_};
 ghost use mathlib.Core.Path.{_≡_};
 ghost use mathlib.Core.Bool.{true};
 ghost use Rattle.follow.specs.Following.{total, followerAllowed};
-ghost use Rattle.lines.specs.Lines.{adding};
-ghost use Rattle.sentences.specs.Texts.{stoppedText, endText, followedText, progressText};
+ghost use Rattle.lines.specs.Lines.{adding, chars};
+ghost use Rattle.sentences.specs.Texts.{ofText, stoppedText, endText, followedText, progressText};
 use crate::parts;
 use follow::Follower;
 use follow::Standing;
@@ -25,16 +25,21 @@ fn put_stopped(line: Line, confirmed: usize, due: usize) -> Line
     parts::put_between(counted, b"", left_of(confirmed, due), b" not confirmed")
 }
 
+// Puts how many settings are confirmed, after a word.
+fn put_settings(line: Line, before: &[u8], confirmed: usize, due: usize) -> Line
+    ensures { λ r. ⌜ r ≡ adding line (ofText (now (before .entry)) confirmed due (chars " settings confirmed")) ⌝ }
+{
+    parts::put_of(line, before, confirmed, due, b" settings confirmed")
+}
+
 // Puts how far a follower is.
 fn put_end(line: Line, standing: Standing, confirmed: usize, due: usize) -> Line
     ensures { λ r. ⌜ r ≡ adding line (endText standing confirmed due) ⌝ }
 {
     match standing {
-        Standing::Waiting(_) => {
-            parts::put_of(line, b"not ended: ", confirmed, due, b" settings confirmed")
-        }
+        Standing::Waiting(_) => put_settings(line, b"not ended: ", confirmed, due),
         Standing::Equal => line.put(b"equal: nothing to set"),
-        Standing::Done => parts::put_of(line, b"done: ", confirmed, due, b" settings confirmed"),
+        Standing::Done => put_settings(line, b"done: ", confirmed, due),
         Standing::Stopped(_) => put_stopped(line, confirmed, due),
         Standing::Refused(number) => parts::put_refused(line, number),
     }

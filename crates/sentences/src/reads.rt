@@ -1,7 +1,7 @@
 // A board whose settings were read, and the file for them.
 ghost use mathlib.Core.Path.{_≡_};
-ghost use Rattle.lines.specs.Lines.{adding};
-ghost use Rattle.sentences.specs.Texts.{readText, keptText, unreadText, fileText, collectedText, savedText};
+ghost use Rattle.lines.specs.Lines.{adding, chars};
+ghost use Rattle.sentences.specs.Texts.{ofText, readText, keptText, unreadText, fileText, collectedText, savedText};
 use crate::Kept;
 use crate::parts;
 use collect::Collector;
@@ -9,14 +9,21 @@ use collect::Stage;
 use lines::Line;
 use settings::COUNT;
 
+// Puts how many settings were read of those that there are, after a word.
+fn put_settings(line: Line, before: &[u8], answered: usize, due: usize) -> Line
+    ensures { λ r. ⌜ r ≡ adding line (ofText (now (before .entry)) answered due (chars " settings read")) ⌝ }
+{
+    parts::put_of(line, before, answered, due, b" settings read")
+}
+
 // Puts how many settings were read, by how far a collector is.
 fn put_read(line: Line, stage: Stage, answered: usize, due: usize) -> Line
     ensures { λ r. ⌜ r ≡ adding line (readText stage answered due) ⌝ }
 {
     match stage {
-        Stage::Waiting(_) => parts::put_of(line, b"not ended: ", answered, due, b" settings read"),
+        Stage::Waiting(_) => put_settings(line, b"not ended: ", answered, due),
         Stage::Done => parts::put_between(line, b"all ", answered, b" settings read"),
-        Stage::Stopped(_) => parts::put_of(line, b"stopped: ", answered, due, b" settings read"),
+        Stage::Stopped(_) => put_settings(line, b"stopped: ", answered, due),
         Stage::Refused(number) => parts::put_refused(line, number),
     }
 }

@@ -8,7 +8,7 @@ ghost use lib.IntN.{pos, negsuc};
 ghost use Rattle.endian.specs.Numbers.{fromLittle, signed};
 ghost use Rattle.view.specs.Values.{widthOf, isUnderstood};
 ghost use Rattle.lines.specs.Lines.{adding};
-ghost use Rattle.sentences.specs.Values.{wordText, strangeText, productText, versionText, serialText, amountText, readingText, wordsText};
+ghost use Rattle.sentences.specs.Values.{wordText, strangeText, productText, versionText, serialText, amountText, wideText, readingText, wordsText};
 use lines::Line;
 
 // How many numbers two bytes and four bytes have: from half of it on, a number is negative. For the one reading without a sign it is twice
@@ -109,6 +109,21 @@ fn put_wide(line: Line, before: &[u8], value: &[u8], decimals: u8, after: &[u8])
     )
 }
 
+// Puts a reading in its unit: one of four bytes, or else the charge.
+fn put_other(line: Line, id: u16, value: &[u8]) -> Line
+    requires { ⌜ length (now value) ≡ widthOf id ⌝ }
+    ensures { λ r. ⌜ r ≡ adding line (wideText id (now (value .entry))) ⌝ }
+{
+    if id == paper::FINE_ID {
+        return put_wide(line, b"current ", value, 3, b" A");
+    }
+    if id == paper::CONSUMED_ID {
+        return put_wide(line, b"consumed ", value, 1, b" Ah");
+    }
+    let steps = endian::read_16(value) as usize;
+    put_amount(line, b"charge ", UNSIGNED_16, steps, 2, b" %")
+}
+
 // Puts a reading in its unit.
 fn put_reading(line: Line, id: u16, value: &[u8]) -> Line
     requires { ⌜ length (now value) ≡ widthOf id ⌝ }
@@ -120,14 +135,7 @@ fn put_reading(line: Line, id: u16, value: &[u8]) -> Line
     if id == paper::CURRENT_ID {
         return put_narrow(line, b"current ", value, 1, b" A");
     }
-    if id == paper::FINE_ID {
-        return put_wide(line, b"current ", value, 3, b" A");
-    }
-    if id == paper::CONSUMED_ID {
-        return put_wide(line, b"consumed ", value, 1, b" Ah");
-    }
-    let steps = endian::read_16(value) as usize;
-    put_amount(line, b"charge ", UNSIGNED_16, steps, 2, b" %")
+    put_other(line, id, value)
 }
 
 // Puts a value that is understood, by its id.

@@ -4,13 +4,13 @@ use Rattle.sentences.proofs.ends.put_end.Statement.{statement}
 use Rattle.sentences.proofs.ends.put_end.Tie as tie
 
 returns : tie.Need-returns
-returns c = rw (c .before .before .before .enum-told .given .1) (c .put-of .ensures)
+returns c = rw (c .before .before .enum-told .given .1) (c .put-settings .ensures)
 
 returns-2 : tie.Need-returns-2
 returns-2 c = rw (c .before .before .enum-told2 .given .1) (c .put .ensures)
 
 returns-3 : tie.Need-returns-3
-returns-3 c = rw (c .before .before .before .enum-told3 .given .1) (c .put-of2 .ensures)
+returns-3 c = rw (c .before .before .enum-told3 .given .1) (c .put-settings2 .ensures)
 
 returns-4 : tie.Need-returns-4
 returns-4 c = rw (c .before .enum-told4 .given .1) (c .put-stopped .ensures)
@@ -24,12 +24,10 @@ put-end-spec =
     (tie.spec
     (λ c. search needs)
     (λ c. search needs)
-    (λ c. search needs)
     (λ c κs. search needs)
     (λ c. search needs)
     (λ c. search needs)
     (λ c κs. search needs)
-    (λ c. search needs)
     (λ c. search needs)
     (λ c. search needs)
     (λ c κs. search needs)
