@@ -85,6 +85,18 @@ fitsOther (some other) n = within lines other n
 abbrev pub partnerWithin : ℕ → ℕ → Bool
 partnerWithin id n = fitsOther (otherIn (lowPairs ++ highPairs) id) n
 
+-- Whether a number for an id agrees with the one for the other id of its pair: "first at most second" of a low pair, "first at least second"
+-- of a high one; any does where no pair has the id.
+abbrev agreesIn : List (ℕ × ℕ) → (ℕ → ℕ → Bool) → ℕ → ℕ → ℕ → Bool → Bool
+agreesIn [] rule id n partner otherwise = otherwise
+agreesIn (p ∷ more) rule id n partner otherwise =
+    cond (eqb id (p .0)) (rule n partner) (cond (eqb id (p .1)) (rule partner n) (agreesIn more rule id n partner otherwise))
+
+abbrev pub printedAgrees : ℕ → ℕ → ℕ → Bool
+printedAgrees id n partner =
+    agreesIn lowPairs (λ first second. leb first second) id n partner
+    (agreesIn highPairs (λ first second. leb second first) id n partner true)
+
 -- the row of the table that the paper's lines and pairs make for an id
 abbrev lineOf : List Line → ℕ → Option Line
 lineOf [] id = none
