@@ -10,12 +10,12 @@ use lib.ListN.{length, getD, drop}
 use lib.Dec.{ltb, eqb}
 use Rattle.laws.specs.Lists.{before}
 use Rattle.laws.proofs.Bools.{same-test}
-use Rattle.laws.proofs.Lists.{upTo-at}
+use Rattle.laws.proofs.Lists.{upTo-at, upTo-all}
 use Rattle.settings.specs.Columns.{count, ids, idAt, placeOf, partnerAt, roleAt}
 use Rattle.settings.specs.Printed.{lines, among, printedIds, within, partnerWithin, printedAgrees}
-use Rattle.settings.specs.Rules.{inRange, lowAgrees, highAgrees, agrees, allowedFor, nearestOf}
+use Rattle.settings.specs.Rules.{inRange, lowAgrees, highAgrees, agrees, allowedFor, allAllowed, nearestOf}
 use Rattle.settings.specs.Calls.{ranging, allowing, partnerFits, nearing}
-use Rattle.settings.specs.Laws.{refusalOf, NearestGivenWhen, AllowedIsPrinted, PrintedIsTold}
+use Rattle.settings.specs.Laws.{refusalOf, NearestGivenWhen, AllowedIsPrinted, PrintedIsTold, AllAllowedWhen}
 use Rattle.settings.specs.declared.Number.{Number}
 use Rattle.settings.proofs.Rows.{placed}
 
@@ -77,6 +77,14 @@ pub printed-told : PrintedIsTold
 unfolding ranging allowing
 printed-told k n partner h =
     record { range-is = rw (lt-ltb k count h) (range-printed k h n); allowed-is = rw (lt-ltb k count h) (allowed-printed k n partner h) }
+
+pub all-printed : AllAllowedWhen
+unfolding allAllowed
+all-printed numbers = (
+  λ e k h. sym (allowed-printed k (getD numbers k 0) (getD numbers (partnerAt k) 0) h)
+      ∙ upTo-at count (λ i. allowedFor i (getD numbers i 0) (getD numbers (partnerAt i) 0)) e k h,
+  λ all. upTo-all count _ (λ k h. allowed-printed k (getD numbers k 0) (getD numbers (partnerAt k) 0) h ∙ all k h),
+)
 
 fits-printed : (id : ℕ) → among id ids ≡ true → (n : ℕ) → partnerFits (placeOf id) n ≡ partnerWithin id n
 unfolding partnerFits inRange partnerAt placeOf
