@@ -1,12 +1,12 @@
 -- The list's frames at a board: each is answered as a Set accepted. Assumes nothing.
 use mathlib.Core.Path.{_≡_, refl, ap, _∙_}
-use mathlib.Core.Bool.{Bool, true, false, _&&_, false≢true}
+use mathlib.Core.Bool.{Bool, true, false, not, _&&_, false≢true}
 use mathlib.Core.List.{List, [], _∷_, _++_, map}
 use Prim.Native.Nat.{ℕ, zero, suc, _≤_, _<_}
 use native.Mathlib.Omega.{arith}
 use borrow.Author.Tests.{leb-true, ltb-true}
 use lib.ListN.{length, take, drop}
-use lib.Dec.{ltb}
+use lib.Dec.{ltb, eqb}
 use Rattle.laws.specs.Lists.{every}
 use Rattle.laws.proofs.Bools.{and-left, and-right, both}
 use Rattle.endian.specs.Numbers.{little}
@@ -31,7 +31,7 @@ use Rattle.answers.proofs.Theorems.{set-stores-it}
 use Rattle.endian.proofs.Little.{length-little, bytes-little}
 use Rattle.answers.proofs.Fitting.{writable-said}
 use Rattle.board.specs.Calls.{replyBytes, deciding}
-use Rattle.restore.specs.Order.{wanted, order, differs, dueSets}
+use Rattle.restore.specs.Order.{wanted, order, dueSets}
 use Rattle.restore.specs.Calls.{bothAllowed, framesFor, listRoom, listedAs, listing, dueAfter, dueIn}
 use Rattle.restore.specs.Laws.{Tables, isAccepted, accepted, left}
 use Rattle.restore.specs.declared.Listed.{Listed}
@@ -83,7 +83,7 @@ order-in to (k ∷ ks) p e =
     a-set (ltb-true k count (and-left (ltb k count) (p k) here)) (order-in to ks p (and-right (ltb k count && p k) _ e))
 
 pub due-in : (from to : Table) → InTable (dueSets from to)
-due-in from to = order-in to (order from to) (differs from to) (no-other-set from to)
+due-in from to = order-in to (order from to) (λ k. not (eqb (numberAt from k) (numberAt to k))) (no-other-set from to)
 
 -- one Set that the settings rule accepts, at a board
 pub accepted-allowed : (table : Table) (k n : ℕ) → allowed table ≡ true → k < count → isAccepted (setTo table k n .answer) ≡ true → allowedFor k n (partnerNumber table k) ≡ true

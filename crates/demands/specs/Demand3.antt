@@ -3,7 +3,7 @@
 -- one." Each statement is proved under its name in proofs/Theorems.antt. Assumes nothing.
 use Prim.Native.Nat.{ℕ, _≤_, _<_}
 use mathlib.Core.Path.{_≡_}
-use mathlib.Core.Bool.{Bool, true, false, cond, _&&_}
+use mathlib.Core.Bool.{Bool, true, false, cond, not, _&&_}
 use mathlib.Core.List.{List, [], _∷_, _++_, map}
 use lib.ListN.{length, take, drop, getD}
 use lib.Dec.{leb, ltb, eqb}
@@ -34,7 +34,6 @@ use Rattle.board.specs.declared.Answered.{Answered}
 use Rattle.board.specs.declared.Board.{Board}
 use Rattle.listen.specs.Hearing.{boxHearing, boxHears}
 use Rattle.reply.specs.Events as events
-use Rattle.restore.specs.Order.{differs}
 use Rattle.restore.specs.Calls.{listRoom, listing, dueIn}
 use Rattle.restore.specs.Laws as restore
 use Rattle.restore.specs.Laws.{Tables, differing}
@@ -121,8 +120,8 @@ pub record IsList (from to : Table) (given : Given Listed) : Type 0 where
   pub settings : List ℕ
   pub bytes-are : given .written ≡ setsOf to settings
   pub frames-are : framesOf (given .written) ≡ map (setOf to) settings
-  pub each-once : (k : ℕ) → k < count → restore.times k settings ≡ cond (differs from to k) 1 0
-  pub no-other : every (λ k. ltb k count && differs from to k) settings ≡ true
+  pub each-once : (k : ℕ) → k < count → restore.times k settings ≡ cond (eqb (numberAt from k) (numberAt to k)) 0 1
+  pub no-other : every (λ k. ltb k count && not (eqb (numberAt from k) (numberAt to k))) settings ≡ true
   pub in-order : (i j : ℕ) → i < j → j < length settings → restore.goesFirst from to (getD settings i 0) (getD settings j 0) ≡ true
   pub counts-are : given .answer ≡ Listed.List (length (given .written)) (differing count from to)
 

@@ -14,7 +14,7 @@ use Rattle.settings.specs.Columns.{count}
 use Rattle.tables.specs.declared.Table.{Table}
 use Rattle.restore.specs.Order.{differs, order, wanted}
 use Rattle.restore.specs.Laws.{times, differing, SetsAreDiffering}
-use Rattle.restore.proofs.Placing.{one-each, no-other}
+use Rattle.restore.proofs.Placing.{one-each, all-differ}
 
 -- how often the numbers below n come up in a row, all together
 unfoldable timesBelow : ℕ → List ℕ → ℕ
@@ -70,4 +70,4 @@ each-once from to (suc n) h = ap₂ (λ (a b : ℕ). a + b) (each-once from to n
 
 pub sets-differing : SetsAreDiffering
 sets-differing from to =
-    length-map (order from to) (wanted to) ∙ sym (all-counted count (differs from to) (order from to) (no-other from to)) ∙ each-once from to count (leb-true count count refl)
+    length-map (order from to) (wanted to) ∙ sym (all-counted count (differs from to) (order from to) (all-differ from to)) ∙ each-once from to count (leb-true count count refl)

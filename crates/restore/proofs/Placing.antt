@@ -253,17 +253,25 @@ module _ (from to : Table) where
         by false t e f = rw (e, lt-ltb a b (not-pair (eqb-false _ _ e)))
 
 -- so the statements of the order
+one-if : (same : Bool) → _≡_ {A = ℕ} (cond (not same) 1 0) (cond same 0 1)
+one-if true = refl
+one-if false = refl
+
 pub one-each : OneForEach
+unfolding order differs
+one-each from to k h = times-at from to count 0 k (omega arith) h (omega arith) (placed-below from to k h) ∙ one-if (eqb (numberAt from k) (numberAt to k))
+
+pub all-differ : (from to : Table) → every (λ k. ltb k count && differs from to k) (order from to) ≡ true
 unfolding order
-one-each from to k h = times-at from to count 0 k (omega arith) h (omega arith) (placed-below from to k h)
+all-differ from to = all-fit from to count 0 (omega arith)
 
 pub no-other : NoOther
-unfolding order
-no-other from to = all-fit from to count 0 (omega arith)
+unfolding differs
+no-other = all-differ
 
 pub entry-fits : (from to : Table) (i : ℕ) → i < length (order from to) → (getD (order from to) i 0 < count) × (differs from to (getD (order from to) i 0) ≡ true)
 entry-fits from to i h =
-    let both = every-at (λ j. ltb j count && differs from to j) (order from to) (no-other from to) i h in
+    let both = every-at (λ j. ltb j count && differs from to j) (order from to) (all-differ from to) i h in
     (ltb-true _ _ (and-left (ltb (getD (order from to) i 0) count) _ both), and-right (ltb (getD (order from to) i 0) count) _ both)
 
 pub in-order : InOrder

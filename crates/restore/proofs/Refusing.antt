@@ -3,21 +3,25 @@ use mathlib.Core.Path.{_≡_, refl, sym, ap, _∙_}
 use mathlib.Core.Bool.{Bool, true, false, cond, not, _&&_, _||_, false≢true}
 use mathlib.Core.List.{List, [], _∷_}
 use Prim.Native.Nat.{ℕ, zero, suc}
+use native.Mathlib.Omega.{arith}
+use borrow.Author.Tests.{eq-eqb}
 use lib.ListN.{length}
 use lib.Dec.{ltb}
 use Rattle.laws.proofs.Bools.{both}
 use Rattle.laws.specs.Promise.{Given}
 use Rattle.laws.specs.Refusals.{row, firstOf}
-use Rattle.tables.specs.Rules.{allowed}
+use Rattle.settings.specs.Columns.{count}
+use Rattle.tables.specs.Rules.{allowed, numberAt}
 use Rattle.tables.specs.declared.Table.{Table}
 use Rattle.requests.specs.declared.Wanted.{Wanted}
 use Rattle.restore.specs.Order.{dueSets}
-use Rattle.restore.specs.Calls.{framesFor, unlisted, listedAs, listing, setsDue, dueAfter, dueIn}
-use Rattle.restore.specs.Laws.{listNumber, setsNumber, dueNumber, ListRefuses, ListGivenWhen, SetsGivenWhen, DueGivenWhen, ListIsGiven, SetsAreTold}
+use Rattle.restore.specs.Calls.{framesFor, listRoom, unlisted, listedAs, listing, setsDue, dueAfter, dueIn}
+use Rattle.restore.specs.Laws.{listNumber, setsNumber, dueNumber, ListRefuses, ListGivenWhen, SetsGivenWhen, DueGivenWhen, ListIsGiven, SetsAreTold, left, differing, NoneWhereEqual}
 use Rattle.restore.specs.declared.Due.{Due}
 use Rattle.restore.specs.declared.Listed.{Listed}
 use Rattle.restore.specs.declared.Sets.{Sets}
 use Rattle.restore.proofs.Differing.{sets-differing}
+use Rattle.restore.proofs.Restoring.{list-restores}
 use Rattle.restore.proofs.Rows.{list-made}
 
 pub list-given : ListIsGiven
@@ -29,6 +33,26 @@ pub sets-told : SetsAreTold
 unfolding setsDue
 sets-told from to ok fine = rw (ok, fine) (ap Sets.Due (sets-differing from to))
 
+-- tables without a Set between them are the same, and a table differs from itself nowhere
+none-left : (l : List Wanted) (from to : Table) → length l ≡ 0 → left from l ≡ to → from ≡ to
+none-left [] from to none is = is
+none-left (w ∷ l) from to none is = absurd (omega arith)
+
+none-differs : (n : ℕ) (t : Table) → differing n t t ≡ 0
+unfolding differing
+none-differs zero t = refl
+none-differs (suc n) t = rw (none-differs n t, eq-eqb (numberAt t n) (numberAt t n) refl)
+
+sets-number : (n m : ℕ) → Sets.Due n ≡ Sets.Due m → n ≡ m
+sets-number n m e = cc
+
+pub none-equal : NoneWhereEqual
+none-equal from to two =
+    let told = sets-told from to (two .from-allowed) (two .to-allowed) in (
+      λ none. none-left (dueSets from to) from to (sets-differing from to ∙ sets-number _ _ (sym told ∙ none)) (list-restores from to two .wanted-stands),
+      λ same. told ∙ ap Sets.Due (rw (sym same) (none-differs count from)),
+    )
+
 abbrev isList : Listed → Bool
 isList (Listed.List len sets) = true
 isList (Listed.Refused number) = false
@@ -37,8 +61,8 @@ pub list-given-when : ListGivenWhen
 unfolding listing
 list-given-when from to room =
     record {
-      number-is = numbers (ltb room 390) (allowed from) (allowed to);
-      none-written = bytes (ltb room 390) (allowed from && allowed to);
+      number-is = numbers (ltb room listRoom) (allowed from) (allowed to);
+      none-written = bytes (ltb room listRoom) (allowed from && allowed to);
     }
   where
     numbers : (a b c : Bool) → listNumber (cond a (unlisted 11) (cond (b && c) (listedAs (dueSets from to)) (unlisted 12)) .answer) ≡ firstOf (row 11 a ∷ row 12 (not b || not c) ∷ [])

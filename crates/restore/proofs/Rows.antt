@@ -28,7 +28,7 @@ use Rattle.restore.specs.declared.Due.{Due}
 use Rattle.restore.specs.declared.Listed.{Listed}
 use Rattle.restore.specs.declared.order.Row.{Row}
 use Rattle.restore.proofs.Writing.{frames-short}
-use Rattle.restore.proofs.Placing.{turns-none, turns-more, turns-skip, no-other, entry-fits}
+use Rattle.restore.proofs.Placing.{turns-none, turns-more, turns-skip, all-differ, entry-fits}
 
 -- for a wanted number of an allowed table, what is allowed is what agrees
 pub allows-agrees : (to : Table) → allowed to ≡ true → (k p : ℕ) → k < count → allowing k (numberAt to k) p ≡ agrees (roleAt k) (numberAt to k) p
@@ -118,7 +118,7 @@ module _ (from to : Table) (row : Row) (w : Holds row (order from to)) where
   sets-are = ap (map (wanted to)) (w .settings-are)
 
   pub row-fits : every (λ k. ltb k count) (take (row .len) (row .indices)) ≡ true
-  row-fits = rw (w .settings-are) (every-left (λ k. ltb k count) (differs from to) (order from to) (no-other from to))
+  row-fits = rw (w .settings-are) (every-left (λ k. ltb k count) (differs from to) (order from to) (all-differ from to))
 
   pub row-sets : row .len ≡ length (dueSets from to)
   row-sets = w .len-is ∙ sym (length-map (order from to) (wanted to))
@@ -181,7 +181,7 @@ unfolding order
 frames-fit from to =
     let few : length (order from to) ≤ count = turns-few count 0 from to in
     let short : length (framesFor (dueSets from to)) ≤ 15 * length (order from to) =
-    frames-short to (order from to) (every-left (λ k. ltb k count) (differs from to) (order from to) (no-other from to)) in
+    frames-short to (order from to) (every-left (λ k. ltb k count) (differs from to) (order from to) (all-differ from to)) in
     omega arith
 
 pub after-last : (l : List Wanted) (n : ℕ) → length l ≤ n → Due.Nothing ≡ dueAfter l n

@@ -1,5 +1,5 @@
 -- The statements of specs/Laws.antt, proved. Assumes nothing.
-use Rattle.restore.specs.Laws.{OneForEach, NoOther, SetsAreDiffering, InOrder, ListRestores, ListGivenWhen, SetsGivenWhen, DueGivenWhen, ListIsGiven, SetsAreTold, SetsAreFew, ListIsShort, DueTells}
+use Rattle.restore.specs.Laws.{OneForEach, NoOther, SetsAreDiffering, InOrder, ListRestores, ListGivenWhen, SetsGivenWhen, DueGivenWhen, ListIsGiven, SetsAreTold, NoneWhereEqual, SetsAreFew, ListIsShort, DueTells}
 use Rattle.restore.proofs.Placing.{one-each, no-other, in-order}
 use Rattle.restore.proofs.Differing.{sets-differing}
 use Rattle.restore.proofs.Restoring.{list-restores}
@@ -35,6 +35,9 @@ list-is-given = refusing.list-given
 
 pub sets-are-told : SetsAreTold
 sets-are-told = refusing.sets-told
+
+pub none-where-equal : NoneWhereEqual
+none-where-equal = refusing.none-equal
 
 pub sets-are-few : SetsAreFew
 sets-are-few = sets-few

@@ -1,7 +1,8 @@
 -- What is proved of the definitions, as statements to compare with the papers. Each is proved under its name in proofs/Theorems.antt.
 -- Assumes nothing.
-use Prim.Native.Nat.{ℕ, zero, suc, _+_, _≤_, _<_}
+use Prim.Native.Nat.{ℕ, zero, suc, _+_, _*_, _≤_, _<_}
 use mathlib.Core.Path.{_≡_}
+use mathlib.Core.Logic.{_↔_}
 use mathlib.Core.Bool.{Bool, true, false, cond, not, _&&_, _||_}
 use mathlib.Core.List.{List, [], _∷_}
 use mathlib.Core.Option.{Option, none, some}
@@ -16,7 +17,7 @@ use Rattle.tables.specs.Rules.{allowed, numberAt}
 use Rattle.tables.specs.Calls.{setTo}
 use Rattle.tables.specs.declared.Table.{Table}
 use Rattle.tables.specs.declared.Answer.{Answer}
-use Rattle.restore.specs.Order.{differs, order, wanted, dueSets}
+use Rattle.restore.specs.Order.{order, wanted, dueSets}
 use Rattle.restore.specs.Calls.{bothAllowed, framesFor, listing, setsDue, dueIn}
 use Rattle.requests.specs.declared.Wanted.{Wanted}
 use Rattle.restore.specs.declared.Due.{Due}
@@ -36,15 +37,15 @@ times k [] = zero
 times k (j ∷ more) = cond (eqb j k) (suc (times k more)) (times k more)
 
 abbrev pub OneForEach : Type 0
-OneForEach = (from to : Table) (k : ℕ) → k < count → times k (order from to) ≡ cond (differs from to k) 1 0
+OneForEach = (from to : Table) (k : ℕ) → k < count → times k (order from to) ≡ cond (eqb (numberAt from k) (numberAt to k)) 0 1
 
 abbrev pub NoOther : Type 0
-NoOther = (from to : Table) → every (λ k. ltb k count && differs from to k) (order from to) ≡ true
+NoOther = (from to : Table) → every (λ k. ltb k count && not (eqb (numberAt from k) (numberAt to k))) (order from to) ≡ true
 
 -- There are as many Sets as settings that differ: counted over the table, with no list in it.
 unfoldable pub differing : ℕ → Table → Table → ℕ
 differing zero from to = zero
-differing (suc n) from to = differing n from to + cond (differs from to n) 1 0
+differing (suc n) from to = differing n from to + cond (eqb (numberAt from n) (numberAt to n)) 0 1
 
 abbrev pub SetsAreDiffering : Type 0
 SetsAreDiffering = (from to : Table) → length (dueSets from to) ≡ differing count from to
@@ -84,7 +85,7 @@ abbrev pub ListRestores : Type 0
 ListRestores = (from to : Table) → Tables from to → Restores from to
 
 -- 4. Which refusal is given: its number is that of the first row whose condition holds, and none where no condition holds. "Refusals: 11
--- under 390 bytes of room, always, then 12." (390 is 15 bytes for each of the 26 settings.) Under a refusal no byte is written.
+-- under 390 bytes of room, always, then 12.", which is 15 bytes for each of the 26 settings. Under a refusal no byte is written.
 abbrev pub isStray : Table → Table → Row
 isStray from to = row 12 (not (allowed from) || not (allowed to))
 
@@ -102,7 +103,7 @@ dueNumber Due.Nothing = none
 dueNumber (Due.Refused number) = some number
 
 pub record ListRefuses (from to : Table) (room : ℕ) (given : Given Listed) : Type 0 where
-  pub number-is : listNumber (given .answer) ≡ firstOf (row 11 (ltb room 390) ∷ isStray from to ∷ [])
+  pub number-is : listNumber (given .answer) ≡ firstOf (row 11 (ltb room (15 * count)) ∷ isStray from to ∷ [])
   pub none-written : (number : ℕ) → given .answer ≡ Listed.Refused number → given .written ≡ []
 
 abbrev pub ListGivenWhen : Type 0
@@ -117,7 +118,7 @@ DueGivenWhen = (from to : Table) (done : ℕ) → dueNumber (dueIn from to done)
 -- Otherwise the frames of the list are written end to end, and their length and the number of settings that differ are told.
 abbrev pub ListIsGiven : Type 0
 ListIsGiven =
-    (from to : Table) (room : ℕ) → 390 ≤ room → allowed from ≡ true → allowed to ≡ true
+    (from to : Table) (room : ℕ) → 15 * count ≤ room → allowed from ≡ true → allowed to ≡ true
     → listing from to room
     ≡ record {
       answer = Listed.List (length (framesFor (dueSets from to))) (differing count from to);
@@ -127,12 +128,16 @@ ListIsGiven =
 abbrev pub SetsAreTold : Type 0
 SetsAreTold = (from to : Table) → allowed from ≡ true → allowed to ≡ true → setsDue from to ≡ Sets.Due (differing count from to)
 
+-- "A list with no Set ends as equal": there is none exactly where the tables are the same.
+abbrev pub NoneWhereEqual : Type 0
+NoneWhereEqual = (from to : Table) → Tables from to → (setsDue from to ≡ Sets.Due 0) ↔ (from ≡ to)
+
 -- There are no more Sets than settings, and the list fits its room.
 abbrev pub SetsAreFew : Type 0
 SetsAreFew = (from to : Table) → length (dueSets from to) ≤ count
 
 abbrev pub ListIsShort : Type 0
-ListIsShort = (from to : Table) → length (framesFor (dueSets from to)) ≤ 390
+ListIsShort = (from to : Table) → length (framesFor (dueSets from to)) ≤ 15 * count
 
 -- 5. What is due tells how many Sets there are: one is due after fewer than all, namely the next of the order, and none after all.
 pub data Tells (from to : Table) (done : ℕ) : Due → Type 0 where

@@ -42,9 +42,9 @@ fn is_other(from: Table, to: Table, index: usize) -> bool
     requires { ⌜ index < count ⌝ }
     ensures { λ r. ⌜ r ≡ differs from to index ⌝ }
 {
-    let held = from.numbers;
-    let numbers = to.numbers;
-    held[index] != numbers[index]
+    let numbers = from.numbers;
+    let wanted = to.numbers;
+    numbers[index] != wanted[index]
 }
 
 // Returns 1 for what holds, else 0.
@@ -59,10 +59,10 @@ fn is_turned(from: Table, to: Table, lower: usize, higher: usize) -> bool
     requires { ⌜ (allowed to ≡ true) × (lower < count) × (higher < count) ⌝ }
     ensures { λ r. ⌜ r ≡ higherFirst from to lower higher ⌝ }
 {
-    let held = from.numbers;
-    let numbers = to.numbers;
+    let numbers = from.numbers;
+    let wanted = to.numbers;
     is_other(from, to, lower)
-        & (is_other(from, to, higher) & !settings::allows(lower, numbers[lower], held[higher]))
+        & (is_other(from, to, higher) & !settings::allows(lower, wanted[lower], numbers[higher]))
 }
 
 // Returns whether the two of the pair that a setting is in change places. A setting alone is its own partner, and stays.

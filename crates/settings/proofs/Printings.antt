@@ -1,6 +1,6 @@
--- The refusals of the nearest number, by the ids, ranges and pairs that are printed. Assumes nothing.
-use mathlib.Core.Path.{_≡_, refl, sym, ap, _∙_}
-use mathlib.Core.Bool.{Bool, true, false, cond, not, false≢true}
+-- What is allowed, and the refusals of the nearest number, by the ids, ranges and pairs that are printed. Assumes nothing.
+use mathlib.Core.Path.{_≡_, refl, sym, ap, ap₂, _∙_}
+use mathlib.Core.Bool.{Bool, true, false, cond, not, _&&_, false≢true}
 use mathlib.Core.List.{List, [], _∷_, map}
 use mathlib.Core.Option.{Option, none, some}
 use Prim.Native.Nat.{ℕ, suc, _<_}
@@ -10,12 +10,14 @@ use lib.ListN.{length, getD, drop}
 use lib.Dec.{ltb, eqb}
 use Rattle.laws.specs.Lists.{before}
 use Rattle.laws.proofs.Bools.{same-test}
-use Rattle.settings.specs.Columns.{count, ids, placeOf, partnerAt}
-use Rattle.settings.specs.Printed.{among, printedIds, partnerWithin}
-use Rattle.settings.specs.Rules.{inRange, nearestOf}
-use Rattle.settings.specs.Calls.{partnerFits, nearing}
-use Rattle.settings.specs.Laws.{refusalOf, NearestGivenWhen}
+use Rattle.laws.proofs.Lists.{upTo-at, upTo-all}
+use Rattle.settings.specs.Columns.{count, ids, idAt, placeOf, partnerAt, roleAt}
+use Rattle.settings.specs.Printed.{lines, among, printedIds, within, partnerWithin, printedAgrees}
+use Rattle.settings.specs.Rules.{inRange, lowAgrees, highAgrees, agrees, allowedFor, allAllowed, nearestOf}
+use Rattle.settings.specs.Calls.{ranging, allowing, partnerFits, nearing}
+use Rattle.settings.specs.Laws.{refusalOf, NearestGivenWhen, AllowedIsPrinted, PrintedIsTold, AllAllowedWhen}
 use Rattle.settings.specs.declared.Number.{Number}
+use Rattle.settings.proofs.Rows.{placed}
 
 -- two functions with the same answers, id by id
 answers-same : {A : Type 0} (f g : ℕ → A) (l : List ℕ) → map f l ≡ map g l → (id : ℕ) → among id l ≡ true → f id ≡ g id
@@ -46,6 +48,43 @@ before-among id (x ∷ l) = by (eqb id x) refl (before-among id l)
         → ltb (before (λ y. eqb y id) (x ∷ l)) (suc (length l)) ≡ among id (x ∷ l)
     by true q later = rw (q, eq-eqb x id (sym (eqb-true id x q))) (lt-ltb 0 (suc (length l)) (omega arith))
     by false q later = rw (q, ne-eqb x id (λ is. eqb-false id x q (sym is))) (ltb-suc (before (λ y. eqb y id) l) (length l) ∙ later)
+
+-- what the table makes of an id is what is printed for it, id by id; so also at each place
+range-by-id : (id : ℕ) → among id ids ≡ true → (n : ℕ) → inRange (placeOf id) n ≡ within lines id n
+unfolding inRange placeOf
+range-by-id id h n = ap (λ (f : ℕ → Bool). f n) (answers-same (λ x. inRange (placeOf x)) (within lines) ids refl id h)
+
+agrees-by-id : (id : ℕ) → among id ids ≡ true → (n partner : ℕ) → agrees (roleAt (placeOf id)) n partner ≡ printedAgrees id n partner
+unfolding agrees lowAgrees highAgrees placeOf
+agrees-by-id id h n partner =
+    ap (λ (f : ℕ → ℕ → Bool). f n partner) (answers-same (λ x. agrees (roleAt (placeOf x))) printedAgrees ids refl id h)
+
+module _ (k : ℕ) (h : k < count) where
+  id-among : among (idAt k) ids ≡ true
+  id-among = upTo-at count (λ i. among (idAt i) ids) refl k h
+
+  range-printed : (n : ℕ) → inRange k n ≡ within lines (idAt k) n
+  range-printed n = ap (λ (i : ℕ). inRange i n) (sym (placed k h)) ∙ range-by-id (idAt k) id-among n
+
+  agrees-printed : (n partner : ℕ) → agrees (roleAt k) n partner ≡ printedAgrees (idAt k) n partner
+  agrees-printed n partner = ap (λ (i : ℕ). agrees (roleAt i) n partner) (sym (placed k h)) ∙ agrees-by-id (idAt k) id-among n partner
+
+pub allowed-printed : AllowedIsPrinted
+unfolding allowedFor
+allowed-printed k n partner h = ap₂ _&&_ (range-printed k h n) (agrees-printed k h n partner)
+
+pub printed-told : PrintedIsTold
+unfolding ranging allowing
+printed-told k n partner h =
+    record { range-is = rw (lt-ltb k count h) (range-printed k h n); allowed-is = rw (lt-ltb k count h) (allowed-printed k n partner h) }
+
+pub all-printed : AllAllowedWhen
+unfolding allAllowed
+all-printed numbers = (
+  λ e k h. sym (allowed-printed k (getD numbers k 0) (getD numbers (partnerAt k) 0) h)
+      ∙ upTo-at count (λ i. allowedFor i (getD numbers i 0) (getD numbers (partnerAt i) 0)) e k h,
+  λ all. upTo-all count _ (λ k h. allowed-printed k (getD numbers k 0) (getD numbers (partnerAt k) 0) h ∙ all k h),
+)
 
 fits-printed : (id : ℕ) → among id ids ≡ true → (n : ℕ) → partnerFits (placeOf id) n ≡ partnerWithin id n
 unfolding partnerFits inRange partnerAt placeOf

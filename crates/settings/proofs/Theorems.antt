@@ -1,9 +1,9 @@
 -- The statements of specs/Laws.antt, proved. Assumes nothing.
 use mathlib.Core.Path.{refl}
-use Rattle.settings.specs.Laws.{NearestIsFound, NearestIsOne, NearestIsAnswered, NearestGivenWhen, TableIsPrinted, RangeHasRoom, AllowedHasRoom, RowsHold, IdsAreCount, PlaceIsFound, FindIsFound, FoundHasId}
+use Rattle.settings.specs.Laws.{NearestIsFound, NearestIsOne, NearestIsAnswered, NearestGivenWhen, TableIsPrinted, AllowedIsPrinted, PrintedIsTold, AllAllowedWhen, RangeHasRoom, AllowedHasRoom, RowsHold, IdsAreCount, PlaceIsFound, FindIsFound, FoundHasId}
 use Rattle.settings.proofs.Nearness.{nearest-one}
 use Rattle.settings.proofs.Windows.{nearest-found, nearest-answered, range-room, allowed-room}
-use Rattle.settings.proofs.Printings.{nearest-given}
+use Rattle.settings.proofs.Printings.{nearest-given, allowed-printed, printed-told, all-printed}
 use Rattle.settings.proofs.Rows.{row-holds, place-found, find-found, found-id}
 
 pub nearest-is-found : NearestIsFound
@@ -20,6 +20,15 @@ nearest-given-when = nearest-given
 
 pub table-is-printed : TableIsPrinted
 table-is-printed = (refl, refl)
+
+pub allowed-is-printed : AllowedIsPrinted
+allowed-is-printed = allowed-printed
+
+pub printed-is-told : PrintedIsTold
+printed-is-told = printed-told
+
+pub all-allowed-when : AllAllowedWhen
+all-allowed-when = all-printed
 
 pub range-has-room : RangeHasRoom
 range-has-room = range-room

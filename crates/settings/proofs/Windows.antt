@@ -1,13 +1,15 @@
 -- What is allowed for a setting is a window, and is never empty; so the nearest allowed number exists. Assumes nothing.
 use mathlib.Core.Path.{_≡_, refl, sym, ap, _∙_}
 use mathlib.Core.Logic.{⊎-elim}
-use mathlib.Core.Bool.{Bool, true, _&&_, and-true}
+use mathlib.Core.Bool.{Bool, true, false, _&&_, and-true}
+use mathlib.Core.List.{List}
 use Prim.Native.Nat.{ℕ, _^_, _≤_, _<_, min, max, zero-le}
 use native.Mathlib.Omega.{arith}
 use borrow.Author.Tests.{lt-ltb, le-leb, leb-true, eq-eqb, eqb-true}
+use lib.ListN.{getD}
 use lib.Dec.{leb, eqb}
 use Rattle.laws.proofs.Bools.{and-left, and-right, both, same-test, or-cases}
-use Rattle.settings.specs.Columns.{count, widthAt, lowAt, highAt, zeroAt, partnerAt, roleAt}
+use Rattle.settings.specs.Columns.{count, widthAt, lowAt, highAt, zeroAt, zeros, lows, highs, partnerAt, roleAt}
 use Rattle.settings.specs.Rules.{inWindow, inRange, agrees, allowedFor, Nearest, nearestOf}
 use Rattle.settings.specs.Calls.{partnerFits, nearing}
 use Rattle.settings.specs.Laws.{NearestIsAnswered, RangeHasRoom, AllowedHasRoom}
@@ -38,6 +40,12 @@ module _ (z : Bool) (low high p n : ℕ) where
       ⊎-elim (λ c. let is : n ≡ 0 = c .1 in window-zero (z && eqb p 0) (max low p) high n (both _ _ (c .0) (eq-eqb p 0 (omega arith))) (c .1))
       (λ c. let a : low ≤ n = c .0 in window-row (z && eqb p 0) (max low p) high n (omega arith) (c .1))
       (window-cases z low high n (and-left _ (leb p n) e)))
+
+-- a setting's own range, by columns that are the table's
+pub window-at : {zs : List Bool} {ls hs : List ℕ} → zs ≡ zeros → ls ≡ lows → hs ≡ highs
+    → (k n : ℕ) → inWindow (getD zs k false) (getD ls k 0) (getD hs k 0) n ≡ inRange k n
+unfolding inRange
+window-at z l h k n = rw (z, l, h)
 
 -- What is allowed, by the setting's part in its pair.
 

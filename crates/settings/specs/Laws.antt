@@ -3,15 +3,15 @@
 use Prim.Native.Nat.{ℕ, suc, _^_, _≤_, _<_}
 use mathlib.Core.Path.{_≡_}
 use mathlib.Core.Logic.{_↔_}
-use mathlib.Core.Bool.{true, not}
-use mathlib.Core.List.{[], _∷_, map}
+use mathlib.Core.Bool.{true, not, _&&_}
+use mathlib.Core.List.{List, [], _∷_, map}
 use mathlib.Core.Option.{Option, none, some}
-use lib.ListN.{length}
+use lib.ListN.{length, getD}
 use Rattle.laws.specs.Refusals.{row, firstOf}
 use Rattle.settings.specs.Columns.{count, entries, ids, idAt, widthAt, lowAt, highAt, factoryAt, partnerAt, roleAt}
-use Rattle.settings.specs.Printed.{among, printedIds, partnerWithin, printed}
-use Rattle.settings.specs.Rules.{inRange, agrees, allowedFor, Nearest, nearestOf}
-use Rattle.settings.specs.Calls.{settingAt, placing, finding, partnerFits, nearing}
+use Rattle.settings.specs.Printed.{lines, among, printedIds, within, partnerWithin, printedAgrees, printed}
+use Rattle.settings.specs.Rules.{inRange, agrees, allowedFor, allAllowed, Nearest, nearestOf}
+use Rattle.settings.specs.Calls.{settingAt, placing, finding, ranging, allowing, partnerFits, nearing}
 use Rattle.settings.specs.declared.columns.Role.{Role}
 use Rattle.settings.specs.declared.Setting.{Setting}
 use Rattle.settings.specs.declared.Found.{Found}
@@ -44,6 +44,26 @@ NearestGivenWhen =
 -- 2. The table is the one that is printed: for each of its ids the printed lines and pairs make the very row, and they have as many ids.
 abbrev pub TableIsPrinted : Type 0
 TableIsPrinted = (map printed ids ≡ map some entries) × (length printedIds ≡ count)
+
+-- "A number is allowed for a setting when it is in its own range and agrees with the partner now held", by the lines and pairs that are
+-- printed; and the calls tell it for every setting.
+abbrev pub AllowedIsPrinted : Type 0
+AllowedIsPrinted = (k n partner : ℕ) → k < count → allowedFor k n partner ≡ (within lines (idAt k) n && printedAgrees (idAt k) n partner)
+
+pub record Told (k n partner : ℕ) : Type 0 where
+  pub range-is : ranging k n ≡ within lines (idAt k) n
+  pub allowed-is : allowing k n partner ≡ (within lines (idAt k) n && printedAgrees (idAt k) n partner)
+
+abbrev pub PrintedIsTold : Type 0
+PrintedIsTold = (k n partner : ℕ) → k < count → Told k n partner
+
+-- all numbers at once are allowed exactly when each is so beside its partner's
+abbrev pub AllAllowedWhen : Type 0
+AllAllowedWhen =
+    (numbers : List ℕ)
+    → (allAllowed numbers ≡ true)
+    ↔ ((k : ℕ) → k < count
+    → (within lines (idAt k) (getD numbers k 0) && printedAgrees (idAt k) (getD numbers k 0) (getD numbers (partnerAt k) 0)) ≡ true)
 
 -- The columns, at every entry: the two of a pair are neighbours with opposite parts in it, and a setting alone has none. That the const arrays of
 -- src/columns.rt have the same entries is what their readers there promise.

@@ -72,6 +72,11 @@ abbrev pub within : List Line → ℕ → ℕ → Bool
 within [] id n = false
 within (l ∷ more) id n = cond (among id (l .ids)) ((l .zero-too && eqb n 0) || (leb (l .low) n && leb n (l .high))) (within more id n)
 
+-- the factory number printed for an id
+abbrev pub factoryIn : List Line → ℕ → Option ℕ
+factoryIn [] id = none
+factoryIn (l ∷ more) id = cond (among id (l .ids)) (some (l .factory)) (factoryIn more id)
+
 -- the other id of a printed pair
 abbrev pub otherIn : List (ℕ × ℕ) → ℕ → Option ℕ
 otherIn [] id = none
@@ -84,6 +89,18 @@ fitsOther (some other) n = within lines other n
 
 abbrev pub partnerWithin : ℕ → ℕ → Bool
 partnerWithin id n = fitsOther (otherIn (lowPairs ++ highPairs) id) n
+
+-- Whether a number for an id agrees with the one for the other id of its pair: "first at most second" of a low pair, "first at least second"
+-- of a high one; any does where no pair has the id.
+abbrev agreesIn : List (ℕ × ℕ) → (ℕ → ℕ → Bool) → ℕ → ℕ → ℕ → Bool → Bool
+agreesIn [] rule id n partner otherwise = otherwise
+agreesIn (p ∷ more) rule id n partner otherwise =
+    cond (eqb id (p .0)) (rule n partner) (cond (eqb id (p .1)) (rule partner n) (agreesIn more rule id n partner otherwise))
+
+abbrev pub printedAgrees : ℕ → ℕ → ℕ → Bool
+printedAgrees id n partner =
+    agreesIn lowPairs (λ first second. leb first second) id n partner
+    (agreesIn highPairs (λ first second. leb second first) id n partner true)
 
 -- the row of the table that the paper's lines and pairs make for an id
 abbrev lineOf : List Line → ℕ → Option Line

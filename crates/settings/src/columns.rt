@@ -309,7 +309,8 @@ pub(crate) fn role_of(index: usize) -> Role
     requires { ⌜ index < count ⌝ }
     ensures { λ r. ⌜ r ≡ roleAt index ⌝ }
 {
-    ROLES[index]
+    let roles = roles();
+    roles[index]
 }
 
 // Returns the place of an id, or the number of settings where it is none.

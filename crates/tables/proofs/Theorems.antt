@@ -1,11 +1,12 @@
 -- The statements of specs/Laws.antt, proved. Assumes nothing.
+use mathlib.Core.Path.{refl}
 use Rattle.laws.proofs.Lists.{upTo-all}
 use Rattle.settings.specs.Columns.{count}
 use Rattle.settings.specs.Rules.{allAllowed}
 use Rattle.settings.proofs.Windows.{allowed-both}
 use Rattle.settings.proofs.Theorems.{rows-hold}
 use Rattle.tables.specs.Rules.{allowed}
-use Rattle.tables.specs.Laws.{SetGivenWhen, SetStores, EqualIsAccepted, RefusedNamesNearest, SetKeepsAllowed, RefusedKeeps, SetKeepsCount, SetChangesOne, FactoryIsAllowed, PairsHaveAnOrder}
+use Rattle.tables.specs.Laws.{SetGivenWhen, SetStores, EqualIsAccepted, RefusedNamesNearest, SetKeepsAllowed, RefusedKeeps, SetKeepsCount, SetChangesOne, FactoryIsPrinted, FactoryIsAllowed, PairsHaveAnOrder}
 use Rattle.tables.proofs.Tables.{set-given, set-stores, equal-accepted, refused-names, set-allowed, refused-keeps, set-count, set-one, pairs-order}
 
 pub set-given-when : SetGivenWhen
@@ -31,6 +32,9 @@ set-keeps-count = set-count
 
 pub set-changes-one : SetChangesOne
 set-changes-one = set-one
+
+pub factory-is-printed : FactoryIsPrinted
+factory-is-printed = refl
 
 pub factory-is-allowed : FactoryIsAllowed
 unfolding allowed allAllowed

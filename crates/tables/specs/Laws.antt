@@ -4,12 +4,13 @@ use Prim.Native.Nat.{ℕ, _^_, _<_}
 use mathlib.Core.Path.{_≡_}
 use mathlib.Core.Logic.{_≢_}
 use mathlib.Core.Bool.{true, false, not, _||_}
-use mathlib.Core.List.{[], _∷_}
+use mathlib.Core.List.{[], _∷_, map}
 use mathlib.Core.Option.{Option, none, some}
 use lib.ListN.{length}
 use lib.Dec.{ltb}
 use Rattle.laws.specs.Refusals.{row, firstOf}
-use Rattle.settings.specs.Columns.{count, partnerAt, roleAt}
+use Rattle.settings.specs.Columns.{count, ids, partnerAt, roleAt}
+use Rattle.settings.specs.Printed.{lines, factoryIn}
 use Rattle.settings.specs.Rules.{agrees, allowedFor, Nearest}
 use Rattle.tables.specs.Rules.{numberAt, partnerNumber, allowed, factory}
 use Rattle.paper.specs.Numbers.{numberNotAllowed}
@@ -57,7 +58,10 @@ SetKeepsCount = (t : Table) (k n : ℕ) → length (setTo t k n .table .numbers)
 abbrev pub SetChangesOne : Type 0
 SetChangesOne = (t : Table) (k n j : ℕ) → j ≢ k → numberAt (setTo t k n .table) j ≡ numberAt t j
 
--- 2. The factory table is allowed.
+-- 2. The factory table has the factory number that is printed for each id, and it is allowed.
+abbrev pub FactoryIsPrinted : Type 0
+FactoryIsPrinted = map (factoryIn lines) ids ≡ map some (factory .numbers)
+
 abbrev pub FactoryIsAllowed : Type 0
 FactoryIsAllowed = allowed factory ≡ true
 

@@ -35,9 +35,8 @@ impl Table {
     pub fn factory() -> Table
         ensures { λ r. ⌜ r ≡ factory ⌝ }
     {
-        Table {
-            numbers: settings::factory_numbers(),
-        }
+        let numbers = settings::factory_numbers();
+        Table { numbers }
     }
 
     // Returns whether every number is in its own range and every pair agrees.
@@ -73,6 +72,7 @@ fn set_found(table: Table, setting: Setting, number: u16) -> Change
     let index = setting.index;
     let other = setting.partner;
     let partner = numbers[other];
+    numbers[index] = number;
     if !settings::allows(index, number, partner) {
         return refused(
             table,
@@ -80,7 +80,6 @@ fn set_found(table: Table, setting: Setting, number: u16) -> Change
             nearest_of(setting, number, partner),
         );
     }
-    numbers[index] = number;
     Change {
         answer: Answer::Accepted,
         table: Table { numbers },

@@ -12,6 +12,12 @@ mul-partner c = omega (arith, partner-in _ (c .before .pre .1))
 array-read-partner : tie.Need-array-read-partner
 array-read-partner c = partner-in _ (c .before .pre .1)
 
+mul-numbers : tie.Need-mul-numbers
+mul-numbers c = omega (arith, setting-below _ (c .before .pre .1))
+
+array-write-numbers : tie.Need-array-write-numbers
+array-write-numbers c = omega (arith, setting-below _ (c .before .pre .1))
+
 allows-requires : tie.Need-allows-requires
 allows-requires c κs = tt
 
@@ -32,12 +38,6 @@ returns c =
     ∙ rw (c .before .nearest-of .ensures, sym (partner-held _ found (s .args .table)))
     (sym (set-refused _ _ _ (s .pre .0) (setting-below _ found) (sym (allows-is _ found (s .args .table) _) ∙ sym (c3 .allows .ensures) ∙ not-true _ (c .before .before .if1 .taken))))
 
-mul-numbers : tie.Need-mul-numbers
-mul-numbers c = omega (arith, setting-below _ (c .before .before .before .pre .1))
-
-array-write-numbers : tie.Need-array-write-numbers
-array-write-numbers c = omega (arith, setting-below _ (c .before .before .before .pre .1))
-
 returns-2 : tie.Need-returns-2
 returns-2 c =
     let s = c .before .before .before in
@@ -48,4 +48,4 @@ pub set-found-spec : {M : Type 1} → statement M
 set-found-spec =
     tie.close
     (tie.spec
-    mul-partner array-read-partner allows-requires nearest-of-requires refused-requires returns mul-numbers array-write-numbers returns-2)
+    mul-partner array-read-partner mul-numbers array-write-numbers allows-requires nearest-of-requires refused-requires returns returns-2)

@@ -1,12 +1,14 @@
 -- `settings::rules::all_in_range` meets its contract. Assumes nothing.
 use Prim.Native.Nat.{_≤_, _-_}
-use mathlib.Core.Path.{_≡_, refl}
+use mathlib.Core.Path.{_≡_, refl, ap₂, _∙_}
+use mathlib.Core.Bool.{_&&_}
 use native.Mathlib.Omega.{arith}
 use native.Mathlib.Numerals.{add-one}
 use lib.ListN.{getD}
 use Rattle.laws.specs.Lists.{upTo}
 use Rattle.settings.specs.Columns.{count}
 use Rattle.settings.specs.Rules.{inRange}
+use Rattle.settings.proofs.Windows.{window-at}
 use Rattle.settings.proofs.rules.all_in_range.Statement.{statement}
 use Rattle.settings.proofs.rules.all_in_range.Tie as tie
 
@@ -59,9 +61,9 @@ loop-less : tie.Need-loop-less Inv-loop μ-loop
 loop-less c = omega arith
 
 loop-again : tie.Need-loop-again Inv-loop μ-loop
-unfolding inRange
 loop-again c =
-    (omega arith, rw (add-one, c .in-window .ensures, c .before .before .before .before .before .zeros .ensures, c .before .before .before .before .lows .ensures, c .before .before .before .highs .ensures, c .before .before .loop .inv .1))
+    let c3 = c .before .before .before in
+    (omega arith, rw add-one (ap₂ _&&_ (c .before .before .loop .inv .1) (c .in-window .ensures ∙ window-at (c3 .before .before .zeros .ensures) (c3 .before .lows .ensures) (c3 .highs .ensures) _ _)))
 
 returns : tie.Need-returns Inv-loop μ-loop
 returns c = let all : c .before .loop .i ≡ count = omega arith in rw all at (c .before .loop .inv .1)

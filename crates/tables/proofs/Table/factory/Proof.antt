@@ -6,7 +6,7 @@ factory-numbers-requires : tie.Need-factory-numbers-requires
 factory-numbers-requires c κs = tt
 
 returns : tie.Need-returns
-returns c = rw (c .factory-numbers .ensures)
+returns c = let is = c .factory-numbers .ensures in cc
 
 pub factory-spec : {M : Type 1} → statement M
 factory-spec =
