@@ -23,7 +23,7 @@ use Rattle.wire.specs.Laws as wire
 use Rattle.laws.specs.Lists.{Bytes}
 use Rattle.settings.specs.Columns.{count, idAt, widthAt}
 use Rattle.settings.specs.Rules.{allowedFor}
-use Rattle.settings.specs.Calls.{settingAt}
+use Rattle.settings.specs.declared.Setting.{Setting}
 use Rattle.tables.specs.Rules as tables
 use Rattle.tables.specs.Rules.{numberAt, partnerNumber, changed}
 use Rattle.tables.specs.declared.Table.{Table}
@@ -45,6 +45,7 @@ use Rattle.reply.specs.Replies.{flagOf, rest}
 use Rattle.reply.specs.Calls.{parsing}
 use Rattle.reply.specs.declared.Status.{Status}
 use Rattle.reply.specs.declared.Reply.{Reply}
+use Rattle.requests.specs.Laws as requests
 use Rattle.requests.specs.Calls.{getWritten, setWritten, writing}
 use Rattle.requests.specs.declared.Request.{Request}
 use Rattle.follow.specs.Laws as follow
@@ -208,9 +209,15 @@ pub record SetRead (k n : ℕ) (request more : List ℕ) : Type 0 where
 
 abbrev pub SetIsUnderstood : Type 0
 SetIsUnderstood =
-    (k n room : ℕ) (more : List ℕ) → k < count → n < 256 ^ widthAt k → frameRoom ≤ room
-    → SetRead k n (setWritten k n room .written) more
-    × SetRead k n (writing (Request.Set (record { setting = settingAt k; number = n })) room .written) more
+    (setting : Setting) (n room : ℕ) (more : List ℕ) → setting .index < count → setting .id ≡ idAt (setting .index) → n < 256 ^ widthAt (setting .index)
+    → frameRoom ≤ room
+    → SetRead (setting .index) n (setWritten (setting .index) n room .written) more
+    × SetRead (setting .index) n (writing (Request.Set (record { setting = setting; number = n })) room .written) more
+
+-- Of every other request no byte is written: 11 without room, then 12 for a Set of no setting, of one whose place and id do not belong together,
+-- or of a number that its width does not hold.
+abbrev pub OthersAreRefused : Type 0
+OthersAreRefused = requests.WriteGivenWhen
 
 -- 4. For any events on a stream, the count that the last of a row of calls on a follower tells is the number of them that matched the Set then
 -- due, by `matched`, which has no follower in it.
