@@ -52,7 +52,7 @@ named-allowed product version serial = by (serialFits serial) refl
     by false e = rw (named-refused product version serial e) nobody-allowed
 
 -- a serial by document 01's numbers
-fits-is : (serial : List ℕ) (b : Bool) → serialFits serial ≡ b → isSerial serial ≡ b
+pub fits-is : (serial : List ℕ) (b : Bool) → serialFits serial ≡ b → isSerial serial ≡ b
 unfolding serialFits
 fits-is serial b e = e
 

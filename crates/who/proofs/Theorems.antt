@@ -1,6 +1,7 @@
 -- The statements of specs/Laws.antt, proved. Assumes nothing.
-use Rattle.who.specs.Laws.{NamedIsAllowed, SerialIsKept, ValuesFit, NothingReadsZero, HeldIsReadOut, ReadOutIsHeld, EightAreReadOut, ReadOnlyGivenWhen, RefusedHasNoValue, NamedGivenWhen, NamedHoldsIt, ReadOnlyAnswersHeld}
+use Rattle.who.specs.Laws.{NamedIsAllowed, SerialIsKept, ValuesFit, NothingReadsZero, HeldIsReadOut, ReadOutIsHeld, EightAreReadOut, ReadOnlyGivenWhen, RefusedHasNoValue, NamedGivenWhen, NamedHoldsIt, AllowedIsNamed, ReadOnlyAnswersHeld}
 use Rattle.who.proofs.Identities.{named-allowed, serial-back, named-given, named-holds}
+use Rattle.who.proofs.Serials.{allowed-named}
 use Rattle.who.proofs.ReadOut.{values-small, nothing-zero, held-out, out-held, eight-out, read-only-given, refused-silent, read-only-held}
 
 pub named-is-allowed : NamedIsAllowed
@@ -14,6 +15,9 @@ named-given-when = named-given
 
 pub named-holds-it : NamedHoldsIt
 named-holds-it = named-holds
+
+pub allowed-is-named : AllowedIsNamed
+allowed-is-named = allowed-named
 
 pub values-fit : ValuesFit
 values-fit = values-small

@@ -2,6 +2,7 @@
 -- Assumes nothing.
 use Prim.Native.Nat.{ℕ, _-_, _/_, _%_, _≤_, _<_}
 use mathlib.Core.Path.{_≡_}
+use mathlib.Core.Logic.{_↔_}
 use mathlib.Core.Bool.{Bool, true, false, not, _&&_}
 use mathlib.Core.List.{List, [], _∷_, _++_}
 use mathlib.Core.Option.{Option, none, some}
@@ -47,6 +48,13 @@ pub record Names (product version : ℕ) (serial : List ℕ) (identity : Identit
 pub record NamedHoldsIt : Type 0 where
   pub accepted : (product version : ℕ) (serial : List ℕ) → isSerial serial ≡ true → Names product version serial (naming product version serial .identity)
   pub refused : (product version : ℕ) (serial : List ℕ) → isSerial serial ≡ false → Names 0 0 [] (naming product version serial .identity)
+
+-- An identity is allowed exactly where it is one that is accepted with such a serial. (The array has 32 bytes in every value of the type.)
+abbrev pub AllowedIsNamed : Type 0
+AllowedIsNamed =
+    (identity : Identity) → length (identity .serial) ≡ 32
+    → (identityAllowed identity ≡ true)
+    ↔ ((serial : List ℕ) × (isSerial serial ≡ true) × (naming (identity .product) (identity .version) serial .identity ≡ identity))
 
 -- 2. Every read-only value has at most 32 bytes.
 pub data Small : Option (List ℕ) → Type 0 where
