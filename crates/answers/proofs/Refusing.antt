@@ -19,6 +19,7 @@ use Rattle.tables.specs.Rules.{allowed, partnerNumber}
 use Rattle.tables.specs.Calls.{setTo}
 use Rattle.tables.proofs.Tables.{set-accepted, set-refused}
 use Rattle.endian.specs.Numbers.{fromLittle}
+use Rattle.who.specs.Parts.{identityAllowed}
 use Rattle.who.specs.Values.{readOnly, readOnlyIds, among}
 use Rattle.who.specs.Laws.{isSome}
 use Rattle.who.proofs.Theorems.{eight-are-read-out}
@@ -215,8 +216,8 @@ module _ (core : Core) (bytes : List ℕ) where
         pick-when J (eqb command 0xA) (λ e. rw (eqb-true command 0xA e)) (λ h. rw (unknown-one command a b c d f g h))))))))
 
 pub refusal-given : RefusalGivenWhen
-unfolding answering
-refusal-given core command bytes = by (coreAllowed core) refl
+unfolding answering coreAllowed
+refusal-given core command bytes = by (identityAllowed (core .identity) && allowed (core .table)) refl
   where
     by : (b : Bool) → coreAllowed core ≡ b
         → numberOf (cond b (frameAnswer core command bytes) (staying core (Outcome.Refused 12) silent) .outcome) ≡ cond (not b) (some 12) (firstOf (rows core command bytes))

@@ -2,7 +2,7 @@
 -- Assumes nothing.
 use Prim.Native.Nat.{ℕ, _^_, _<_}
 use mathlib.Core.Path.{_≡_}
-use mathlib.Core.Bool.{true, false, not}
+use mathlib.Core.Bool.{true, false, not, _&&_}
 use mathlib.Core.List.{List, [], _∷_}
 use lib.ListN.{length}
 use Rattle.paper.specs.Numbers as paper
@@ -17,7 +17,7 @@ use Rattle.who.specs.Parts.{identityAllowed}
 use Rattle.who.specs.Laws.{Holds}
 use Rattle.endian.specs.Numbers.{little}
 use Rattle.paper.specs.Numbers.{getCode, setCode}
-use Rattle.answers.specs.Answers.{coreAllowed, withTable, Sent, silent, sent, error, staying, said, frameAnswer, makes}
+use Rattle.answers.specs.Answers.{withTable, Sent, silent, sent, error, staying, said, frameAnswer, makes}
 use Rattle.answers.specs.Refusals.{rows, numberOf, Told}
 use Rattle.answers.specs.Calls.{answering}
 use Rattle.answers.specs.declared.Core.{Core}
@@ -82,7 +82,7 @@ SetRefusedNamesNearest =
 abbrev pub RefusalGivenWhen : Type 0
 RefusalGivenWhen =
     (core : Core) (command : ℕ) (bytes : List ℕ)
-    → numberOf (answering core command bytes .outcome) ≡ firstOf (row 12 (not (coreAllowed core)) ∷ rows core command bytes)
+    → numberOf (answering core command bytes .outcome) ≡ firstOf (row 12 (not (identityAllowed (core .identity) && allowed (core .table))) ∷ rows core command bytes)
 
 -- 7. The outcome, the reply and the board afterwards belong together. (Data are bytes in every value of the type.)
 abbrev pub OutcomeAndReply : Type 0

@@ -9,32 +9,48 @@ use lib.IntN.{ℤ, pos, negsuc, natAbs}
 use lib.Signed.{mag, nonNeg}
 use mir.Val.{SFits, Fits, toZ, ofZ, hbits}
 use mir.ValLaws.{toZ-ofZ}
-use mir.Syntax.{Width, w16, w64}
+use mir.Syntax.{Width, w16, w32, w64}
 use Rattle.laws.proofs.Bools.{and-left, and-right}
-use Rattle.board.specs.Parts.{within, sampleFits}
+use Rattle.board.specs.Parts.{fits16, fits32, fitsCharge, sampleFits}
 use Rattle.board.specs.declared.Sample.{Sample}
 
-mag-within : (m : ℕ) (x : ℤ) → within (negsuc m) (pos m) x ≡ true → mag x ≤ m
-mag-within m (pos n) e = leb-true n m e
-mag-within m (negsuc n) e = leb-true n m (and-left (leb n m) true e)
+-- how far a number that fits is from 0, or a negative one from -1
+mag-16 : (x : ℤ) → fits16 x ≡ true → mag x ≤ 0x7FFF
+mag-16 (pos n) e = let most = leb-true n _ e in omega arith
+mag-16 (negsuc n) e = leb-true n 0x7FFF (and-left (leb n 0x7FFF) true e)
 
-pub within-fits : (w : Width) (m : ℕ) → suc m ≡ 2 ^ hbits w → (x : ℤ) → within (negsuc m) (pos m) x ≡ true → SFits w x
-within-fits w m half x e = let few : mag x ≤ m = mag-within m x e in record { sfits = rw (sym half) (omega arith) }
+mag-32 : (x : ℤ) → fits32 x ≡ true → mag x ≤ 0x7FFFFFFF
+mag-32 (pos n) e = let most = leb-true n _ e in omega arith
+mag-32 (negsuc n) e = leb-true n 0x7FFFFFFF (and-left (leb n 0x7FFFFFFF) true e)
 
-mag-charge : (x : ℤ) → within (pos 0) (pos 0xFFFF) x ≡ true → mag x ≤ 0xFFFF
+mag-charge : (x : ℤ) → fitsCharge x ≡ true → mag x ≤ 0xFFFF
 mag-charge (pos n) e = leb-true n 0xFFFF (and-right (leb 0 n) _ e)
 mag-charge (negsuc n) e = absurd (false≢true e)
 
-pub charge-fits : (x : ℤ) → within (pos 0) (pos 0xFFFF) x ≡ true → T (nonNeg x) × Fits w16 (natAbs x)
+mag-fits : (w : Width) (m : ℕ) → suc m ≡ 2 ^ hbits w → (x : ℤ) → mag x ≤ m → SFits w x
+mag-fits w m half x few = record { sfits = rw (sym half) (omega arith) }
+
+pub fits-16 : (x : ℤ) → fits16 x ≡ true → SFits w16 x
+fits-16 x e = mag-fits w16 0x7FFF refl x (mag-16 x e)
+
+pub fits-32 : (x : ℤ) → fits32 x ≡ true → SFits w32 x
+fits-32 x e = mag-fits w32 0x7FFFFFFF refl x (mag-32 x e)
+
+pub charge-fits : (x : ℤ) → fitsCharge x ≡ true → T (nonNeg x) × Fits w16 (natAbs x)
 charge-fits (pos n) e = let few : n ≤ 0xFFFF = mag-charge (pos n) e in (tt, record { fits = omega arith })
 charge-fits (negsuc n) e = absurd (false≢true e)
+
+-- a charge is its own distance to 0
+pub charge-back : (x : ℤ) → fitsCharge x ≡ true → pos (natAbs x) ≡ x
+charge-back (pos n) e = refl
+charge-back (negsuc n) e = absurd (false≢true e)
 
 -- an argument of a call, as the call sees it
 pub kept : (x : ℤ) → SFits w64 x → toZ w64 (ofZ w64 x) ≡ x
 kept = toZ-ofZ w64
 
-pub within-kept : (low high x : ℤ) → SFits w64 x → within low high (toZ w64 (ofZ w64 x)) ≡ within low high x
-within-kept low high x fits = ap (within low high) (kept x fits)
+pub kept-in : (p : ℤ → Bool) (x : ℤ) → SFits w64 x → p (toZ w64 (ofZ w64 x)) ≡ p x
+kept-in p x fits = ap p (kept x fits)
 
 -- a cast to a narrower width keeps what fits it
 pub narrow : (w : Width) (x r : ℤ) → SFits w64 x → SFits w x → r ≡ toZ w64 (ofZ w64 x) → toZ w (ofZ w r) ≡ x
@@ -46,20 +62,20 @@ small-wide m x less few = record { sfits = omega arith }
 
 -- five numbers that fit, one by one
 pub record Fit (given : Sample) : Type 0 where
-  pub voltage : within (negsuc 0x7FFF) (pos 0x7FFF) (given .voltage) ≡ true
-  pub current : within (negsuc 0x7FFF) (pos 0x7FFF) (given .current) ≡ true
-  pub fine : within (negsuc 0x7FFFFFFF) (pos 0x7FFFFFFF) (given .fine) ≡ true
-  pub consumed : within (negsuc 0x7FFFFFFF) (pos 0x7FFFFFFF) (given .consumed) ≡ true
-  pub charge : within (pos 0) (pos 0xFFFF) (given .charge) ≡ true
+  pub voltage : fits16 (given .voltage) ≡ true
+  pub current : fits16 (given .current) ≡ true
+  pub fine : fits32 (given .fine) ≡ true
+  pub consumed : fits32 (given .consumed) ≡ true
+  pub charge : fitsCharge (given .charge) ≡ true
 
 pub fit-parts : (given : Sample) → sampleFits given ≡ true → Fit given
 unfolding sampleFits
 fit-parts given e =
-    let v : Bool = within (negsuc 0x7FFF) (pos 0x7FFF) (given .voltage) in
-    let i : Bool = within (negsuc 0x7FFF) (pos 0x7FFF) (given .current) in
-    let f : Bool = within (negsuc 0x7FFFFFFF) (pos 0x7FFFFFFF) (given .fine) in
-    let a : Bool = within (negsuc 0x7FFFFFFF) (pos 0x7FFFFFFF) (given .consumed) in
-    let c : Bool = within (pos 0) (pos 0xFFFF) (given .charge) in
+    let v : Bool = fits16 (given .voltage) in
+    let i : Bool = fits16 (given .current) in
+    let f : Bool = fits32 (given .fine) in
+    let a : Bool = fits32 (given .consumed) in
+    let c : Bool = fitsCharge (given .charge) in
     let four : (v && i && f && a) ≡ true = and-left (v && i && f && a) c e in
     let three : (v && i && f) ≡ true = and-left (v && i && f) a four in
     let two : (v && i) ≡ true = and-left (v && i) f three in
@@ -72,11 +88,11 @@ fit-parts given e =
     }
 
 -- a number that fits is at home at the widest width
-pub wide-16 : (x : ℤ) → within (negsuc 0x7FFF) (pos 0x7FFF) x ≡ true → SFits w64 x
-wide-16 x e = small-wide 0x7FFF x (leb-true _ _ refl) (mag-within 0x7FFF x e)
+pub wide-16 : (x : ℤ) → fits16 x ≡ true → SFits w64 x
+wide-16 x e = small-wide 0x7FFF x (leb-true _ _ refl) (mag-16 x e)
 
-pub wide-32 : (x : ℤ) → within (negsuc 0x7FFFFFFF) (pos 0x7FFFFFFF) x ≡ true → SFits w64 x
-wide-32 x e = small-wide 0x7FFFFFFF x (leb-true _ _ refl) (mag-within 0x7FFFFFFF x e)
+pub wide-32 : (x : ℤ) → fits32 x ≡ true → SFits w64 x
+wide-32 x e = small-wide 0x7FFFFFFF x (leb-true _ _ refl) (mag-32 x e)
 
-pub wide-charge : (x : ℤ) → within (pos 0) (pos 0xFFFF) x ≡ true → SFits w64 x
+pub wide-charge : (x : ℤ) → fitsCharge x ≡ true → SFits w64 x
 wide-charge x e = small-wide 0xFFFF x (leb-true _ _ refl) (mag-charge x e)

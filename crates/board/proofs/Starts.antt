@@ -1,8 +1,9 @@
 -- What a start and a store give, case by case. Assumes nothing.
 use mathlib.Core.Path.{_≡_, refl, sym, ap, _∙_}
-use mathlib.Core.Bool.{Bool, true, false, _&&_}
-use mathlib.Core.List.{List, []}
+use mathlib.Core.Bool.{Bool, true, false, cond, not, _&&_}
+use mathlib.Core.List.{List, [], _∷_}
 use Prim.Native.Nat.{ℕ}
+use Rattle.laws.specs.Refusals.{row, firstOf}
 use Rattle.laws.proofs.Bools.{and-left, and-right, both}
 use Rattle.stream.proofs.Reached.{left-allowed}
 use Rattle.tables.proofs.Theorems.{factory-is-allowed}
@@ -11,16 +12,19 @@ use Rattle.tables.specs.declared.Table.{Table}
 use Rattle.who.specs.Parts.{serialFits, identityOf, noIdentity, identityAllowed}
 use Rattle.paper.specs.Numbers.{notAllowed}
 use Rattle.who.specs.Calls.{naming}
+use Rattle.who.specs.Laws.{isSerial, refusalOf}
 use Rattle.who.specs.declared.Identity.{Identity}
 use Rattle.answers.specs.Answers.{coreAllowed, withReadings}
 use Rattle.who.specs.declared.Verdict.{Verdict}
 use Rattle.who.specs.declared.Named.{Named}
-use Rattle.who.proofs.Identities.{serial-back, identity-fits, nobody-allowed, named-accepted, named-refused}
+use Rattle.who.proofs.Identities.{serial-back, identity-fits, named-accepted, named-refused}
 use Rattle.board.specs.Parts.{freshBoard, sampleFits, readingsOf, boardAllowed}
 use Rattle.board.specs.Calls.{refusedStart, starting, storing}
-use Rattle.board.specs.Laws.{StartIsAllowed, StartHoldsIt, StartIsRefused, StoreStores, StoreKeepsAllowed}
+use Rattle.board.specs.Laws.{StartIsAllowed, StartHoldsIt, StartGivenWhen, StartIsRefused, StoreStores, isSample, StoreGivenWhen, StoreKeepsAllowed}
 use Rattle.board.specs.declared.Board.{Board}
 use Rattle.board.specs.declared.Sample.{Sample}
+use Rattle.board.specs.declared.Handed.{Handed}
+use Rattle.board.proofs.Signs.{fit-parts, charge-back}
 
 module _ (product version : ℕ) (serial : List ℕ) (table : Table) where
   pub start-refused : (serialFits serial && allowed table) ≡ false
@@ -68,8 +72,8 @@ unfolding boardAllowed coreAllowed freshBoard
 fresh-allowed identity table i t = both _ _ (both _ _ i t) (left-allowed [])
 
 refused-allowed : boardAllowed (refusedStart .board) ≡ true
-unfolding refusedStart
-refused-allowed = fresh-allowed noIdentity factory nobody-allowed factory-is-allowed
+unfolding refusedStart noIdentity serialFits
+refused-allowed = fresh-allowed _ factory (identity-fits _ _ [] refl) factory-is-allowed
 
 pub start-allowed : StartIsAllowed
 start-allowed product version serial table = by (serialFits serial && allowed table) refl
@@ -81,9 +85,21 @@ start-allowed product version serial table = by (serialFits serial && allowed ta
     by false e = rw (start-refused product version serial table e) refused-allowed
 
 pub store-stores : StoreStores
+unfolding readingsOf
 store-stores board given ok fits =
     let is = store-accepted board given (both _ _ ok fits) in
-    record { accepted = rw is; core-is = rw is; held-same = rw is }
+    record {
+      accepted = rw is;
+      voltage-is = rw is;
+      current-is = rw is;
+      fine-is = rw is;
+      consumed-is = rw is;
+      charge-is = rw is (charge-back (given .charge) (fit-parts given fits .charge));
+      identity-same = rw is;
+      table-same = rw is;
+      held-same = rw is;
+      core-is = rw is;
+    }
 
 pub store-allowed : StoreKeepsAllowed
 unfolding boardAllowed coreAllowed
@@ -92,6 +108,28 @@ store-allowed board given ok = by (boardAllowed board && sampleFits given) refl
     by : (b : Bool) → (boardAllowed board && sampleFits given) ≡ b → boardAllowed (storing board given .board) ≡ true
     by true e = rw (store-accepted board given e) ok
     by false e = rw (store-refused board given e) ok
+
+-- 12, by document 01's numbers
+pub start-given : StartGivenWhen
+unfolding starting serialFits refusedStart
+start-given product version serial table = by (isSerial serial && allowed table)
+  where
+    by : (b : Bool)
+        → refusalOf (cond b (record { board = freshBoard (identityOf product version serial) table; verdict = Verdict.Accepted }) refusedStart .verdict)
+        ≡ firstOf (row 12 (not b) ∷ [])
+    by true = refl
+    by false = refl
+
+pub store-given : StoreGivenWhen
+unfolding storing sampleFits
+store-given board given = by (boardAllowed board && isSample given)
+  where
+    stored : Handed
+    stored = record { board = record { core = withReadings (board .core) (readingsOf given); held = board .held }; verdict = Verdict.Accepted }
+
+    by : (b : Bool) → refusalOf (cond b stored (record { board = board; verdict = Verdict.Refused notAllowed }) .verdict) ≡ firstOf (row 12 (not b) ∷ [])
+    by true = refl
+    by false = refl
 
 -- a start by what became of its identity
 abbrev accepts : Verdict → Bool

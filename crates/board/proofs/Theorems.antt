@@ -1,6 +1,6 @@
 -- The statements of specs/Laws.antt, proved. Assumes nothing.
-use Rattle.board.specs.Laws.{StartIsAllowed, StartHoldsIt, StartIsRefused, StoreStores, StoreIsRefused, StoreKeepsAllowed, AnswerKeepsAllowed, RefusalKeeps, CallIsRefused, WholeIsAnswered, GetAnswersHeld, GetAnswersReadOnly, SetStoresIt, SetOfEqualIsAccepted, SetRefusedNamesNearest, AllowedIsGiven, RefusalGivenWhen, OutcomeAndReply}
-use Rattle.board.proofs.Starts.{start-allowed, start-holds, start-back, store-stores, store-refused, store-allowed}
+use Rattle.board.specs.Laws.{StartIsAllowed, StartHoldsIt, StartGivenWhen, StartIsRefused, StoreStores, StoreGivenWhen, StoreIsRefused, StoreKeepsAllowed, AnswerKeepsAllowed, RefusalKeeps, CallIsRefused, WholeIsAnswered, GetAnswersHeld, GetAnswersReadOnly, SetStoresIt, SetOfEqualIsAccepted, SetRefusedNamesNearest, AllowedIsGiven, RefusalGivenWhen, OutcomeAndReply}
+use Rattle.board.proofs.Starts.{start-allowed, start-holds, start-given, start-back, store-stores, store-given, store-refused, store-allowed}
 use Rattle.board.proofs.Keeping.{answer-allowed, refusal-keeps}
 use Rattle.board.proofs.Pieces.{answering-short, answering-stray}
 use Rattle.board.proofs.Replying.{whole-answered, get-held, get-read-only, set-stores, set-equal, set-names}
@@ -13,11 +13,17 @@ start-is-allowed = start-allowed
 pub start-holds-it : StartHoldsIt
 start-holds-it = start-holds
 
+pub start-given-when : StartGivenWhen
+start-given-when = start-given
+
 pub start-is-refused : StartIsRefused
 start-is-refused = start-back
 
 pub store-stores-it : StoreStores
 store-stores-it = store-stores
+
+pub store-given-when : StoreGivenWhen
+store-given-when = store-given
 
 pub store-is-refused : StoreIsRefused
 store-is-refused = store-refused

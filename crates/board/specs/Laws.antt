@@ -3,15 +3,16 @@
 use Prim.Native.Nat.{ℕ, _^_, _≤_, _<_}
 use mathlib.Core.Path.{_≡_}
 use mathlib.Core.Logic.{_↔_}
-use mathlib.Core.Bool.{true, false, _&&_}
-use mathlib.Core.List.{List, []}
+use mathlib.Core.Bool.{Bool, true, false, not, _&&_}
+use mathlib.Core.List.{List, [], _∷_}
 use lib.ListN.{length}
-use lib.IntN.{pos, negsuc}
+use lib.IntN.{ℤ, pos, negsuc}
+use lib.Signed.{leZ}
 use Rattle.paper.specs.Numbers as paper
 use Rattle.laws.specs.Promise.{Given}
 use Rattle.paper.specs.Numbers.{frameRoom, mostSerial, getCode, setCode}
 use Rattle.wire.specs.Frame.{frame}
-use Rattle.laws.specs.Refusals.{firstOf}
+use Rattle.laws.specs.Refusals.{row, firstOf}
 use Rattle.stream.specs.Stream.{outside}
 use Rattle.stream.specs.Calls.{mostHeld, heldOf}
 use Rattle.wire.specs.Laws.{Writable}
@@ -19,7 +20,7 @@ use Rattle.settings.specs.Columns.{count, idAt, widthAt}
 use Rattle.settings.specs.Rules.{allowedFor, Nearest}
 use Rattle.tables.specs.Rules.{factory, allowed, numberAt, partnerNumber, changed}
 use Rattle.tables.specs.declared.Table.{Table}
-use Rattle.who.specs.Laws.{Holds}
+use Rattle.who.specs.Laws.{isSerial, refusalOf, Holds}
 use Rattle.who.specs.Parts.{serialFits, serialOf, noReadings}
 use Rattle.endian.specs.Numbers.{little}
 use Rattle.answers.specs.Answers.{withTable, withReadings, said, frameAnswer}
@@ -54,20 +55,49 @@ StartHoldsIt =
     (product version : ℕ) (serial : List ℕ) (table : Table) → serialFits serial ≡ true → allowed table ≡ true
     → Started product version serial table (starting product version serial table)
 
+-- 12 exactly where the serial is not "0 to 32 bytes of 0x20..0x7E", or the table is not allowed.
+abbrev pub StartGivenWhen : Type 0
+StartGivenWhen =
+    (product version : ℕ) (serial : List ℕ) (table : Table)
+    → refusalOf (starting product version serial table .verdict) ≡ firstOf (row 12 (not (isSerial serial && allowed table)) ∷ [])
+
 -- "A refused start (12) returns product and version 0, an empty serial and the factory table", and else as a start does.
 abbrev pub StartIsRefused : Type 0
 StartIsRefused =
     (product version : ℕ) (serial : List ℕ) (table : Table) → (serialFits serial && allowed table) ≡ false
     → starting product version serial table ≡ record { board = starting 0 0 [] factory .board; verdict = Verdict.Refused 12 }
 
--- 2. Readings that fit are stored, and a board stays what it was in all else: allowed if it was.
+-- 2. Readings that fit are stored, each as it was given, and a board stays what it was in all else: allowed if it was. (`core-is` says it of
+-- the core as one value.)
 pub record Stored (board : Board) (given : Sample) : Type 0 where
   pub accepted : storing board given .verdict ≡ Verdict.Accepted
-  pub core-is : storing board given .board .core ≡ withReadings (board .core) (readingsOf given)
+  pub voltage-is : storing board given .board .core .readings .voltage ≡ given .voltage
+  pub current-is : storing board given .board .core .readings .current ≡ given .current
+  pub fine-is : storing board given .board .core .readings .fine ≡ given .fine
+  pub consumed-is : storing board given .board .core .readings .consumed ≡ given .consumed
+  pub charge-is : pos (storing board given .board .core .readings .charge) ≡ given .charge
+  pub identity-same : storing board given .board .core .identity ≡ board .core .identity
+  pub table-same : storing board given .board .core .table ≡ board .core .table
   pub held-same : storing board given .board .held ≡ board .held
+  pub core-is : storing board given .board .core ≡ withReadings (board .core) (readingsOf given)
 
 abbrev pub StoreStores : Type 0
 StoreStores = (board : Board) (given : Sample) → boardAllowed board ≡ true → sampleFits given ≡ true → Stored board given
+
+-- 12 exactly where the board is not allowed or one of the five "does not fit its width": signed 16, signed 16, signed 32, signed 32, unsigned
+-- 16. (`negsuc n` is the number n + 1 below 0.)
+abbrev pub fromTo : ℤ → ℤ → ℤ → Bool
+fromTo low high x = leZ low x && leZ x high
+
+abbrev pub isSample : Sample → Bool
+isSample given =
+    fromTo (negsuc 32767) (pos 32767) (given .voltage) && fromTo (negsuc 32767) (pos 32767) (given .current)
+    && fromTo (negsuc 2147483647) (pos 2147483647) (given .fine) && fromTo (negsuc 2147483647) (pos 2147483647) (given .consumed)
+    && fromTo (pos 0) (pos 65535) (given .charge)
+
+abbrev pub StoreGivenWhen : Type 0
+StoreGivenWhen =
+    (board : Board) (given : Sample) → refusalOf (storing board given .verdict) ≡ firstOf (row 12 (not (boardAllowed board && isSample given)) ∷ [])
 
 -- "one that does not fit its width is refused (12) and none of the five changes"
 abbrev pub StoreIsRefused : Type 0

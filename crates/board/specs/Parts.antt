@@ -18,11 +18,17 @@ use Rattle.board.specs.declared.Board.{Board}
 abbrev pub within : ℤ → ℤ → ℤ → Bool
 within low high x = leZ low x && leZ x high
 
+abbrev pub fits16 : ℤ → Bool
+fits16 x = within (negsuc 0x7FFF) (pos 0x7FFF) x
+
+abbrev pub fits32 : ℤ → Bool
+fits32 x = within (negsuc 0x7FFFFFFF) (pos 0x7FFFFFFF) x
+
+abbrev pub fitsCharge : ℤ → Bool
+fitsCharge x = within (pos 0) (pos 0xFFFF) x
+
 unfoldable pub sampleFits : Sample → Bool
-sampleFits given =
-    within (negsuc 0x7FFF) (pos 0x7FFF) (given .voltage) && within (negsuc 0x7FFF) (pos 0x7FFF) (given .current)
-    && within (negsuc 0x7FFFFFFF) (pos 0x7FFFFFFF) (given .fine) && within (negsuc 0x7FFFFFFF) (pos 0x7FFFFFFF) (given .consumed)
-    && within (pos 0) (pos 0xFFFF) (given .charge)
+sampleFits given = fits16 (given .voltage) && fits16 (given .current) && fits32 (given .fine) && fits32 (given .consumed) && fitsCharge (given .charge)
 
 unfoldable pub readingsOf : Sample → Readings
 readingsOf given =

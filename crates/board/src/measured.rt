@@ -1,7 +1,7 @@
 ghost use mathlib.Core.Path.{_≡_};
 ghost use mathlib.Core.Bool.{true};
-ghost use lib.IntN.{pos, negsuc, natAbs};
-ghost use Rattle.board.specs.Parts.{within, sampleFits, readingsOf};
+ghost use lib.IntN.{natAbs};
+ghost use Rattle.board.specs.Parts.{within, fits16, fits32, fitsCharge, sampleFits, readingsOf};
 use crate::Sample;
 use crate::numbers;
 use who::Readings;
@@ -26,7 +26,7 @@ pub(crate) fn fit(given: Sample) -> bool
 
 // Returns a number that fits signed 16, at that width.
 fn as_16(x: i64) -> i16
-    requires { ⌜ within (negsuc 0x7FFF) (pos 0x7FFF) x ≡ true ⌝ }
+    requires { ⌜ fits16 x ≡ true ⌝ }
     ensures { λ r. ⌜ r ≡ x ⌝ }
 {
     x as i16
@@ -34,7 +34,7 @@ fn as_16(x: i64) -> i16
 
 // Returns a number that fits signed 32, at that width.
 fn as_32(x: i64) -> i32
-    requires { ⌜ within (negsuc 0x7FFFFFFF) (pos 0x7FFFFFFF) x ≡ true ⌝ }
+    requires { ⌜ fits32 x ≡ true ⌝ }
     ensures { λ r. ⌜ r ≡ x ⌝ }
 {
     x as i32
@@ -42,7 +42,7 @@ fn as_32(x: i64) -> i32
 
 // Returns a number that fits unsigned 16, at that width.
 fn as_charge(x: i64) -> u16
-    requires { ⌜ within (pos 0) (pos 0xFFFF) x ≡ true ⌝ }
+    requires { ⌜ fitsCharge x ≡ true ⌝ }
     ensures { λ r. ⌜ r ≡ natAbs x ⌝ }
 {
     x as u16

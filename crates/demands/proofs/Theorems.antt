@@ -1,10 +1,11 @@
 -- The statements of specs/, proved. Assumes nothing.
-use Rattle.demands.specs.Demand2.{WrittenIsRead, WrittenIsHeard, ReadIsWritten, RepliesAreUnderstood, GetIsUnderstood, SetIsUnderstood, CountIsMatched, GoodAreAnswered, RefusalGivenWhen, OutcomeAndReply, WrittenIsAnswered, WrittenSums, ReadSums}
+use Rattle.demands.specs.Demand2.{WrittenIsRead, WrittenIsHeard, ReadIsWritten, RepliesAreUnderstood, GetIsUnderstood, SetIsUnderstood, OthersAreRefused, CountIsMatched, GoodAreAnswered, RefusalGivenWhen, OutcomeAndReply, WrittenIsAnswered, WrittenSums, ReadSums}
 use Rattle.demands.specs.Demand3.{BoardDecides, AnyCutting, CuttingChangesNothing, EmptyChangesNothing, AllIsTaken, OneSetForEach, DueIsNext, OneCallForEach, ListIsAccepted, ListIsConfirmed}
 use Rattle.demands.specs.Shams.{ShamsFall, RefusingDecides, RealPass}
 use Rattle.demands.specs.Lines.{ThirteenHold}
 use Rattle.wire.proofs.Theorems as wire
 use Rattle.board.proofs.Theorems as board
+use Rattle.requests.proofs.Theorems as requests
 use Rattle.follow.proofs.Theorems as follow
 use Rattle.demands.proofs.Understanding.{heard-written, get-understood, set-understood, answered-written}
 use Rattle.demands.proofs.Replies.{replies-understood}
@@ -60,6 +61,9 @@ get-is-understood = get-understood
 
 pub set-is-understood : SetIsUnderstood
 set-is-understood = set-understood
+
+pub others-are-refused : OthersAreRefused
+others-are-refused = requests.write-given-when
 
 pub count-is-matched : CountIsMatched
 count-is-matched = follow.count-is-told

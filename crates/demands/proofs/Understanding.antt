@@ -21,7 +21,6 @@ use Rattle.endian.proofs.Theorems.{little-is-read}
 use Rattle.stream.proofs.Theorems.{written-is-heard, heard-from-anywhere}
 use Rattle.listen.proofs.Hearing.{box-whole}
 use Rattle.settings.specs.Columns.{count, idAt, widthAt, placeOf}
-use Rattle.settings.specs.Calls.{settingAt}
 use Rattle.settings.proofs.Theorems.{rows-hold}
 use Rattle.answers.specs.Answers.{said}
 use Rattle.answers.specs.Requests.{setData, setRequest}
@@ -102,7 +101,8 @@ set-read k n more h fits given e =
     }
 
 pub set-understood : SetIsUnderstood
-set-understood k n room more h fits enough = (
-  set-read k n more h fits (setWritten k n room) (set-is-request k n room h fits enough),
-  set-read k n more h fits (writing (Request.Set (record { setting = settingAt k; number = n })) room) (request-is-set k n room h fits enough),
-)
+set-understood setting n room more h is fits enough =
+    let k : ℕ = setting .index in (
+      set-read k n more h fits (setWritten k n room) (set-is-request k n room h fits enough),
+      set-read k n more h fits (writing (Request.Set (record { setting = setting; number = n })) room) (request-is-set setting n room h is fits enough),
+    )

@@ -6,6 +6,7 @@ use mathlib.Core.Path.{_≡_}
 use mathlib.Core.Bool.{true}
 use mathlib.Core.List.{List, [], _∷_, _++_}
 use lib.ListN.{length, take}
+use lib.IntN.{pos}
 use Rattle.paper.specs.Numbers as paper
 use Rattle.laws.specs.Promise.{Given}
 use Rattle.laws.specs.Cutting as Cutting
@@ -23,21 +24,22 @@ use Rattle.wire.specs.Laws as wire
 use Rattle.laws.specs.Lists.{Bytes}
 use Rattle.settings.specs.Columns.{count, idAt, widthAt}
 use Rattle.settings.specs.Rules.{allowedFor}
-use Rattle.settings.specs.Calls.{settingAt}
+use Rattle.settings.specs.declared.Setting.{Setting}
 use Rattle.tables.specs.Rules as tables
 use Rattle.tables.specs.Rules.{numberAt, partnerNumber, changed}
 use Rattle.tables.specs.declared.Table.{Table}
-use Rattle.who.specs.Parts.{serialFits, identityOf, noReadings}
-use Rattle.who.specs.Laws.{Holds}
+use Rattle.who.specs.Parts.{identityOf, noReadings}
+use Rattle.who.specs.Laws.{isSerial, Holds}
+use Rattle.who.specs.declared.Readings.{Readings}
 use Rattle.answers.specs.Answers.{withTable, Sent, silent, sent, error, said}
 use Rattle.answers.specs.Requests.{getRequest, setData, setRequest}
 use Rattle.board.specs.Calls.{answering, starting, storing}
 use Rattle.listen.specs.Hearing.{boxHearing, boxHears}
 use Rattle.answers.specs.declared.Outcome.{Outcome}
-use Rattle.board.specs.Parts.{boardAllowed, sampleFits, readingsOf}
+use Rattle.board.specs.Parts.{boardAllowed}
 use Rattle.board.specs.Refusals.{Says}
 use Rattle.board.specs.Laws as board
-use Rattle.board.specs.Laws.{atRest, comesTo}
+use Rattle.board.specs.Laws.{isSample, atRest, comesTo}
 use Rattle.board.specs.declared.Board.{Board}
 use Rattle.board.specs.declared.Sample.{Sample}
 use Rattle.board.specs.declared.Answered.{Answered}
@@ -45,6 +47,7 @@ use Rattle.reply.specs.Replies.{flagOf, rest}
 use Rattle.reply.specs.Calls.{parsing}
 use Rattle.reply.specs.declared.Status.{Status}
 use Rattle.reply.specs.declared.Reply.{Reply}
+use Rattle.requests.specs.Laws as requests
 use Rattle.requests.specs.Calls.{getWritten, setWritten, writing}
 use Rattle.requests.specs.declared.Request.{Request}
 use Rattle.follow.specs.Laws as follow
@@ -124,14 +127,21 @@ EqualsAccepted answer =
 -- the value held is what the start was given, with readings 0, and then what the last store was given
 abbrev pub StartIsReadOut : (Board → List ℕ → ℕ → Given Answered) → Type 0
 StartIsReadOut answer =
-    (product version : ℕ) (serial : List ℕ) (table : Table) (id : ℕ) (value : List ℕ) (room : ℕ) → serialFits serial ≡ true → tables.allowed table ≡ true
+    (product version : ℕ) (serial : List ℕ) (table : Table) (id : ℕ) (value : List ℕ) (room : ℕ) → isSerial serial ≡ true → tables.allowed table ≡ true
     → frameRoom ≤ room → Holds (identityOf product version serial) noReadings id value
     → answer (starting product version serial table .board) (getRequest id) room .written ≡ frame getCode (said id 0 value)
 
+pub record Measured (given : Sample) (readings : Readings) : Type 0 where
+  pub voltage-is : readings .voltage ≡ given .voltage
+  pub current-is : readings .current ≡ given .current
+  pub fine-is : readings .fine ≡ given .fine
+  pub consumed-is : readings .consumed ≡ given .consumed
+  pub charge-is : pos (readings .charge) ≡ given .charge
+
 abbrev pub StoreIsReadOut : (Board → List ℕ → ℕ → Given Answered) → Type 0
 StoreIsReadOut answer =
-    (board : Board) (given : Sample) (id : ℕ) (value : List ℕ) (room : ℕ) → boardAllowed board ≡ true → atRest board → sampleFits given ≡ true
-    → frameRoom ≤ room → Holds (board .core .identity) (readingsOf given) id value
+    (board : Board) (given : Sample) (readings : Readings) (id : ℕ) (value : List ℕ) (room : ℕ) → boardAllowed board ≡ true → atRest board
+    → isSample given ≡ true → Measured given readings → frameRoom ≤ room → Holds (board .core .identity) readings id value
     → answer (storing board given .board) (getRequest id) room .written ≡ frame getCode (said id 0 value)
 
 pub record GoodAreAnswered : Type 0 where
@@ -208,9 +218,15 @@ pub record SetRead (k n : ℕ) (request more : List ℕ) : Type 0 where
 
 abbrev pub SetIsUnderstood : Type 0
 SetIsUnderstood =
-    (k n room : ℕ) (more : List ℕ) → k < count → n < 256 ^ widthAt k → frameRoom ≤ room
-    → SetRead k n (setWritten k n room .written) more
-    × SetRead k n (writing (Request.Set (record { setting = settingAt k; number = n })) room .written) more
+    (setting : Setting) (n room : ℕ) (more : List ℕ) → setting .index < count → setting .id ≡ idAt (setting .index) → n < 256 ^ widthAt (setting .index)
+    → frameRoom ≤ room
+    → SetRead (setting .index) n (setWritten (setting .index) n room .written) more
+    × SetRead (setting .index) n (writing (Request.Set (record { setting = setting; number = n })) room .written) more
+
+-- Of every other request no byte is written: 11 without room, then 12 for a Set of no setting, of one whose place and id do not belong together,
+-- or of a number that its width does not hold.
+abbrev pub OthersAreRefused : Type 0
+OthersAreRefused = requests.WriteGivenWhen
 
 -- 4. For any events on a stream, the count that the last of a row of calls on a follower tells is the number of them that matched the Set then
 -- due, by `matched`, which has no follower in it.

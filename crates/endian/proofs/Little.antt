@@ -1,8 +1,9 @@
 -- Numbers as bytes: how many there are, and that they are bytes. Assumes nothing.
-use mathlib.Core.Path.{_≡_, refl, ap}
+use mathlib.Core.Path.{_≡_, refl, sym, ap, _∙_}
 use mathlib.Core.Bool.{true}
 use mathlib.Core.List.{List, [], _∷_}
-use Prim.Native.Nat.{ℕ, zero, suc, _+_, _*_, _≤_, _<_, _%_}
+use Prim.Native.Nat.{ℕ, zero, suc, _+_, _*_, _/_, _%_, _^_, _≤_, _<_}
+use native.Mathlib.Nat.{not-suc-le-zero, le-of-suc-le-suc, div-one, div-div-eq-div-mul, pow-succ'}
 use native.Mathlib.Omega.{arith}
 use borrow.Author.Tests.{lt-ltb}
 use lib.ListN.{length, getD, take}
@@ -18,6 +19,14 @@ length-little (suc width) n = ap suc (length-little width _)
 pub bytes-little : (width n : ℕ) → every byte (little width n) ≡ true
 bytes-little zero n = refl
 bytes-little (suc width) n = let low : n % 256 < 256 = omega arith in both _ _ (lt-ltb (n % 256) 256 low) (bytes-little width _)
+
+-- the byte at a place, by how often 256 to that place goes into the number
+pub byte-little : (width n i : ℕ) → i < width → getD (little width n) i 0 ≡ n / 256 ^ i % 256
+byte-little zero n i h = absurd (not-suc-le-zero h)
+byte-little (suc width) n zero h = ap (λ (m : ℕ). m % 256) (sym (div-one n))
+byte-little (suc width) n (suc i) h =
+    byte-little width (n / 256) i (le-of-suc-le-suc h)
+    ∙ ap (λ (m : ℕ). m % 256) (div-div-eq-div-mul n 256 (256 ^ i) ∙ ap (λ (p : ℕ). n / p) (sym (pow-succ' 256 i)))
 
 -- the first bytes are all of them, where there are no more
 pub all-first : (width : ℕ) (l : List ℕ) → length l ≤ width → fromLittle (take width l) ≡ fromLittle l

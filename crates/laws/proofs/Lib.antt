@@ -4,3 +4,4 @@ pub mod Lists
 pub mod Promise
 pub mod Fronts
 pub mod Cutting
+pub mod Theorems

@@ -3,3 +3,4 @@ pub mod Lists
 pub mod Promise
 pub mod Cutting
 pub mod Refusals
+pub mod Laws

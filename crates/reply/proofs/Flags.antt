@@ -1,7 +1,7 @@
 -- The flags of the statuses, and the frames that answer a request. Assumes nothing.
 use mathlib.Core.Path.{_≡_, refl, sym, ap, _∙_}
-use mathlib.Core.Logic.{_≢_, ⊎-elim}
-use mathlib.Core.Bool.{Bool, true, false, _||_}
+use mathlib.Core.Logic.{_≢_}
+use mathlib.Core.Bool.{Bool, true, false, false≢true}
 use mathlib.Core.List.{List}
 use Prim.Native.Nat.{ℕ, _/_, _%_}
 use native.Mathlib.Omega.{arith}
@@ -9,7 +9,7 @@ use borrow.Author.Tests.{eq-eqb, eqb-true}
 use lib.ListN.{getD}
 use lib.Dec.{eqb, ltb}
 use Rattle.laws.specs.Lists.{same, Bytes}
-use Rattle.laws.proofs.Bools.{and-left, and-right, or-cases, both}
+use Rattle.laws.proofs.Bools.{and-left, and-right, both}
 use Rattle.laws.proofs.Lists.{same-back, same-self}
 use Rattle.endian.specs.Numbers.{little}
 use Rattle.endian.proofs.Little.{bytes-little}
@@ -19,12 +19,18 @@ use Rattle.reply.specs.Events.{isFlag, answers}
 use Rattle.reply.specs.declared.Status.{Status}
 
 status-of : (flag : ℕ) → isFlag flag ≡ true → (status : Status) × (flag ≡ flagOf status)
-status-of flag e =
-    ⊎-elim (λ is. (Status.Good, eqb-true _ _ is))
-    (λ e1. ⊎-elim (λ is. (Status.UnknownId, eqb-true _ _ is))
-    (λ e2. ⊎-elim (λ is. (Status.NotSupported, eqb-true _ _ is)) (λ is. (Status.ParameterError, eqb-true _ _ is)) (or-cases (eqb flag 2) (eqb flag 4) e2))
-    (or-cases (eqb flag 1) (eqb flag 2 || eqb flag 4) e1))
-    (or-cases (eqb flag 0) (eqb flag 1 || (eqb flag 2 || eqb flag 4)) e)
+status-of flag e = by (has Status.Good) (has Status.UnknownId) (has Status.NotSupported) (has Status.ParameterError) refl refl refl refl
+  where
+    has : Status → Bool
+    has status = eqb flag (flagOf status)
+
+    by : (a b c d : Bool) → has Status.Good ≡ a → has Status.UnknownId ≡ b → has Status.NotSupported ≡ c → has Status.ParameterError ≡ d
+        → (status : Status) × (flag ≡ flagOf status)
+    by true b c d p q r s = (Status.Good, eqb-true _ _ p)
+    by false true c d p q r s = (Status.UnknownId, eqb-true _ _ q)
+    by false false true d p q r s = (Status.NotSupported, eqb-true _ _ r)
+    by false false false true p q r s = (Status.ParameterError, eqb-true _ _ s)
+    by false false false false p q r s = absurd (false≢true (rw (p, q, r, s) at e))
 
 flag-status : (status : Status) → isFlag (flagOf status) ≡ true
 flag-status Status.Good = refl

@@ -8,5 +8,6 @@ pub mod Measures
 pub mod Lengths
 pub mod Heeding
 pub mod Flags
+pub mod Outcomes
 pub mod Theorems
 pub mod Same

@@ -53,10 +53,10 @@ module _ (bytes : List ℕ) (small : every (λ b. ltb b 256) bytes ≡ true) (p 
       (λ long.
       let here : (status : Status) → eqb (getD bytes 2 0) (flagOf status) ≡ true → q (Front.Says status (fromLittle (take 2 bytes))) =
       λ status e. is status _ (said-back bytes small (ltb-false _ _ long) (flagOf status) (eqb-true _ _ e)) in
-      choose q (eqb (getD bytes 2 0) 0) (here Status.Good)
-      (λ e0. choose q (eqb (getD bytes 2 0) 1) (here Status.UnknownId)
-      (λ e1. choose q (eqb (getD bytes 2 0) 2) (here Status.NotSupported)
-      (λ e2. choose q (eqb (getD bytes 2 0) 4) (here Status.ParameterError) (λ e4. other)))))
+      choose q (eqb (getD bytes 2 0) (flagOf Status.Good)) (here Status.Good)
+      (λ e0. choose q (eqb (getD bytes 2 0) (flagOf Status.UnknownId)) (here Status.UnknownId)
+      (λ e1. choose q (eqb (getD bytes 2 0) (flagOf Status.NotSupported)) (here Status.NotSupported)
+      (λ e2. choose q (eqb (getD bytes 2 0) (flagOf Status.ParameterError)) (here Status.ParameterError) (λ e4. other)))))
 
   number-from : (kind : ℕ → Reply) → ((n : ℕ) → bytes ≡ little 2 n → p (kind n)) → p (numbering kind bytes)
   unfolding numbering

@@ -1,8 +1,9 @@
 -- The statements of specs/Laws.antt, proved. Assumes nothing.
-use Rattle.reply.specs.Laws.{SaidIsRead, DoneIsRead, UnknownIsRead, ErrorIsRead, PingIsRead, ReadIsFrom, ReadIsSaid, HeedIsSaid, HeededIsLong, ShownExactly, BoardIsShown}
+use Rattle.reply.specs.Laws.{SaidIsRead, DoneIsRead, UnknownIsRead, ErrorIsRead, PingIsRead, ReadIsFrom, ReadIsSaid, HeedIsSaid, HeededIsLong, FlagIsRead, OutcomeIsRead, ShownExactly, BoardIsShown}
 use Rattle.reply.proofs.Hearing.{said-read, done-read, unknown-read, error-read, ping-read}
 use Rattle.reply.proofs.Origins.{read-from, read-said}
 use Rattle.reply.proofs.Heeding.{heed-said}
+use Rattle.reply.proofs.Outcomes.{flag-read, outcome-read}
 use Rattle.reply.proofs.Showing.{shown-as}
 use Rattle.reply.proofs.Measures.{board-shown}
 use Rattle.reply.proofs.Lengths.{heeded-long}
@@ -39,3 +40,9 @@ heed-is-said = heed-said
 
 pub heeded-is-long : HeededIsLong
 heeded-is-long = heeded-long
+
+pub flag-is-read : FlagIsRead
+flag-is-read = flag-read
+
+pub outcome-is-read : OutcomeIsRead
+outcome-is-read = outcome-read

@@ -14,7 +14,11 @@ use lib.Ieee.{Float, binary64, round}
 use Rattle.paper.specs.Numbers as paper
 use Rattle.endian.specs.Numbers.{little, fromLittle, signed}
 use Rattle.laws.specs.Lists.{Bytes}
-use Rattle.answers.specs.Answers.{said}
+use Rattle.answers.specs.Answers.{sent, said}
+use Rattle.answers.specs.Refusals.{idIn}
+use Rattle.answers.specs.Calls.{answering}
+use Rattle.answers.specs.declared.Core.{Core}
+use Rattle.answers.specs.declared.Outcome.{Outcome}
 use Rattle.who.specs.Values.{readOnly}
 use Rattle.who.specs.declared.Identity.{Identity}
 use Rattle.who.specs.declared.Readings.{Readings}
@@ -95,7 +99,38 @@ HeedIsSaid = (code id command : ℕ) (bytes : List ℕ) → id < 256 ^ 2 → Byt
 abbrev pub HeededIsLong : Type 0
 HeededIsLong = (code id command : ℕ) (bytes : List ℕ) → heeding code id command bytes ≢ Heeded.Waits → 3 ≤ length bytes
 
--- 4. A reading that a board sends is shown as the exact quotient of its whole number and the steps of the unit, "rounded by that one
+-- 4. The status by which the box knows what became of a Get or a Set, from document 01's numbers of refusal and their flags: "A good Get or Set
+-- answers its own code, id, flag 00, value"; 7 "flag 01", 8 "flag 02", 9 and 10 "flag 04".
+pub data Flagged : Outcome → ℕ → Status → Type 0 where
+  as-good : Flagged Outcome.Answered 0 Status.Good
+  as-7 : Flagged (Outcome.Refused 7) 1 Status.UnknownId
+  as-8 : Flagged (Outcome.Refused 8) 2 Status.NotSupported
+  as-9 : Flagged (Outcome.Refused 9) 4 Status.ParameterError
+  as-10 : Flagged (Outcome.Refused 10) 4 Status.ParameterError
+
+-- the reply of a code
+abbrev pub replyOf : ℕ → Status → ℕ → Reply
+replyOf code status id = cond (eqb code paper.getCode) (Reply.Get status id) (cond (eqb code paper.setCode) (Reply.Set status id) (Reply.Async status id))
+
+abbrev pub FlagIsRead : Type 0
+FlagIsRead =
+    (outcome : Outcome) (flag : ℕ) (status : Status) → Flagged outcome flag status → (code id : ℕ) (value : List ℕ) → hasStatus code ≡ true → id < 256 ^ 2
+    → parsing code (said id flag value) ≡ replyOf code status id
+
+-- So in every reply of one of these codes that a board's answer to a frame has, the box reads the status of the outcome, and the id asked for.
+pub record Known (request : List ℕ) (outcome : Outcome) (code : ℕ) (bytes : List ℕ) : Type 0 where
+  pub flag : ℕ
+  pub status : Status
+  pub flagged : Flagged outcome flag status
+  pub bytes-are : bytes ≡ said (idIn request) flag (rest bytes)
+  pub read-as : parsing code bytes ≡ replyOf code status (idIn request)
+
+abbrev pub OutcomeIsRead : Type 0
+OutcomeIsRead =
+    (core : Core) (command : ℕ) (request : List ℕ) (code : ℕ) (bytes : List ℕ) → Bytes request → hasStatus code ≡ true
+    → answering core command request .reply ≡ sent code bytes → Known request (answering core command request .outcome) code bytes
+
+-- 5. A reading that a board sends is shown as the exact quotient of its whole number and the steps of the unit, "rounded by that one
 -- division": to the nearest double, a tie to the even one, by `round` of the logic's Ieee, which takes a sign, a numerator and a denominator.
 abbrev pub quotient : ℤ → ℕ → Float
 quotient (pos n) steps = round binary64 false n steps

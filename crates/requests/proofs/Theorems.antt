@@ -59,4 +59,4 @@ set-is-request = set-request
 
 pub request-is-set : RequestIsSet
 unfolding writing placeIn
-request-is-set k n room h w enough = rw (eq-eqb (idAt k) (idAt k) refl) (set-is-request k n room h w enough)
+request-is-set setting n room h is w enough = rw (eq-eqb (idAt (setting .index)) (setting .id) (sym is)) (set-is-request (setting .index) n room h w enough)

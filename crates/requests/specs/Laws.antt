@@ -12,7 +12,7 @@ use Rattle.wire.specs.Frame.{frame}
 use Rattle.wire.specs.declared.Written.{Written}
 use Rattle.settings.specs.Columns.{count, idAt, widthAt}
 use Rattle.answers.specs.Requests.{setRequest}
-use Rattle.settings.specs.Calls.{settingAt}
+use Rattle.settings.specs.declared.Setting.{Setting}
 use Rattle.requests.specs.Calls.{getWritten, setWritten, writing}
 use Rattle.requests.specs.declared.Request.{Request}
 
@@ -66,7 +66,8 @@ RequestIsGet = (id room : ℕ) → id < 256 ^ 2 → 75 ≤ room → Writes (writ
 abbrev pub SetIsRequest : Type 0
 SetIsRequest = (k n room : ℕ) → k < count → n < 256 ^ widthAt k → 75 ≤ room → Writes (setWritten k n room) (setRequest k n)
 
+-- the same of a request for any setting whose place and id belong together, whatever else is in it; for any other it is 12 (WriteGivenWhen)
 abbrev pub RequestIsSet : Type 0
 RequestIsSet =
-    (k n room : ℕ) → k < count → n < 256 ^ widthAt k → 75 ≤ room
-    → Writes (writing (Request.Set (record { setting = settingAt k; number = n })) room) (setRequest k n)
+    (setting : Setting) (n room : ℕ) → setting .index < count → setting .id ≡ idAt (setting .index) → n < 256 ^ widthAt (setting .index) → 75 ≤ room
+    → Writes (writing (Request.Set (record { setting = setting; number = n })) room) (setRequest (setting .index) n)

@@ -1,7 +1,7 @@
 -- Identities: that of a serial that fits is allowed, and has that serial. Assumes nothing.
 use mathlib.Core.Path.{_≡_, refl}
-use mathlib.Core.Bool.{Bool, true, false}
-use mathlib.Core.List.{List, []}
+use mathlib.Core.Bool.{Bool, true, false, not}
+use mathlib.Core.List.{List, [], _∷_}
 use Prim.Native.Nat.{ℕ, _≤_}
 use borrow.Author.Tests.{leb-true}
 use lib.ListN.{length}
@@ -12,7 +12,8 @@ use Rattle.laws.proofs.Fronts.{front-taken, front-zeros}
 use Rattle.who.specs.Parts.{printed, serialFits, identityOf, serialOf, noIdentity, identityAllowed}
 use Rattle.paper.specs.Numbers.{mostSerial, notAllowed}
 use Rattle.who.specs.Calls.{naming}
-use Rattle.who.specs.Laws.{NamedIsAllowed}
+use Rattle.who.specs.Laws.{NamedIsAllowed, isSerial, refusalOf, NamedGivenWhen, NamedHoldsIt}
+use Rattle.laws.specs.Refusals.{row, firstOf}
 use Rattle.who.specs.declared.Verdict.{Verdict}
 
 pub serial-short : (serial : List ℕ) → serialFits serial ≡ true → length serial ≤ 32
@@ -49,3 +50,31 @@ named-allowed product version serial = by (serialFits serial) refl
     by : (b : Bool) → serialFits serial ≡ b → identityAllowed (naming product version serial .identity) ≡ true
     by true e = rw (named-accepted product version serial e) (identity-fits product version serial e)
     by false e = rw (named-refused product version serial e) nobody-allowed
+
+-- a serial by document 01's numbers
+pub fits-is : (serial : List ℕ) (b : Bool) → serialFits serial ≡ b → isSerial serial ≡ b
+unfolding serialFits
+fits-is serial b e = e
+
+is-fit : (serial : List ℕ) (b : Bool) → isSerial serial ≡ b → serialFits serial ≡ b
+unfolding serialFits
+is-fit serial b e = e
+
+pub named-given : NamedGivenWhen
+named-given product version serial = by (serialFits serial) refl
+  where
+    by : (b : Bool) → serialFits serial ≡ b → refusalOf (naming product version serial .verdict) ≡ firstOf (row 12 (not (isSerial serial)) ∷ [])
+    by true e = rw (named-accepted product version serial e, fits-is serial true e)
+    by false e = rw (named-refused product version serial e, fits-is serial false e)
+
+pub named-holds : NamedHoldsIt
+unfolding identityOf noIdentity
+named-holds =
+    record {
+      accepted = λ product version serial e.
+          rw (named-accepted product version serial (is-fit serial true e))
+          (record { product-is = refl; version-is = refl; serial-is = serial-back product version serial });
+      refused = λ product version serial e.
+          rw (named-refused product version serial (is-fit serial false e))
+          (record { product-is = refl; version-is = refl; serial-is = serial-back 0 0 [] });
+    }

@@ -12,13 +12,14 @@ use Rattle.laws.specs.Lists.{every, byte}
 use Rattle.laws.specs.Promise.{overlaid, frontOf}
 use Rattle.laws.proofs.Bools.{and-left, and-right, both, pick}
 use Rattle.laws.proofs.Lists.{every-append}
+use Rattle.laws.proofs.Fronts.{front-is}
 use Rattle.endian.specs.Numbers.{little}
 use Rattle.endian.proofs.Little.{length-little, bytes-little}
 use Rattle.who.specs.Parts.{printed, serialOf, identityAllowed}
 use Rattle.who.specs.Values.{productValue, serialValue, readOnly, readOnlyIds, among}
 use Rattle.paper.specs.Numbers.{notAllowed}
 use Rattle.who.specs.Calls.{valueOf, noValue, lookedOf, readingOut}
-use Rattle.who.specs.Laws.{Small, small-none, small-some, ValuesFit, NothingReadsZero, product, serial-under, serial-full, version, voltage, current, fine, consumed, charge, HeldIsReadOut, Holds, ReadOutIsHeld, isSome, EightAreReadOut, refusalOf, ReadOnlyGivenWhen, RefusedHasNoValue}
+use Rattle.who.specs.Laws.{Small, small-none, small-some, ValuesFit, NothingReadsZero, product, serial-under, serial-full, version, voltage, current, fine, consumed, charge, HeldIsReadOut, Holds, ReadOutIsHeld, isSome, EightAreReadOut, refusalOf, ReadOnlyGivenWhen, RefusedHasNoValue, ReadOnlyAnswersHeld}
 use Rattle.who.specs.declared.Identity.{Identity}
 use Rattle.who.specs.declared.Readings.{Readings}
 use Rattle.who.specs.declared.Verdict.{Verdict}
@@ -46,7 +47,7 @@ module _ (identity : Identity) (readings : Readings) (id : ℕ) where
 printed-bytes : (l : List ℕ) → every printed l ≡ true → every byte l ≡ true
 printed-bytes [] e = refl
 printed-bytes (b ∷ bs) e =
-    let least : b ≤ 0x7E = leb-true b 0x7E (and-right (leb 0x20 b) _ (and-left (printed b) (every printed bs) e)) in
+    let most = leb-true b _ (and-right (leb 0x20 b) _ (and-left (printed b) (every printed bs) e)) in
     let less : b < 256 = omega arith in
     both _ _ (lt-ltb b 256 less) (printed-bytes bs (and-right (printed b) _ e))
 
@@ -192,3 +193,11 @@ read-only-given identity readings id = by (identityAllowed identity)
 pub refused-silent : RefusedHasNoValue
 unfolding readingOut
 refused-silent identity readings id = pick Silent (identityAllowed identity) (found-silent (readOnly identity readings id)) (none-silent 12)
+
+-- and its answer
+pub read-only-held : ReadOnlyAnswersHeld
+unfolding lookedOf valueOf
+read-only-held identity readings id value ok holds =
+    sym (read-given identity readings id ok)
+    ∙ ap lookedOf (held-out identity readings id value holds)
+    ∙ ap (λ (bytes : List ℕ). record { verdict = Verdict.Accepted; value = record { len = length value; bytes = bytes } }) (front-is 32 value)

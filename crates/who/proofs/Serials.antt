@@ -1,5 +1,5 @@
 -- A serial in the identity's own array, with zeros after it. Assumes nothing.
-use mathlib.Core.Path.{_≡_, _∙_}
+use mathlib.Core.Path.{_≡_, sym, subst, ap, _∙_}
 use mathlib.Core.Bool.{true}
 use Prim.Native.Nat.{_≤_}
 use native.Mathlib.Omega.{arith}
@@ -13,6 +13,9 @@ use Rattle.laws.proofs.Fronts.{front-again}
 use Rattle.paper.specs.Numbers.{mostSerial}
 use Rattle.who.specs.Parts.{printed, serialFits, identityOf, serialOf, identityAllowed}
 use Rattle.who.specs.declared.Identity.{Identity}
+use Rattle.who.specs.declared.Named.{Named}
+use Rattle.who.specs.Laws.{AllowedIsNamed}
+use Rattle.who.proofs.Identities.{fits-is, named-accepted, named-allowed}
 
 pub serial-within : (identity : Identity) → identityAllowed identity ≡ true → identity .len ≤ 32
 unfolding identityAllowed serialOf
@@ -41,3 +44,11 @@ module _ (identity : Identity) (long : length (identity .serial) ≡ 32) (ok : i
       let short : length (take (identity .len) (identity .serial)) ≤ 32 = rw size few in
       both _ _ (le-leb (length (take (identity .len) (identity .serial))) 32 short)
       (and-left (every printed (take (identity .len) (identity .serial))) _ (and-right (leb (identity .len) 32) _ ok))
+
+pub allowed-named : AllowedIsNamed
+allowed-named identity long = (
+  λ ok.
+      let fits = serial-fits-back identity long ok in
+      (serialOf identity, fits-is (serialOf identity) true fits, ap (λ (n : Named). n .identity) (named-accepted _ _ (serialOf identity) fits) ∙ identity-back identity long ok),
+  λ named. subst (λ (i : Identity). identityAllowed i ≡ true) (named .2) (named-allowed (identity .product) (identity .version) (named .0)),
+)

@@ -22,7 +22,7 @@ fresh-requires c κs = tt
 
 returns : tie.Need-returns
 unfolding refusedStart noIdentity serialFits
-returns c = rw (c .fresh .ensures, c .before .factory .ensures, c .before .before .before .named .ensures, named-accepted 0 0 [] refl)
+returns c = rw (c .fresh .ensures, c .before .factory .ensures, c .before .before .before .named .ensures, named-accepted _ _ [] refl)
 
 pub refused-start-spec : {M : Type 1} → statement M
 refused-start-spec =

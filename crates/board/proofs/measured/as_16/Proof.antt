@@ -2,12 +2,12 @@
 use mathlib.Core.Path.{refl}
 use mir.Val.{SFits}
 use mir.Syntax.{w16}
-use Rattle.board.proofs.Signs.{within-fits, kept, narrow, wide-16}
+use Rattle.board.proofs.Signs.{fits-16, kept, narrow, wide-16}
 use Rattle.board.proofs.measured.as_16.Statement.{statement}
 use Rattle.board.proofs.measured.as_16.Tie as tie
 
 fits : (c : tie.Start) → SFits w16 (c .args .x)
-fits c = within-fits w16 0x7FFF refl (c .args .x) (c .pre)
+fits c = fits-16 (c .args .x) (c .pre)
 
 cast-result : tie.Need-cast-result
 cast-result c = rw (kept _ (wide-16 (c .args .x) (c .pre))) (fits c)

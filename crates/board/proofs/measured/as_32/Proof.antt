@@ -2,12 +2,12 @@
 use mathlib.Core.Path.{refl}
 use mir.Val.{SFits}
 use mir.Syntax.{w32}
-use Rattle.board.proofs.Signs.{within-fits, kept, narrow, wide-32}
+use Rattle.board.proofs.Signs.{fits-32, kept, narrow, wide-32}
 use Rattle.board.proofs.measured.as_32.Statement.{statement}
 use Rattle.board.proofs.measured.as_32.Tie as tie
 
 fits : (c : tie.Start) → SFits w32 (c .args .x)
-fits c = within-fits w32 0x7FFFFFFF refl (c .args .x) (c .pre)
+fits c = fits-32 (c .args .x) (c .pre)
 
 cast-result : tie.Need-cast-result
 cast-result c = rw (kept _ (wide-32 (c .args .x) (c .pre))) (fits c)

@@ -1,11 +1,10 @@
 -- `board::measured::fit` meets its contract. Assumes nothing.
 use mathlib.Core.Path.{_≡_, _∙_}
-use lib.IntN.{pos, negsuc}
 use borrow.Author.Needs.{needs}
 use mir.Val.{SFits}
 use mir.Syntax.{w64}
-use Rattle.board.specs.Parts.{within, sampleFits}
-use Rattle.board.proofs.Signs.{within-kept}
+use Rattle.board.specs.Parts.{fits16, fits32, fitsCharge, sampleFits}
+use Rattle.board.proofs.Signs.{kept-in}
 use Rattle.board.proofs.measured.fit.Statement.{statement}
 use Rattle.board.proofs.measured.fit.Tie as tie
 
@@ -47,11 +46,11 @@ returns c =
     let c8 = c6 .before .before in
     let c10 = c8 .before .before in
     let s = c10 in
-    let voltage : c8 .is-within .result ≡ within (negsuc 0x7FFF) (pos 0x7FFF) (s .args .given .voltage) = c8 .is-within .ensures ∙ within-kept (negsuc 0x7FFF) (pos 0x7FFF) _ (voltage-fits s) in
-    let current : c6 .is-within2 .result ≡ within (negsuc 0x7FFF) (pos 0x7FFF) (s .args .given .current) = c6 .is-within2 .ensures ∙ within-kept (negsuc 0x7FFF) (pos 0x7FFF) _ (current-fits s) in
-    let fine : c4 .is-within3 .result ≡ within (negsuc 0x7FFFFFFF) (pos 0x7FFFFFFF) (s .args .given .fine) = c4 .is-within3 .ensures ∙ within-kept (negsuc 0x7FFFFFFF) (pos 0x7FFFFFFF) _ (fine-fits s) in
-    let consumed : c .before .before .is-within4 .result ≡ within (negsuc 0x7FFFFFFF) (pos 0x7FFFFFFF) (s .args .given .consumed) = c .before .before .is-within4 .ensures ∙ within-kept (negsuc 0x7FFFFFFF) (pos 0x7FFFFFFF) _ (consumed-fits s) in
-    let charge : c .is-within5 .result ≡ within (pos 0) (pos 0xFFFF) (s .args .given .charge) = c .is-within5 .ensures ∙ within-kept (pos 0) (pos 0xFFFF) _ (charge-fits s) in
+    let voltage : c8 .is-within .result ≡ fits16 (s .args .given .voltage) = c8 .is-within .ensures ∙ kept-in fits16 _ (voltage-fits s) in
+    let current : c6 .is-within2 .result ≡ fits16 (s .args .given .current) = c6 .is-within2 .ensures ∙ kept-in fits16 _ (current-fits s) in
+    let fine : c4 .is-within3 .result ≡ fits32 (s .args .given .fine) = c4 .is-within3 .ensures ∙ kept-in fits32 _ (fine-fits s) in
+    let consumed : c .before .before .is-within4 .result ≡ fits32 (s .args .given .consumed) = c .before .before .is-within4 .ensures ∙ kept-in fits32 _ (consumed-fits s) in
+    let charge : c .is-within5 .result ≡ fitsCharge (s .args .given .charge) = c .is-within5 .ensures ∙ kept-in fitsCharge _ (charge-fits s) in
     rw (voltage, current, fine, consumed, charge)
 
 pub fit-spec : {M : Type 1} → statement M
