@@ -163,7 +163,7 @@ pub run-ends : (events : List Event) (l : List ℕ) (silences : ℕ) → AllFit 
 run-ends [] l silences all few w = record { fit = all; few = few; silences = silences; stopped = false; is = refl; in-ends = w }
 run-ends (e ∷ more) l silences all few w =
     choose-ends (ltb (length l) count) refl
-    (λ h. rw (held-advances l silences h e)
+    (λ h. subst (λ (c : Collector). Ends (run c more) (takingOn silences l more (intakeOf l (length l) e))) (sym (held-advances l silences h e))
     (intake-ends l silences more all h (within-waiting (length l) silences h w)
     (λ n f. run-ends more (l ++ n ∷ []) 0 (more-fit l n all f) (rw (next-length l n) h) (fresh-within (length (l ++ n ∷ [])) (rw (next-length l n) h)))
     (run-ends more l silences all few w)

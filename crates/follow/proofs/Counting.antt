@@ -24,7 +24,7 @@ use Rattle.restore.specs.declared.Due.{Due}
 use Rattle.restore.proofs.Theorems.{due-tells}
 use Rattle.restore.proofs.Rows.{due-is}
 use Rattle.reply.specs.Events.{Event, OnStream, a-frame, a-refusal, a-silence}
-use Rattle.follow.specs.Following.{effectOf, standing, moved, after, advanced, begun, followerAllowed}
+use Rattle.follow.specs.Following.{effectOf, standing, moved, effectAt, advanced, begun, followerAllowed}
 use Rattle.follow.specs.Laws.{run, matches, ends, matched, isEnded}
 use Rattle.follow.specs.declared.Follower.{Follower}
 use Rattle.follow.specs.declared.Standing.{Standing}
@@ -199,13 +199,6 @@ moved-from f Effect.Confirms = (refl, refl)
 moved-from f Effect.Stops = (refl, refl)
 moved-from f Effect.Waits = (refl, refl)
 
-after-from : (f : Follower) (e : Event) (o : Standing) → (after f e o .from ≡ f .from) × (after f e o .to ≡ f .to)
-after-from f e (Standing.Waiting due) = moved-from f (effectOf due e)
-after-from f e Standing.Equal = (refl, refl)
-after-from f e Standing.Done = (refl, refl)
-after-from f e (Standing.Stopped due) = (refl, refl)
-after-from f e (Standing.Refused number) = (refl, refl)
-
 -- a follower of allowed tables that is allowed
 pub record Goes (from to : Table) (f : Follower) : Type 0 where
   pub from-is : f .from ≡ from
@@ -215,7 +208,7 @@ pub record Goes (from to : Table) (f : Follower) : Type 0 where
 goes-on : (from to : Table) → bothAllowed from to ≡ true → (f : Follower) (e : Event) → Goes from to f → Goes from to (advanced f e)
 unfolding advanced
 goes-on from to ok f e g =
-    let kept = after-from f e (standing f) in
+    let kept = moved-from f (effectAt (standing f) e) in
     let both-ok : bothAllowed (f .from) (f .to) ≡ true = ap₂ (λ (a b : Table). bothAllowed a b) (g .from-is) (g .to-is) ∙ ok in
     record {
       from-is = kept .0 ∙ g .from-is;

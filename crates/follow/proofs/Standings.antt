@@ -19,11 +19,12 @@ use Rattle.requests.specs.declared.Request.{Request}
 use Rattle.restore.specs.declared.Due.{Due}
 use Rattle.restore.proofs.Theorems.{due-tells, sets-are-few}
 use Rattle.reply.specs.Events.{Event, refusedFrame}
-use Rattle.follow.specs.Following.{standsAt, standing, after, advanced, total, followerAllowed}
-use Rattle.follow.specs.AsHeld.{Narrow, Sent, isSet, reached}
+use Rattle.follow.specs.Following.{standsAt, standing, moved, effectAt, advanced, total, followerAllowed}
+use Rattle.follow.specs.AsHeld.{Narrow, Sent, Awaits, isSet, reached}
 use Rattle.follow.specs.Calls.{answered, unanswered, told, following}
 use Rattle.follow.specs.declared.Follower.{Follower}
 use Rattle.follow.specs.declared.Standing.{Standing}
+use Rattle.follow.specs.declared.effect.Effect.{Effect}
 
 positive : (n : ℕ) → n ≢ 0 → 1 ≤ n
 positive zero h = absurd (h refl)
@@ -156,7 +157,7 @@ module _ (f : Follower) where
   unfolding standing
   standing-is d e = rw e
 
-  pub advanced-is : (e : Event) (o : Standing) → standing f ≡ o → after f e o ≡ advanced f e
+  pub advanced-is : (e : Event) (o : Standing) → standing f ≡ o → moved f (effectAt o e) ≡ advanced f e
   unfolding advanced
   advanced-is e o h = rw h
 
@@ -170,7 +171,14 @@ module _ (f : Follower) where
       by Due.Nothing k e = absurd (false≢true (sym (none-waits (eqb (f .confirmed) 0)) ∙ ap isWaiting e))
       by (Due.Refused number) k e = absurd (false≢true (ap isWaiting e))
 
-  refused-still : (o : Standing) → after f refusedFrame o ≡ f
+  pub standing-awaits : (o : Standing) → standing f ≡ o → Awaits o
+  standing-awaits (Standing.Waiting due) e = waiting-narrow due e
+  standing-awaits Standing.Equal e = tt
+  standing-awaits Standing.Done e = tt
+  standing-awaits (Standing.Stopped due) e = tt
+  standing-awaits (Standing.Refused number) e = tt
+
+  refused-still : (o : Standing) → moved f (effectAt o refusedFrame) ≡ f
   refused-still (Standing.Waiting due) = refl
   refused-still Standing.Equal = refl
   refused-still Standing.Done = refl
@@ -196,6 +204,12 @@ module _ (f : Follower) where
   pub following-stray : (e : Event) → followerAllowed f ≡ false → unanswered f ≡ following f e
   unfolding following
   following-stray e h = rw h
+
+  -- and by the effect that was found
+  pub following-is : (e : Event) (o : Standing) (x : Effect) → o ≡ standing f → x ≡ effectAt o e
+      → cond (followerAllowed f) (answered (moved f x)) (unanswered f) ≡ following f e
+  unfolding following
+  following-is e o x is found = rw (found, is, advanced-is e (standing f) refl)
 
   pub following-refused : told f ≡ following f refusedFrame
   unfolding told following

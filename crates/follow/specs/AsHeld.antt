@@ -7,6 +7,7 @@ use Rattle.restore.specs.Calls.{dueIn}
 use Rattle.requests.specs.declared.Wanted.{Wanted}
 use Rattle.requests.specs.declared.Request.{Request}
 use Rattle.restore.specs.declared.Due.{Due}
+use Rattle.follow.specs.declared.Standing.{Standing}
 
 -- a Set of one or two bytes
 pub record Narrow (due : Wanted) : Type 0 where
@@ -17,6 +18,14 @@ pub record Narrow (due : Wanted) : Type 0 where
 abbrev pub Sent : Request → Type 0
 Sent (Request.Get id) = Unit {0}
 Sent (Request.Set due) = Narrow due
+
+-- how far a follower is that waits for such a request, or for none
+abbrev pub Awaits : Standing → Type 0
+Awaits (Standing.Waiting request) = Sent request
+Awaits Standing.Equal = Unit {0}
+Awaits Standing.Done = Unit {0}
+Awaits (Standing.Stopped due) = Unit {0}
+Awaits (Standing.Refused number) = Unit {0}
 
 abbrev pub isSet : Due → Bool
 isSet (Due.Set due) = true

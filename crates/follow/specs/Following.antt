@@ -62,16 +62,16 @@ moved f Effect.Confirms = record { from = f .from; to = f .to; confirmed = suc (
 moved f Effect.Stops = record { from = f .from; to = f .to; confirmed = f .confirmed; stopped = true }
 moved f Effect.Waits = f
 
--- "Ended stays ended."
-abbrev pub after : Follower → Event → Standing → Follower
-after f e (Standing.Waiting request) = moved f (effectOf request e)
-after f e Standing.Equal = f
-after f e Standing.Done = f
-after f e (Standing.Stopped due) = f
-after f e (Standing.Refused number) = f
+-- "Ended stays ended.": an event has its effect on a follower that waits, and none on another
+abbrev pub effectAt : Standing → Event → Effect
+effectAt (Standing.Waiting request) e = effectOf request e
+effectAt Standing.Equal e = Effect.Waits
+effectAt Standing.Done e = Effect.Waits
+effectAt (Standing.Stopped due) e = Effect.Waits
+effectAt (Standing.Refused number) e = Effect.Waits
 
 unfoldable pub advanced : Follower → Event → Follower
-advanced f e = after f e (standing f)
+advanced f e = moved f (effectAt (standing f) e)
 
 -- "Following starts from the same two tables"
 abbrev pub begun : Table → Table → Follower

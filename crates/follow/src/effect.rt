@@ -1,10 +1,13 @@
-// What a frame does to a follower that waits for the Set that is due.
+// What an event does to a follower.
 ghost use mathlib.Core.Path.{_≡_};
 ghost use mathlib.Core.Bool.{cond};
-ghost use Rattle.follow.specs.Following.{carries, onReply};
-ghost use Rattle.follow.specs.AsHeld.{Narrow};
+ghost use Rattle.reply.specs.Events.{heard, noAnswer};
+ghost use Rattle.follow.specs.Following.{carries, onReply, onRequest, effectAt};
+ghost use Rattle.follow.specs.AsHeld.{Narrow, Sent, Awaits};
 ghost use Rattle.follow.specs.declared.effect.Effect.{Effect};
+use crate::Standing;
 use reply::Heeded;
+use requests::Request;
 use requests::Wanted;
 
 // What a frame does: a Set reply with the due id, flag 00 and the due number confirms; one with the due id and anything else stops; all
@@ -38,7 +41,7 @@ fn on_value(wanted: Wanted, value: &[u8]) -> Effect
 }
 
 // Returns what a frame does, as an answer to the Set that is due.
-pub(crate) fn on_reply(wanted: Wanted, command: u8, bytes: &[u8]) -> Effect
+fn on_reply(wanted: Wanted, command: u8, bytes: &[u8]) -> Effect
     requires { ⌜ Narrow wanted ⌝ }
     ensures { λ r. ⌜ r ≡ onReply wanted command (now (bytes .entry)) ⌝ }
 {
@@ -47,5 +50,43 @@ pub(crate) fn on_reply(wanted: Wanted, command: u8, bytes: &[u8]) -> Effect
         Heeded::Waits => Effect::Waits,
         Heeded::Good => on_value(wanted, &bytes[paper::FRONT..]),
         Heeded::Bad(_) => Effect::Stops,
+    }
+}
+
+// Returns what a frame does while a request is due.
+fn on_request(request: Request, command: u8, bytes: &[u8]) -> Effect
+    requires { ⌜ Sent request ⌝ }
+    ensures { λ r. ⌜ r ≡ onRequest request command (now (bytes .entry)) ⌝ }
+{
+    match request {
+        Request::Get(_) => Effect::Waits,
+        Request::Set(due) => on_reply(due, command, bytes),
+    }
+}
+
+// Returns what a frame does to a follower that is this far: an ended one stays as it was.
+pub(crate) fn of_frame(standing: Standing, command: u8, bytes: &[u8]) -> Effect
+    requires { ⌜ Awaits standing ⌝ }
+    ensures { λ r. ⌜ r ≡ effectAt standing (heard command (now (bytes .entry))) ⌝ }
+{
+    match standing {
+        Standing::Waiting(request) => on_request(request, command, bytes),
+        Standing::Equal => Effect::Waits,
+        Standing::Done => Effect::Waits,
+        Standing::Stopped(_) => Effect::Waits,
+        Standing::Refused(_) => Effect::Waits,
+    }
+}
+
+// Returns what no answer does to a follower that is this far: one that waits stops.
+pub(crate) fn of_silence(standing: Standing) -> Effect
+    ensures { λ r. ⌜ r ≡ effectAt standing noAnswer ⌝ }
+{
+    match standing {
+        Standing::Waiting(_) => Effect::Stops,
+        Standing::Equal => Effect::Waits,
+        Standing::Done => Effect::Waits,
+        Standing::Stopped(_) => Effect::Waits,
+        Standing::Refused(_) => Effect::Waits,
     }
 }

@@ -3,6 +3,7 @@
 ghost use mathlib.Core.Path.{_≡_};
 ghost use Rattle.reply.specs.Events.{heard, refusedFrame, noAnswer};
 ghost use Rattle.follow.specs.Calls.{starting, told, following};
+use effect::Effect;
 use requests::Request;
 use requests::Wanted;
 use tables::Table;
@@ -41,29 +42,28 @@ impl Follower {
     pub fn start(from: Table, to: Table) -> Followed
         ensures { λ r. ⌜ r ≡ starting from to ⌝ }
     {
-        state::told(Follower {
+        let follower = Follower {
             from,
             to,
             confirmed: 0,
             stopped: false,
-        })
+        };
+        follower.told()
     }
 
     // Returns how far a follower is, with nothing heard. Refuses 12 for one that no start and events give.
     pub fn told(self) -> Followed
         ensures { λ r. ⌜ r ≡ told self ⌝ }
     {
-        state::told(self)
+        state::after(self, Effect::Waits)
     }
 
     // Takes a frame of the stream: its command and its data. Refuses 12 for a follower that no start and events give.
     pub fn reply(self, command: u8, bytes: &[u8]) -> Followed
         ensures { λ r. ⌜ r ≡ following self (heard command (now (bytes .entry))) ⌝ }
     {
-        if !state::is_allowed(self) {
-            return state::refused(self);
-        }
-        state::answered(state::hearing(self, command, bytes))
+        let standing = state::standing_of(self);
+        state::after(self, effect::of_frame(standing, command, bytes))
     }
 
     // Takes a frame that the stream refused: it says nothing of the Set that is due. Refuses 12 for a follower that no start and events
@@ -71,16 +71,14 @@ impl Follower {
     pub fn refused_frame(self) -> Followed
         ensures { λ r. ⌜ r ≡ following self refusedFrame ⌝ }
     {
-        state::told(self)
+        self.told()
     }
 
     // Notes that the board gave no answer in time, which stops a follower that waits. Refuses 12 for one that no start and events give.
     pub fn no_answer(self) -> Followed
         ensures { λ r. ⌜ r ≡ following self noAnswer ⌝ }
     {
-        if !state::is_allowed(self) {
-            return state::refused(self);
-        }
-        state::answered(state::unheard(self))
+        let standing = state::standing_of(self);
+        state::after(self, effect::of_silence(standing))
     }
 }

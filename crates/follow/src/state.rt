@@ -1,17 +1,15 @@
-// The follower's state: whether it is one that a start and events give, how far it is, and what an event makes of it.
+// The follower's state: whether it is one that a start and events give, how far it is, and what the effect of an event makes of it.
 ghost use mathlib.Core.Path.{_≡_};
 ghost use mathlib.Core.Bool.{true, cond};
 ghost use lib.Dec.{eqb};
-ghost use Rattle.reply.specs.Events.{heard, noAnswer};
 ghost use Rattle.requests.specs.declared.Request.{Request};
-ghost use Rattle.follow.specs.Following.{effectOf, standing, moved, advanced, followerAllowed};
-ghost use Rattle.follow.specs.AsHeld.{Sent, reached};
+ghost use Rattle.follow.specs.Following.{standing, moved, followerAllowed};
+ghost use Rattle.follow.specs.AsHeld.{reached};
 ghost use Rattle.follow.specs.Calls as calls;
 ghost use Rattle.follow.specs.declared.Standing.{Standing};
 use crate::Followed;
 use crate::Follower;
 use crate::Standing;
-use crate::effect;
 use crate::effect::Effect;
 use requests::Request;
 use requests::Wanted;
@@ -34,7 +32,7 @@ fn is_reached(from: Table, to: Table, confirmed: usize) -> bool
 }
 
 // Returns whether a start and events give this follower: more Sets are due, or all are confirmed and it has not stopped.
-pub(crate) fn is_allowed(follower: Follower) -> bool
+fn is_allowed(follower: Follower) -> bool
     ensures { λ r. ⌜ r ≡ followerAllowed follower ⌝ }
 {
     let due = restore::due_after(follower.from, follower.to, follower.confirmed);
@@ -68,7 +66,7 @@ fn with_none(confirmed: usize) -> Standing
 }
 
 // Returns how far a follower is.
-fn standing_of(follower: Follower) -> Standing
+pub(crate) fn standing_of(follower: Follower) -> Standing
     ensures { λ r. ⌜ r ≡ standing follower ⌝ }
 {
     let due = restore::due_after(follower.from, follower.to, follower.confirmed);
@@ -93,7 +91,7 @@ fn with(follower: Follower, confirmed: usize, stopped: bool) -> Follower
     }
 }
 
-// Returns a follower that waited, after the effect of an event.
+// Returns a follower after the effect of an event.
 fn moved_by(follower: Follower, effect: Effect) -> Follower
     requires { ⌜ followerAllowed follower ≡ true ⌝ }
     ensures { λ r. ⌜ r ≡ moved follower effect ⌝ }
@@ -105,49 +103,8 @@ fn moved_by(follower: Follower, effect: Effect) -> Follower
     }
 }
 
-// Returns a follower after a frame that came while a request was due.
-fn replied(follower: Follower, request: Request, command: u8, bytes: &[u8]) -> Follower
-    requires { ⌜ (followerAllowed follower ≡ true) × Sent request ⌝ }
-    ensures { λ r. ⌜ r ≡ moved follower (effectOf request (heard command (now (bytes .entry)))) ⌝ }
-{
-    match request {
-        Request::Get(_) => follower,
-        Request::Set(due) => moved_by(follower, effect::on_reply(due, command, bytes)),
-    }
-}
-
-// Returns a follower after a frame. It has its effect on one that waits; an ended one stays as it was.
-pub(crate) fn hearing(follower: Follower, command: u8, bytes: &[u8]) -> Follower
-    requires { ⌜ followerAllowed follower ≡ true ⌝ }
-    ensures { λ r. ⌜ r ≡ advanced follower (heard command (now (bytes .entry))) ⌝ }
-{
-    let standing = standing_of(follower);
-    match standing {
-        Standing::Waiting(request) => replied(follower, request, command, bytes),
-        Standing::Equal => follower,
-        Standing::Done => follower,
-        Standing::Stopped(_) => follower,
-        Standing::Refused(_) => follower,
-    }
-}
-
-// Returns a follower after no answer came. One that waits stops; an ended one stays as it was.
-pub(crate) fn unheard(follower: Follower) -> Follower
-    requires { ⌜ followerAllowed follower ≡ true ⌝ }
-    ensures { λ r. ⌜ r ≡ advanced follower noAnswer ⌝ }
-{
-    let standing = standing_of(follower);
-    match standing {
-        Standing::Waiting(_) => moved_by(follower, Effect::Stops),
-        Standing::Equal => follower,
-        Standing::Done => follower,
-        Standing::Stopped(_) => follower,
-        Standing::Refused(_) => follower,
-    }
-}
-
 // Returns the answer of an allowed follower.
-pub(crate) fn answered(follower: Follower) -> Followed
+fn answered(follower: Follower) -> Followed
     ensures { λ r. ⌜ r ≡ calls.answered follower ⌝ }
 {
     Followed {
@@ -158,7 +115,7 @@ pub(crate) fn answered(follower: Follower) -> Followed
 }
 
 // Refuses a follower by 12: it is as it was, and nothing is counted.
-pub(crate) fn refused(follower: Follower) -> Followed
+fn refused(follower: Follower) -> Followed
     ensures { λ r. ⌜ r ≡ calls.unanswered follower ⌝ }
 {
     Followed {
@@ -168,12 +125,12 @@ pub(crate) fn refused(follower: Follower) -> Followed
     }
 }
 
-// Returns the answer of any follower, as it is.
-pub(crate) fn told(follower: Follower) -> Followed
-    ensures { λ r. ⌜ r ≡ calls.told follower ⌝ }
+// Returns the answer of any follower, after an event of this effect. Refuses 12 for one that no start and events give.
+pub(crate) fn after(follower: Follower, effect: Effect) -> Followed
+    ensures { λ r. ⌜ r ≡ cond (followerAllowed follower) (calls.answered (moved follower effect)) (calls.unanswered follower) ⌝ }
 {
     if !is_allowed(follower) {
         return refused(follower);
     }
-    answered(follower)
+    answered(moved_by(follower, effect))
 }
