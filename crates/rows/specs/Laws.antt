@@ -6,7 +6,6 @@ use mathlib.Core.Logic.{_≢_, _↔_}
 use mathlib.Core.Bool.{true, false}
 use mathlib.Core.List.{List, [], _++_}
 use lib.ListN.{length}
-use Rattle.paper.specs.Numbers as paper
 use Rattle.laws.specs.Promise.{Given}
 use Rattle.wire.specs.declared.Written.{Written}
 use Rattle.settings.specs.Columns.{count, idAt}
@@ -35,7 +34,7 @@ pub record Begins (text : List ℕ) (id n : ℕ) (rest : List ℕ) : Type 0 wher
 -- The row is read as its id, its number and its length; 14 is given exactly when the text begins with no row.
 pub data Reads (text : List ℕ) : Row → Type 0 where
   row : {id n : ℕ} {rest : List ℕ} → Begins text id n rest → Reads text (Row.Is id n (length (rowOf id n)))
-  none : ((id n : ℕ) (rest : List ℕ) → Begins text id n rest → ⊥) → Reads text (Row.Refused paper.badLine)
+  none : ((id n : ℕ) (rest : List ℕ) → Begins text id n rest → ⊥) → Reads text (Row.Refused 14)
 
 abbrev pub ReadExactly : Type 0
 ReadExactly = (text : List ℕ) (answer : Row) → (parsing text ≡ answer → Reads text answer) × (Reads text answer → parsing text ≡ answer)
@@ -44,9 +43,9 @@ ReadExactly = (text : List ℕ) (answer : Row) → (parsing text ≡ answer → 
 -- the id that is due and a number outside the own range.
 pub data Judges (k : ℕ) (text : List ℕ) : Judged → Type 0 where
   number : {n : ℕ} {rest : List ℕ} → Begins text (idAt k) n rest → inRange k n ≡ true → Judges k text (Judged.Number n (length (rowOf (idAt k) n)))
-  none : ((id n : ℕ) (rest : List ℕ) → Begins text id n rest → ⊥) → Judges k text (Judged.Refused paper.badLine)
-  other : {id n : ℕ} {rest : List ℕ} → Begins text id n rest → id ≢ idAt k → Judges k text (Judged.Refused paper.otherId)
-  outside : {n : ℕ} {rest : List ℕ} → Begins text (idAt k) n rest → inRange k n ≡ false → Judges k text (Judged.Refused paper.outOfRange)
+  none : ((id n : ℕ) (rest : List ℕ) → Begins text id n rest → ⊥) → Judges k text (Judged.Refused 14)
+  other : {id n : ℕ} {rest : List ℕ} → Begins text id n rest → id ≢ idAt k → Judges k text (Judged.Refused 15)
+  outside : {n : ℕ} {rest : List ℕ} → Begins text (idAt k) n rest → inRange k n ≡ false → Judges k text (Judged.Refused 16)
 
 abbrev pub JudgedExactly : Type 0
 JudgedExactly = (k : ℕ) (text : List ℕ) (answer : Judged) → k < count

@@ -5,17 +5,17 @@ use mathlib.Core.List.{List, [], _∷_, map}
 use mathlib.Core.Option.{Option, none, some}
 use Prim.Native.Nat.{ℕ, suc, _<_}
 use native.Mathlib.Omega.{arith}
-use borrow.Author.Tests.{eq-eqb, ne-eqb, eqb-true, eqb-false, lt-ltb, ltb-true}
+use borrow.Author.Tests.{eq-eqb, ne-eqb, eqb-true, eqb-false, lt-ltb, le-ltb, ltb-true}
 use lib.ListN.{length, getD, drop}
 use lib.Dec.{ltb, eqb}
 use Rattle.laws.specs.Lists.{before}
 use Rattle.laws.proofs.Bools.{same-test}
 use Rattle.laws.proofs.Lists.{upTo-at, upTo-all}
-use Rattle.settings.specs.Columns.{count, ids, idAt, placeOf, partnerAt, roleAt}
-use Rattle.settings.specs.Printed.{lines, among, printedIds, within, partnerWithin, printedAgrees}
+use Rattle.settings.specs.Columns.{count, ids, idAt, widthAt, placeOf, partnerAt, roleAt}
+use Rattle.settings.specs.Printed.{lines, among, printedIds, within, widthIn, partnerWithin, printedAgrees}
 use Rattle.settings.specs.Rules.{inRange, lowAgrees, highAgrees, agrees, allowedFor, allAllowed, nearestOf}
-use Rattle.settings.specs.Calls.{ranging, allowing, partnerFits, nearing}
-use Rattle.settings.specs.Laws.{refusalOf, NearestGivenWhen, AllowedIsPrinted, PrintedIsTold, AllAllowedWhen}
+use Rattle.settings.specs.Calls.{placing, ranging, allowing, partnerFits, nearing}
+use Rattle.settings.specs.Laws.{refusalOf, NearestGivenWhen, AllowedIsPrinted, PrintedIsTold, WidthIsPrinted, PastIsNothing, AllAllowedWhen}
 use Rattle.settings.specs.declared.Number.{Number}
 use Rattle.settings.proofs.Rows.{placed}
 
@@ -77,6 +77,16 @@ pub printed-told : PrintedIsTold
 unfolding ranging allowing
 printed-told k n partner h =
     record { range-is = rw (lt-ltb k count h) (range-printed k h n); allowed-is = rw (lt-ltb k count h) (allowed-printed k n partner h) }
+
+pub width-printed : WidthIsPrinted
+unfolding placeOf
+width-printed k h =
+    answers-same (λ x. widthIn lines x) (λ x. some (widthAt (placeOf x))) ids refl (idAt k) (id-among k h)
+    ∙ ap (λ (i : ℕ). some (widthAt i)) (placed k h)
+
+pub past-nothing : PastIsNothing
+unfolding placing ranging allowing
+past-nothing k n partner h = let past : ltb k count ≡ false = le-ltb k count h in (rw past, rw past, rw past)
 
 pub all-printed : AllAllowedWhen
 unfolding allAllowed

@@ -3,13 +3,13 @@
 use Prim.Native.Nat.{ℕ, suc, _^_, _≤_, _<_}
 use mathlib.Core.Path.{_≡_}
 use mathlib.Core.Logic.{_↔_}
-use mathlib.Core.Bool.{true, not, _&&_}
+use mathlib.Core.Bool.{true, false, not, _&&_}
 use mathlib.Core.List.{List, [], _∷_, map}
 use mathlib.Core.Option.{Option, none, some}
 use lib.ListN.{length, getD}
 use Rattle.laws.specs.Refusals.{row, firstOf}
 use Rattle.settings.specs.Columns.{count, entries, ids, idAt, widthAt, lowAt, highAt, factoryAt, partnerAt, roleAt}
-use Rattle.settings.specs.Printed.{lines, among, printedIds, within, partnerWithin, printedAgrees, printed}
+use Rattle.settings.specs.Printed.{lines, among, printedIds, within, widthIn, partnerWithin, printedAgrees, printed}
 use Rattle.settings.specs.Rules.{inRange, agrees, allowedFor, allAllowed, Nearest, nearestOf}
 use Rattle.settings.specs.Calls.{settingAt, placing, finding, ranging, allowing, partnerFits, nearing}
 use Rattle.settings.specs.declared.columns.Role.{Role}
@@ -56,6 +56,14 @@ pub record Told (k n partner : ℕ) : Type 0 where
 
 abbrev pub PrintedIsTold : Type 0
 PrintedIsTold = (k n partner : ℕ) → k < count → Told k n partner
+
+-- "Width 1 where marked, else 2", of the setting that a look-up answers
+abbrev pub WidthIsPrinted : Type 0
+WidthIsPrinted = (k : ℕ) → k < count → widthIn lines (idAt k) ≡ some (settingAt k .width)
+
+-- past the table there is no setting, and no number is in range or allowed
+abbrev pub PastIsNothing : Type 0
+PastIsNothing = (k n partner : ℕ) → count ≤ k → (placing k ≡ Found.Nothing) × (ranging k n ≡ false) × (allowing k n partner ≡ false)
 
 -- all numbers at once are allowed exactly when each is so beside its partner's
 abbrev pub AllAllowedWhen : Type 0

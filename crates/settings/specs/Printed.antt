@@ -72,6 +72,11 @@ abbrev pub within : List Line → ℕ → ℕ → Bool
 within [] id n = false
 within (l ∷ more) id n = cond (among id (l .ids)) ((l .zero-too && eqb n 0) || (leb (l .low) n && leb n (l .high))) (within more id n)
 
+-- the width printed for an id
+abbrev pub widthIn : List Line → ℕ → Option ℕ
+widthIn [] id = none
+widthIn (l ∷ more) id = cond (among id (l .ids)) (some (l .width)) (widthIn more id)
+
 -- the factory number printed for an id
 abbrev pub factoryIn : List Line → ℕ → Option ℕ
 factoryIn [] id = none

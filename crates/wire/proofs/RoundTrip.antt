@@ -15,7 +15,7 @@ use Rattle.wire.specs.Digits.{digit, nibble, isDigit}
 use Rattle.paper.specs.Numbers.{colon, newline, frameTotal}
 use Rattle.wire.specs.Frame.{check, digitsOf, body, frame}
 use Rattle.wire.specs.Parsing.{Ended, good, refused, bytesOf, commandOf, payloadOf, dataOf, badCount, sumsUp, bodySays}
-use Rattle.wire.specs.Calls.{between, wellEnclosed, parsing, readAs, writing, writtenAs}
+use Rattle.wire.specs.Calls.{between, wellEnclosed, parsing, parsingChars, readAs, wholeSays, writing, writtenAs}
 use Rattle.wire.specs.declared.Read.{Read}
 use Rattle.wire.proofs.Nibbles.{nibble-digit, digit-nibble, digit-isDigit, nibble-at}
 use Rattle.wire.proofs.Bytes.{length-bytesOf, length-data, odd-count}
@@ -102,6 +102,11 @@ well-enclosed (x ∷ rest) e =
     let front : suc (length rest) - 2 ≡ m = omega arith in
     let split : rest ≡ take m rest ++ newline ∷ [] = rw (last, none) at (split-at rest m 0 here) in
     rw front (ap₂ (λ (y : ℕ) (ys : List ℕ). y ∷ ys) first split)
+
+-- so the characters alone are read as the slice that they fill
+pub chars-whole : (chars : List ℕ) (room : ℕ) → parsingChars chars room ≡ parsing (colon ∷ chars ++ newline ∷ []) room
+unfolding parsingChars parsing wholeSays
+chars-whole chars room = rw (enclosed-well chars, between-enclosed chars)
 
 pub frame-says : (command : ℕ) (bytes : List ℕ) → command ≤ 15 → length bytes ≤ 35 → Bytes bytes → (room : ℕ) → 35 ≤ room
     → parsing (frame command bytes) room ≡ readAs (good command bytes)

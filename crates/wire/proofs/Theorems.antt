@@ -1,6 +1,6 @@
 -- The statements of specs/Laws.antt, proved. Assumes nothing.
-use Rattle.wire.specs.Laws.{WrittenIsRead, ReadIsWritten, WrittenSums, ReadSums, FaultGivenWhen, ReadGivenWhen, CharsGivenWhen, WriteGivenWhen, RefusedWritesNothing}
-use Rattle.wire.proofs.RoundTrip.{frame-says, slice-written}
+use Rattle.wire.specs.Laws.{WrittenIsRead, ReadIsWritten, WrittenSums, ReadSums, FaultGivenWhen, ReadGivenWhen, CharsGivenWhen, CharsAreWhole, WriteGivenWhen, RefusedWritesNothing}
+use Rattle.wire.proofs.RoundTrip.{frame-says, slice-written, chars-whole}
 use Rattle.wire.proofs.Refusing
 
 pub written-is-read : WrittenIsRead
@@ -23,6 +23,9 @@ read-given-when = Refusing.read-given
 
 pub chars-given-when : CharsGivenWhen
 chars-given-when = Refusing.chars-given
+
+pub chars-are-whole : CharsAreWhole
+chars-are-whole = chars-whole
 
 pub write-given-when : WriteGivenWhen
 write-given-when = Refusing.write-given

@@ -77,6 +77,11 @@ ReadGivenWhen =
 abbrev pub CharsGivenWhen : Type 0
 CharsGivenWhen = (chars : List ℕ) (room : ℕ) → refusalOf (parsingChars chars room .answer) ≡ firstOf (row 11 (ltb room 35) ∷ faults chars newline)
 
+-- "The stream is read by the same frame rule": of the characters alone the whole answer, with the data in the buffer, is that of the slice in
+-- which a colon comes before them and a newline after.
+abbrev pub CharsAreWhole : Type 0
+CharsAreWhole = (chars : List ℕ) (room : ℕ) → parsingChars chars room ≡ parsing (colon ∷ chars ++ newline ∷ []) room
+
 abbrev pub WriteGivenWhen : Type 0
 WriteGivenWhen =
     (command : ℕ) (bytes : List ℕ) (room : ℕ)
