@@ -7,5 +7,6 @@ pub mod Making
 pub mod Refusing
 pub mod Telling
 pub mod Asking
+pub mod Holding
 pub mod Theorems
 pub mod Same

@@ -1,5 +1,6 @@
 -- What a frame makes of a board's table, and what refusals leave. Assumes nothing.
 use mathlib.Core.Path.{_≡_, refl, ap, _∙_}
+use mathlib.Core.Logic.{_≢_}
 use mathlib.Core.Bool.{Bool, true, false, _&&_}
 use mathlib.Core.List.{List}
 use mathlib.Core.Option.{Option, none, some}
@@ -21,7 +22,7 @@ use Rattle.endian.specs.Numbers.{fromLittle}
 use Rattle.who.specs.Values.{readOnly}
 use Rattle.paper.specs.Numbers.{pingCode, versionCode, productCode, restartCode, getCode, setCode, asyncCode}
 use Rattle.answers.specs.Answers.{withTable, Sent, Decision, staying, tells, restarts, getsOther, getsFound, getAnswer, setsOther, stored, setsSetting, setsFound, setAnswer, frameAnswer, makesFound, makes}
-use Rattle.answers.specs.Laws.{RefusedStays, AnswerMakes, IdentityStays, MakesKeepsAllowed}
+use Rattle.answers.specs.Laws.{RefusedStays, AnswerMakes, IdentityStays, ReadingsStay, MakesKeepsAllowed}
 use Rattle.answers.specs.declared.Core.{Core}
 use Rattle.answers.specs.declared.Outcome.{Outcome}
 
@@ -31,12 +32,13 @@ module _ (core : Core) where
     identity-is : d .core .identity ≡ core .identity
     table-is : d .core .table ≡ table
     refused-is : (number : ℕ) → d .outcome ≡ Outcome.Refused number → d .core ≡ core
+    readings-are : d .outcome ≢ Outcome.Restarted → d .core .readings ≡ core .readings
 
   abbrev Spares : Decision → Type 0
   Spares = Leaves (core .table)
 
   spared : {outcome : Outcome} {reply : Sent} → Spares (staying core outcome reply)
-  spared = record { identity-is = refl; table-is = refl; refused-is = λ number e. refl }
+  spared = record { identity-is = refl; table-is = refl; refused-is = λ number e. refl; readings-are = λ other. refl }
 
   -- commands other than a Set
   tells-spares : (response number : ℕ) (bytes : List ℕ) → Spares (tells core response number bytes)
@@ -47,7 +49,12 @@ module _ (core : Core) where
   unfolding restarts
   restarts-spares bytes =
       pick Spares (eqb (length bytes) 0)
-      (record { identity-is = refl; table-is = refl; refused-is = λ number e. let z : _≡_ {A = ℕ} 0 1 = cc in absurd (omega arith) }) spared
+      (record {
+        identity-is = refl;
+        table-is = refl;
+        refused-is = λ number e. let z : _≡_ {A = ℕ} 0 1 = cc in absurd (omega arith);
+        readings-are = λ other. absurd (other refl);
+      }) spared
 
   get-other-spares : (id : ℕ) (o : Option (List ℕ)) → Spares (getsOther core id o)
   get-other-spares id none = spared
@@ -76,9 +83,14 @@ module _ (core : Core) where
   stored-leaves : (s : Setting) (n : ℕ) (table : Table) (a : Answer) → ((number nearest : ℕ) → a ≡ Answer.Refused number nearest → table ≡ core .table)
       → Leaves table (stored (withTable core table) s n a)
   stored-leaves s n table Answer.Accepted same =
-      record { identity-is = refl; table-is = refl; refused-is = λ number e. let z : _≡_ {A = ℕ} 0 1 = cc in absurd (omega arith) }
+      record {
+        identity-is = refl;
+        table-is = refl;
+        refused-is = λ number e. let z : _≡_ {A = ℕ} 0 1 = cc in absurd (omega arith);
+        readings-are = λ other. refl;
+      }
   stored-leaves s n table (Answer.Refused number nearest) same =
-      record { identity-is = refl; table-is = refl; refused-is = λ m e. ap (withTable core) (same number nearest refl) }
+      record { identity-is = refl; table-is = refl; refused-is = λ m e. ap (withTable core) (same number nearest refl); readings-are = λ other. refl }
 
   setting-leaves : (s : Setting) (value : List ℕ) → Leaves (makesFound (core .table) value (Found.At s)) (setsSetting core s value)
   unfolding setsSetting
@@ -119,6 +131,9 @@ answer-makes core command bytes = answer-leaves core command bytes .table-is
 
 pub identity-stays : IdentityStays
 identity-stays core command bytes = answer-leaves core command bytes .identity-is
+
+pub readings-stay : ReadingsStay
+readings-stay core command bytes = answer-leaves core command bytes .readings-are
 
 pub refused-stays : RefusedStays
 refused-stays core command bytes = answer-leaves core command bytes .refused-is

@@ -1,9 +1,10 @@
 -- The statements of specs/Laws.antt, proved. Assumes nothing.
-use Rattle.answers.specs.Laws.{RepliesFit, RefusedStays, AnswerMakes, IdentityStays, MakesKeepsAllowed, GetAnswersHeld, GetAnswersReadOnly, SetStoresIt, SetRefusedNamesNearest, RefusalGivenWhen, OutcomeAndReply}
+use Rattle.answers.specs.Laws.{RepliesFit, RefusedStays, AnswerMakes, IdentityStays, ReadingsStay, MakesKeepsAllowed, GetAnswersHeld, GetAnswersReadOnly, SetStoresIt, SetRefusedNamesNearest, RefusalGivenWhen, AnswerHolds, OutcomeAndReply}
 use Rattle.answers.proofs.Fitting
-use Rattle.answers.proofs.Making.{refused-stays, answer-makes, identity-stays, makes-allowed}
+use Rattle.answers.proofs.Making.{refused-stays, answer-makes, identity-stays, readings-stay, makes-allowed}
 use Rattle.answers.proofs.Asking.{get-held, get-read-only, set-stores, set-names}
 use Rattle.answers.proofs.Refusing.{refusal-given}
+use Rattle.answers.proofs.Holding
 use Rattle.answers.proofs.Telling.{outcome-reply}
 
 pub replies-fit : RepliesFit
@@ -17,6 +18,9 @@ answer-makes-it = answer-makes
 
 pub identity-stays-it : IdentityStays
 identity-stays-it = identity-stays
+
+pub readings-stay-it : ReadingsStay
+readings-stay-it = readings-stay
 
 pub makes-keeps-allowed : MakesKeepsAllowed
 makes-keeps-allowed = makes-allowed
@@ -35,6 +39,9 @@ set-refused-names-nearest = set-names
 
 pub refusal-given-when : RefusalGivenWhen
 refusal-given-when = refusal-given
+
+pub answer-holds : AnswerHolds
+answer-holds = Holding.answer-holds
 
 pub outcome-and-reply : OutcomeAndReply
 outcome-and-reply = outcome-reply

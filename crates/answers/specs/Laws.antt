@@ -2,9 +2,10 @@
 -- Assumes nothing.
 use Prim.Native.Nat.{ℕ, _^_, _<_}
 use mathlib.Core.Path.{_≡_}
+use mathlib.Core.Logic.{_≢_}
 use mathlib.Core.Bool.{true, false, not, _&&_}
 use mathlib.Core.List.{List, [], _∷_}
-use lib.ListN.{length}
+use lib.ListN.{length, take}
 use Rattle.paper.specs.Numbers as paper
 use Rattle.laws.specs.Lists.{Bytes}
 use Rattle.wire.specs.Laws.{Writable}
@@ -17,11 +18,15 @@ use Rattle.who.specs.Parts.{identityAllowed}
 use Rattle.who.specs.Laws.{Holds}
 use Rattle.endian.specs.Numbers.{little}
 use Rattle.paper.specs.Numbers.{getCode, setCode}
-use Rattle.answers.specs.Answers.{withTable, Sent, silent, sent, error, staying, said, frameAnswer, makes}
+use Rattle.answers.specs.Answers.{withTable, Sent, silent, sent, error, Decision, staying, said, frameAnswer, makes}
 use Rattle.answers.specs.Refusals.{rows, numberOf, Told}
 use Rattle.answers.specs.Calls.{answering}
+use Rattle.answers.specs.AsHeld.{decidedOf}
 use Rattle.answers.specs.declared.Core.{Core}
 use Rattle.answers.specs.declared.Outcome.{Outcome}
+use Rattle.answers.specs.declared.Message.{Message}
+use Rattle.answers.specs.declared.Sends.{Sends}
+use Rattle.answers.specs.declared.Decided.{Decided}
 
 -- 1. Every reply fits a frame.
 pub data Fits : Sent → Type 0 where
@@ -46,6 +51,12 @@ AnswerMakes = (core : Core) (command : ℕ) (bytes : List ℕ) → frameAnswer c
 
 abbrev pub IdentityStays : Type 0
 IdentityStays = (core : Core) (command : ℕ) (bytes : List ℕ) → frameAnswer core command bytes .core .identity ≡ core .identity
+
+-- its readings stay too, unless a restart is reported
+abbrev pub ReadingsStay : Type 0
+ReadingsStay =
+    (core : Core) (command : ℕ) (bytes : List ℕ)
+    → frameAnswer core command bytes .outcome ≢ Outcome.Restarted → frameAnswer core command bytes .core .readings ≡ core .readings
 
 abbrev pub MakesKeepsAllowed : Type 0
 MakesKeepsAllowed =
@@ -84,7 +95,22 @@ RefusalGivenWhen =
     (core : Core) (command : ℕ) (bytes : List ℕ)
     → numberOf (answering core command bytes .outcome) ≡ firstOf (row 12 (not (identityAllowed (core .identity) && allowed (core .table))) ∷ rows core command bytes)
 
--- 7. The outcome, the reply and the board afterwards belong together. (Data are bytes in every value of the type.)
+-- 7. The public call's answer holds what is decided: the outcome, the core, and the reply as nothing, as the error frame, or as a command with
+-- its data at the front of the array.
+pub data HeldAs : Sent → Sends → Message → Type 0 where
+  nothing : {m : Message} → HeldAs silent Sends.Nothing m
+  an-error : {m : Message} → HeldAs error Sends.Error m
+  a-frame : {m : Message} {command : ℕ} {bytes : List ℕ} → m .command ≡ command → take (m .len) (m .bytes) ≡ bytes → HeldAs (sent command bytes) Sends.Frame m
+
+pub record Holding (d : Decision) (answer : Decided) : Type 0 where
+  pub outcome-is : answer .outcome ≡ d .outcome
+  pub core-is : answer .core ≡ d .core
+  pub reply-is : HeldAs (d .reply) (answer .sends) (answer .reply)
+
+abbrev pub AnswerHolds : Type 0
+AnswerHolds = (core : Core) (command : ℕ) (bytes : List ℕ) → let d = answering core command bytes in Holding d (decidedOf d)
+
+-- 8. The outcome, the reply and the board afterwards belong together. (Data are bytes in every value of the type.)
 abbrev pub OutcomeAndReply : Type 0
 OutcomeAndReply =
     (core : Core) (command : ℕ) (bytes : List ℕ) → Bytes bytes
