@@ -27,9 +27,9 @@ const BAR: u8 = b'|';
 const BYTES: u8 = b'b';
 
 // How many calls there are.
-const COUNT: usize = 22;
+const COUNT: usize = 23;
 
-const SIZE: usize = 225;
+const SIZE: usize = 234;
 
 const READ: usize = 0;
 
@@ -75,11 +75,13 @@ const COLLECT: usize = 20;
 
 const GATHER: usize = 21;
 
+const ANEW: usize = 22;
+
 // Returns the calls, numbered from 0, each ended by a bar: its name, and the kinds of its words, the name's among them.
 fn table() -> [u8; SIZE]
-    ensures { λ r. ⌜ 225 ≡ length r ⌝ }
+    ensures { λ r. ⌜ 234 ≡ length r ⌝ }
 {
-    *b"read cnb|write cnnb|get cni|set cnnn|hear cnB|hold cnbnB|listen cnnnA|board cnP|serial cnbB|start ciibS|store cS|reply cnb|show cib|nearest cinn|change cnnS|text cnS|parse cL|list cnS|due cnS|follow cF|collect ciC|gather cnC|"
+    *b"read cnb|write cnnb|get cni|set cnnn|hear cnB|hold cnbnB|listen cnnnA|board cnP|serial cnbB|start ciibS|store cS|reply cnb|show cib|nearest cinn|change cnnS|text cnS|parse cL|list cnS|due cnS|follow cF|collect ciC|gather cnnC|anew cF|"
 }
 
 // Returns whether a call has this name.
@@ -157,7 +159,7 @@ fn asks_board(call: usize, row: &[u8], given: &[u8]) {
     }
 }
 
-// Makes a call of the backup text, of the restore or of the collector.
+// Makes a call of the backup text, of the restore, of the collector or of the tally.
 fn asks_box(call: usize, row: &[u8]) {
     match call {
         TEXT => texts::text(row),
@@ -167,6 +169,7 @@ fn asks_box(call: usize, row: &[u8]) {
         FOLLOW => follows::follow(row),
         COLLECT => collects::collect(row),
         GATHER => collects::gather(row),
+        ANEW => follows::anew(row),
         _ => words::say(words::UNREAD),
     }
 }

@@ -26,18 +26,18 @@ const TWO_BYTES: usize = 5;
 // Answers `collect ID ITEM ..`: a start, and every setting before this id answered with its factory number; then what the items tell.
 pub fn collect(row: &[u8]) {
     let begun = Collector::start().collector;
-    items(answered(begun, filled::place_of(args::id(row, 1))), row);
+    items(answered(begun, filled::place_of(args::id(row, 1))), row, 2);
 }
 
-// Answers `gather LEN ITEM ..`: a collector made by hand, with LEN settings answered and every number 0.
+// Answers `gather LEN SILENCES ITEM ..`: a collector made by hand, with LEN settings answered, every number 0, and no answer to this many Gets.
 pub fn gather(row: &[u8]) {
     let made = Collector {
         len: args::number(row, 1),
         numbers: [0u16; COUNT],
-        silences: 0,
+        silences: args::number(row, 2),
         stopped: false,
     };
-    items(made, row);
+    items(made, row, 3);
 }
 
 // Returns a collector with the settings before a place answered, each with its factory number.
@@ -91,11 +91,11 @@ fn good(collector: Collector, setting: Setting, number: u16) -> Collector {
         .collector
 }
 
-// Hands a collector the items of a row.
-fn items(collector: Collector, row: &[u8]) {
+// Hands a collector the items of a row, from a word on.
+fn items(collector: Collector, row: &[u8], first: usize) {
     let words = count(row);
     let mut asking = collector;
-    let mut k = 2;
+    let mut k = first;
     while k < words {
         asking = item(asking, row, k);
         k += 1;

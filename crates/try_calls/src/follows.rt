@@ -20,6 +20,27 @@ pub fn follow(row: &[u8]) {
     say::sentence(sentences::followed(follower));
 }
 
+// Answers `anew ITEM ..`: the same, and at the end whether the trailer is begun anew: where the board said nothing to its last Set, before the
+// last round and in it; then where it said something, likewise.
+pub fn anew(row: &[u8]) {
+    let follower = at_the_end(row);
+    say_anew(follower, false, false);
+    say_anew(follower, false, true);
+    say_anew(follower, true, false);
+    say_anew(follower, true, true);
+}
+
+// Writes whether a trailer is begun anew.
+fn say_anew(follower: Follower, answered: bool, last: bool) {
+    words::say(word_of(tally::begins_anew(follower, answered, last)));
+    words::say(words::END);
+}
+
+// Returns the word for whether a trailer is begun anew.
+fn word_of(anew: bool) -> usize {
+    if anew { words::ANEW } else { words::NOT_ANEW }
+}
+
 // Starts from the two tables of the row, hands the follower the row's other items, and returns it.
 fn at_the_end(row: &[u8]) -> Follower {
     let words = count(row);

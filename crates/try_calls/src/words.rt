@@ -8,7 +8,7 @@ use libc::STDOUT_FILENO;
 
 const BAR: u8 = b'|';
 
-const SIZE: usize = 347;
+const SIZE: usize = 363;
 
 pub const ARROW: usize = 0;
 
@@ -82,11 +82,15 @@ pub const TAB: usize = 34;
 
 pub const CUT_OFF: usize = 35;
 
+pub const ANEW: usize = 36;
+
+pub const NOT_ANEW: usize = 37;
+
 // Returns the words, numbered from 0, each ended by a bar. They are one table, since a check takes much longer over a literal for each.
 fn table() -> [u8; SIZE]
-    ensures { λ r. ⌜ 347 ≡ length r ⌝ }
+    ensures { λ r. ⌜ 363 ≡ length r ⌝ }
 {
-    *b" ->| ?| refused|;| nothing| frame| broken| no-answer| answered| restarted| ignored| error| accepted| nearest| line| done| unknown| ping| get| set| async| good| unknown-id| not-supported| parameter-error| volts | amperes | amp-hours | percent |no-number| waiting| equal| stopped|\\n|\\t|the input fills the buffer: what comes after this is not read\n|"
+    *b" ->| ?| refused|;| nothing| frame| broken| no-answer| answered| restarted| ignored| error| accepted| nearest| line| done| unknown| ping| get| set| async| good| unknown-id| not-supported| parameter-error| volts | amperes | amp-hours | percent |no-number| waiting| equal| stopped|\\n|\\t|the input fills the buffer: what comes after this is not read\n| anew| not-anew|"
 }
 
 // Writes a word.

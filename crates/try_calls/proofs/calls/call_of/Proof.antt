@@ -9,7 +9,7 @@ abbrev Inv-loop : tie.InvT-loop
 Inv-loop name call₀ call = Unit {0}
 
 abbrev μ-loop : tie.MeasureT-loop
-μ-loop name call₀ call = 22 - call
+μ-loop name call₀ call = 23 - call
 
 loop-holds : tie.Need-loop-holds Inv-loop μ-loop
 loop-holds c = tt

@@ -6,10 +6,10 @@ use Rattle.try_calls.proofs.collects.items.Statement.{statement}
 use Rattle.try_calls.proofs.collects.items.Tie as tie
 
 abbrev Inv-loop : tie.InvT-loop
-Inv-loop row words asking₀ k₀ asking k = Unit {0}
+Inv-loop row first words asking₀ k₀ asking k = Unit {0}
 
 abbrev μ-loop : tie.MeasureT-loop
-μ-loop row words asking₀ k₀ asking k = words - k
+μ-loop row first words asking₀ k₀ asking k = words - k
 
 count-requires : tie.Need-count-requires Inv-loop μ-loop
 count-requires c κs = search needs
