@@ -23,7 +23,7 @@ use Rattle.reply.proofs.Flags.{said-small}
 use Rattle.reply.specs.Events.{Event, noAnswer, OnStream, nothing, a-frame, a-silence}
 use Rattle.follow.specs.Following.{effectOf, standsAt, standing, moved, advanced, begun, followerAllowed}
 use Rattle.follow.specs.Calls.{answered, unanswered, told, starting, following}
-use Rattle.follow.specs.Laws.{calls, Reached, AllowedIsReached, RefusedIsStray, ownData, matched, isEnded, CountIsTold, Tells, refused, equal, done, stopped, waiting, StandingExactly, ownReply, AllConfirmed, onNamed, named, NamedIsListed, run, CallsFollow}
+use Rattle.follow.specs.Laws.{calls, Reached, AllowedIsReached, RefusedIsStray, ownData, matched, isEnded, CountIsTold, Tells, refused, equal, done, stopped, waiting, StandingExactly, ownReply, AllConfirmed, onNamed, named, NamedIsListed, HandedIsTold, ToldIsLast, run, CallsFollow}
 use Rattle.follow.specs.declared.Follower.{Follower}
 use Rattle.follow.specs.declared.Followed.{Followed}
 use Rattle.follow.specs.declared.Standing.{Standing}
@@ -76,6 +76,26 @@ follow-calls from to events = by (bothAllowed from to) refl
     by : (b : Bool) → bothAllowed from to ≡ b → calls (starting from to) events ≡ cond b (answered (run (begun from to) events)) (unanswered (begun from to))
     by true ok = told-as from to ok events
     by false bad = told-not from to bad events
+
+pub handed-told : HandedIsTold
+handed-told from to events ok =
+    let is : calls (starting from to) events ≡ answered (run (begun from to) events) = told-as from to ok events in (
+      ap (λ (t : Followed). t .follower .confirmed) is ∙ sym (ap (λ (t : Followed). t .confirmed) is),
+      ap (λ (t : Followed). standing (t .follower)) is ∙ sym (ap (λ (t : Followed). t .standing) is),
+    )
+
+pub told-last : ToldIsLast
+told-last from to events = by (bothAllowed from to) refl
+  where
+    again : (t : Followed) → calls (starting from to) events ≡ t → told (t .follower) ≡ t → told (calls (starting from to) events .follower) ≡ calls (starting from to) events
+    again t is same = ap (λ (x : Followed). told (x .follower)) is ∙ same ∙ sym is
+
+    by : (b : Bool) → bothAllowed from to ≡ b → told (calls (starting from to) events .follower) ≡ calls (starting from to) events
+    by true ok =
+        again (answered (run (begun from to) events)) (told-as from to ok events)
+        (sym (told-good (run (begun from to) events) (goes-far from to ok (begun from to) events (begins from to ok) .is-allowed)))
+    by false bad =
+        again (unanswered (begun from to)) (told-not from to bad events) (sym (told-stray (begun from to) (sym (allowed-stray (begun from to) bad))))
 
 -- the board's own replies are ones that a stream can give
 own-stream : (l : List Wanted) {more : List Event} → OnStream more → OnStream (map ownReply l ++ more)

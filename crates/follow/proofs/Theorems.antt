@@ -10,7 +10,7 @@ use Rattle.restore.specs.Order.{dueSets}
 use Rattle.restore.specs.Calls.{bothAllowed}
 use Rattle.reply.specs.Events.{Event, OnStream}
 use Rattle.follow.specs.Following.{standing, begun}
-use Rattle.follow.specs.Laws.{AllowedIsReached, RefusedIsStray, CountIsTold, StandingExactly, AllConfirmed, NamedIsListed, CallsFollow, matched, ownReply, run}
+use Rattle.follow.specs.Laws.{AllowedIsReached, RefusedIsStray, CountIsTold, StandingExactly, AllConfirmed, NamedIsListed, HandedIsTold, ToldIsLast, CallsFollow, matched, ownReply, run}
 use Rattle.follow.specs.declared.Standing.{Standing}
 use Rattle.follow.proofs.Reaching as reaching
 
@@ -31,6 +31,12 @@ all-confirmed = reaching.all-told
 
 pub named-is-listed : NamedIsListed
 named-is-listed = reaching.named-listed
+
+pub handed-is-told : HandedIsTold
+handed-is-told = reaching.handed-told
+
+pub told-is-last : ToldIsLast
+told-is-last = reaching.told-last
 
 pub calls-follow : CallsFollow
 calls-follow = reaching.follow-calls

@@ -18,7 +18,7 @@ use Rattle.restore.specs.declared.Due.{Due}
 use Rattle.requests.specs.declared.Wanted.{Wanted}
 use Rattle.requests.specs.declared.Request.{Request}
 use Rattle.reply.specs.Events.{Event, heard, refusedFrame, noAnswer, OnStream, answers}
-use Rattle.follow.specs.Following.{advanced, begun, followerAllowed}
+use Rattle.follow.specs.Following.{standing, advanced, begun, followerAllowed}
 use Rattle.follow.specs.Calls.{answered, unanswered, told, starting, following}
 use Rattle.follow.specs.declared.Follower.{Follower}
 use Rattle.follow.specs.declared.Followed.{Followed}
@@ -125,7 +125,17 @@ named (suc n) last = onNamed (λ due. due ∷ named n (following (last .follower
 abbrev pub NamedIsListed : Type 0
 NamedIsListed = (from to : Table) (n : ℕ) → named n (starting from to) ≡ cond (bothAllowed from to) (take n (dueSets from to)) []
 
--- 5. The follower that a row of calls hands back, by what an event makes of a follower: for proofs above, which speak of followers.
+-- 5. The follower that is handed back holds what was told of it, its count and how far it is; and `told` says the same of it again. So the
+-- sums and the sentences, which take a follower whole, speak of what the calls have told.
+abbrev pub HandedIsTold : Type 0
+HandedIsTold =
+    (from to : Table) (events : List Event) → bothAllowed from to ≡ true
+    → let last = calls (starting from to) events in (last .follower .confirmed ≡ last .confirmed) × (standing (last .follower) ≡ last .standing)
+
+abbrev pub ToldIsLast : Type 0
+ToldIsLast = (from to : Table) (events : List Event) → told (calls (starting from to) events .follower) ≡ calls (starting from to) events
+
+-- 6. The follower that a row of calls hands back, by what an event makes of a follower: for proofs above, which speak of followers.
 abbrev pub run : Follower → List Event → Follower
 run f [] = f
 run f (e ∷ more) = run (advanced f e) more
