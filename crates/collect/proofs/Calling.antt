@@ -17,7 +17,7 @@ use Rattle.tables.specs.declared.Table.{Table}
 use Rattle.reply.specs.Events.{Event}
 use Rattle.collect.specs.Collecting.{advanced, begun, allowed}
 use Rattle.collect.specs.Calls.{stageOf, tableOf, good, stray, told, starting, collecting}
-use Rattle.collect.specs.Laws.{run, calls, Reached, AllowedIsReached, refusedBy, RefusedIsStray, CallsFollow, Holds, TableIsCarried, Handed, TableIsAllowed, replies, BoardIsRead}
+use Rattle.collect.specs.Laws.{run, calls, Reached, AllowedIsReached, refusedBy, RefusedIsStray, CallsFollow, namedBy, Holds, TableIsCarried, ToldIsLast, Handed, TableIsAllowed, replies, BoardIsRead}
 use Rattle.collect.specs.declared.Collector.{Collector}
 use Rattle.collect.specs.declared.Stage.{Stage}
 use Rattle.collect.specs.declared.Collected.{Collected}
@@ -48,6 +48,11 @@ called events = calls-good events []
 
 pub calls-run : CallsFollow
 calls-run events = ap (λ (r : Collected). r .collector) (called events) ∙ good-collector (run begun events)
+
+pub told-last : ToldIsLast
+told-last events =
+    let c : Collector = run begun events in
+    ap told (calls-run events) ∙ sym (told-good c (ends-allowed (begun-ends events))) ∙ sym (called events)
 
 pub reached-calls : AllowedIsReached
 reached-calls c long = (
@@ -107,6 +112,15 @@ done-all len stopped e = by (ltb len count) refl
     by true t = absurd (stage-due len stopped (ltb-true _ _ t) e)
     by false t = ltb-false _ _ t
 
+-- and which setting is named
+stage-names : (len : ℕ) (stopped : Bool) → namedBy (stageOf len stopped) ≡ cond (ltb len count) (settingAt len ∷ []) []
+stage-names len stopped = by (ltb len count) stopped
+  where
+    by : (a b : Bool) → namedBy (cond a (cond b (Stage.Stopped (settingAt len)) (Stage.Waiting (settingAt len))) Stage.Done) ≡ cond a (settingAt len ∷ []) []
+    by true true = refl
+    by true false = refl
+    by false b = refl
+
 -- a collector holds these numbers
 record Shape (c : Collector) (l : List ℕ) : Type 0 where
   len-is : c .len ≡ length l
@@ -140,6 +154,7 @@ module _ (c : Collector) (l : List ℕ) (e : Ends c l) where
       record {
         numbers-are = ap₂ take (shape e .len-is) (shape e .numbers-are) ∙ take-append-seam l (zeros l);
         answered-are = shape e .len-is;
+        named-is = stage-names (c .len) (c .stopped) ∙ ap (λ (m : ℕ). cond (ltb m count) (settingAt m ∷ []) []) (shape e .len-is);
         done-when = (
           λ d. sym (shape e .len-is) ∙ done-is d,
           λ all. stage-done (c .len) (c .stopped) (let len : c .len ≡ length l = shape e .len-is in omega arith),

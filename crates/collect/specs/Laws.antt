@@ -10,6 +10,7 @@ use lib.Dec.{ltb, eqb}
 use Rattle.laws.specs.Lists.{same}
 use Rattle.endian.specs.Numbers.{little, fromLittle}
 use Rattle.settings.specs.Columns.{count, idAt, widthAt}
+use Rattle.settings.specs.Calls.{settingAt}
 use Rattle.settings.specs.declared.Setting.{Setting}
 use Rattle.tables.specs.Rules.{factory}
 use Rattle.tables.specs.Rules as tables
@@ -90,15 +91,27 @@ carriedAfter silences so-far (e ∷ more) =
 abbrev pub carried : List ℕ → List Event → List ℕ
 carried so-far events = carriedAfter 0 so-far events
 
--- what the last call answers, by the numbers carried
+-- the setting that is asked for, or was when it stopped
+abbrev pub namedBy : Stage → List Setting
+namedBy (Stage.Waiting s) = s ∷ []
+namedBy (Stage.Stopped s) = s ∷ []
+namedBy Stage.Done = []
+namedBy (Stage.Refused number) = []
+
+-- what the last call answers, by the numbers carried: the setting named is the one after those that have a number
 pub record Holds (numbers : List ℕ) (last : Collected) : Type 0 where
   pub numbers-are : take (last .collector .len) (last .collector .numbers) ≡ numbers
   pub answered-are : last .answered ≡ length numbers
+  pub named-is : namedBy (last .stage) ≡ cond (ltb (length numbers) count) (settingAt (length numbers) ∷ []) []
   pub done-when : (last .stage ≡ Stage.Done) ↔ (length numbers ≡ count)
   pub table-is : last .stage ≡ Stage.Done → last .table ≡ record { numbers = numbers }
 
 abbrev pub TableIsCarried : Type 0
 TableIsCarried = (events : List Event) → OnStream events → Holds (carried [] events) (calls starting events)
+
+-- `told` says of the collector that was handed back what was told of it.
+abbrev pub ToldIsLast : Type 0
+ToldIsLast = (events : List Event) → told (calls starting events .collector) ≡ calls starting events
 
 -- 3. A table that is given as done is allowed; every other is the factory table.
 pub record Handed (last : Collected) : Type 0 where
