@@ -1,8 +1,8 @@
 -- What a follower says of itself, and the Sets of its list. Assumes nothing.
 use mathlib.Core.Path.{_≡_, refl, sym, ap, ap₂, _∙_}
 use mathlib.Core.Bool.{Bool, true, false, cond, false≢true}
-use mathlib.Core.List.{List, [], _∷_}
-use Prim.Native.Nat.{ℕ, _≤_, _<_}
+use mathlib.Core.List.{List, [], _∷_, _++_, append-assoc}
+use Prim.Native.Nat.{ℕ, _-_, _≤_, _<_}
 use native.Mathlib.Omega.{arith}
 use borrow.Author.Tests.{ltb-true, leb-true, eqb-true}
 use lib.Dec.{ltb, leb, eqb}
@@ -27,9 +27,10 @@ use Rattle.follow.proofs.Standings.{told-good, told-stray, following-good}
 use Rattle.follow.proofs.Counting.{Goes, goes-far, begins}
 use Rattle.tally.specs.Laws.{isDone}
 use Rattle.lines.specs.Lines.{chars, adding}
+use Rattle.lines.specs.Numbers.{decimal}
 use Rattle.lines.specs.declared.Line.{Line}
-use Rattle.sentences.specs.Texts.{ofText, refusedText, endText, followedText, progressText}
-use Rattle.sentences.specs.Laws.{followedBy}
+use Rattle.sentences.specs.Texts.{betweenText, ofText, refusedText, stoppedText, endText, followedText, progressText}
+use Rattle.sentences.specs.Laws.{followedBy, FollowersSay}
 
 -- none is due any more
 abbrev isOver : Standing → Bool
@@ -177,3 +178,21 @@ module _ (from to : Table) (ok : bothAllowed from to ≡ true) where
 
   pub goes : (events : List Event) → Goes from to (run (begun from to) events)
   goes events = goes-far from to ok (begun from to) events (begins from to ok)
+
+-- the numbers that are said
+in-row : (a b c d e : List ℕ) → a ++ b ++ c ++ d ++ e ≡ a ++ (b ++ (c ++ (d ++ e)))
+in-row a b c d e = simp append-assoc
+
+in-rows : (a b c d e g h : List ℕ) → (a ++ b ++ c ++ d ++ e) ++ (g ++ h) ≡ a ++ (b ++ (c ++ (d ++ (e ++ (g ++ h)))))
+in-rows a b c d e g h = simp append-assoc
+
+pub followers-say : FollowersSay
+unfolding followedText progressText stoppedText ofText betweenText
+followers-say f ok =
+    record {
+      done-is = λ e. rw (ok, e) (in-row (chars "done: ") (decimal (f .confirmed)) (chars " of ") (decimal (total f)) (chars " settings confirmed"));
+      stopped-is = λ due e.
+          rw (ok, e)
+          (in-rows (chars "stopped: ") (decimal (f .confirmed)) (chars " of ") (decimal (total f)) (chars " settings confirmed, ") (decimal (total f - f .confirmed)) (chars " not confirmed"));
+      progress-is = rw ok (in-row [] (decimal (f .confirmed)) (chars " of ") (decimal (total f)) (chars " confirmed"));
+    }

@@ -48,13 +48,13 @@ use Rattle.lines.specs.Lines.{chars, lineOf, Says}
 use Rattle.lines.specs.Numbers.{decimalFrom, pointed}
 use Rattle.lines.proofs.Adding.{says-text, text-says}
 use Rattle.sentences.specs.Texts.{betweenText, ofText, refusedText, stoppedText, endText, followedText, progressText, readText, collectedText, keptText, fileText, savedText, goodText, refusalText, checkedText, countsText, summedText}
-use Rattle.sentences.specs.Laws.{AllDone, DoneIsDone, NothingDue, EqualIsEqual, followedBy, LineIsMatched, ReadIsRead, collectedBy, LineIsCarried, SavedIsSaved, NotSavedIsNot, GoodIsGood, IsBackup, GoodIsBackup, WellIsWell, NoneIsNone, StrayFollower, StrayCollector, StrayTally, CollectorsCount, FilesCount, FollowersFit, FilesFit, YardsFit}
+use Rattle.sentences.specs.Laws.{AllDone, DoneIsDone, NothingDue, EqualIsEqual, followedBy, LineIsMatched, FollowersSay, SumsAreSaid, ReadIsRead, collectedBy, LineIsCarried, SavedIsSaved, NotSavedIsNot, GoodIsGood, IsBackup, GoodIsBackup, WellIsWell, NoneIsNone, StrayFollower, StrayCollector, StrayTally, CollectorsCount, FilesCount, FollowersFit, FilesFit, YardsFit}
 use Rattle.sentences.specs.Values.{wordText, strangeText, serialText, amountText, readingText, wordsText, shownText}
 use Rattle.sentences.specs.Worked.{LinesRead}
 use Rattle.sentences.specs.declared.Kept.{Kept}
-use Rattle.sentences.proofs.Ending.{isKnown, followed-good, followed-stray, progress-good, progress-stray, stands-known, within-list, done-list, equal-list, equal-none, arrived, goes}
+use Rattle.sentences.proofs.Ending.{isKnown, followed-good, followed-stray, progress-good, progress-stray, stands-known, within-list, done-list, equal-list, equal-none, arrived, goes, followers-say}
 use Rattle.sentences.proofs.Gathering.{isDone, own-good, done-read, read-done, collected-good, collected-stray, saved-good, saved-stray, saved-done, collectors-say}
-use Rattle.sentences.proofs.Yard.{first-digit, well-said, none-said-ready, tally-stray}
+use Rattle.sentences.proofs.Yard.{first-digit, well-said, none-said-ready, tally-stray, sums-said}
 use Rattle.sentences.proofs.Uncut.{followers-uncut, files-uncut, yards-uncut}
 
 -- the first letter tells the sentences apart
@@ -257,6 +257,12 @@ good-is-backup text = (
   λ b. good-is-good (parsing text .verdict) .1
       (ap (λ (l : List ℕ). parsing l .verdict) (b .is-text) ∙ ap (λ (r : Backup). r .verdict) (written-is-read (b .table) (b .is-whole) (b .is-allowed))),
 )
+
+pub followers-say-it : FollowersSay
+followers-say-it = followers-say
+
+pub sums-are-said : SumsAreSaid
+sums-are-said = sums-said
 
 pub well-is-well : WellIsWell
 well-is-well = well-said

@@ -15,7 +15,7 @@ use Rattle.lines.specs.Numbers.{lastDigit, decimalFrom, decimal}
 use Rattle.lines.proofs.Digits.{one-digit, more-digits}
 use Rattle.lines.proofs.Adding.{text-back, says-text, text-says}
 use Rattle.sentences.specs.Texts.{betweenText, ofText, refusedText, countsText, summedText}
-use Rattle.sentences.specs.Laws.{frontText, NoneLeft, WellIsWell, NoneReady, NoneIsNone, StrayTally}
+use Rattle.sentences.specs.Laws.{joined, SumsAreSaid, frontText, NoneLeft, WellIsWell, NoneReady, NoneIsNone, StrayTally}
 use Rattle.sentences.proofs.Uncut.{yards-uncut}
 
 -- after the first digit of a number comes a digit, if one comes after the number
@@ -106,6 +106,13 @@ module _ (t : Tally) where
   unfolding summedText
   summed-good ok = rw ok
 
+  sums-flat : fourth t ≡ joined (decimal (t .confirmed) ∷ chars " of " ∷ decimal (t .due) ∷ chars " settings confirmed" ∷ [])
+  unfolding ofText
+  sums-flat = in-row (decimal (t .confirmed)) (chars " of ") (decimal (t .due)) (chars " settings confirmed")
+    where
+      in-row : (a b c d : List ℕ) → a ++ b ++ c ++ d ≡ a ++ (b ++ (c ++ d))
+      in-row a b c d = simp append-assoc
+
   pub summed-stray : tallyAllowed t ≡ false → refusedText 12 ≡ summedText t
   unfolding summedText
   summed-stray ok = rw ok
@@ -183,3 +190,15 @@ tally-stray t = (
     by : (b : Bool) → tallyAllowed t ≡ b → take 10 (summedText t) ≡ chars "refused 12" → tallyAllowed t ≡ false
     by true ok e = let z : _≡_ {A = ℕ} 0x79 0x72 = ap (λ (l : List ℕ). getD l 0 0) (ap (take 10) (sym (row t) ∙ summed-good t ok) ∙ e) in absurd (omega arith)
     by false bad e = bad
+
+pub sums-said : SumsAreSaid
+sums-said t ok =
+    sym (summed-good t ok) ∙ row t
+    ∙ ap
+    (λ (rest : List ℕ). chars "yard: "
+    ++ (decimal (t .done)
+    ++ (chars " done, "
+    ++ (decimal (t .equal)
+    ++ (chars " equal, "
+    ++ (decimal (t .stopped) ++ (chars " stopped, " ++ (decimal (t .silent) ++ (chars " silent, " ++ (decimal (t .unbegun) ++ (chars " not begun; " ++ rest)))))))))))
+    (sums-flat t)

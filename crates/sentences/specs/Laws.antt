@@ -1,16 +1,17 @@
 -- What is proved of the sentences. Each is proved under its name in proofs/Theorems.antt. (That a follower or a collector is allowed exactly
 -- when a start and events give it is AllowedIsReached of `follow` and of `collect`.) Assumes nothing.
-use Prim.Native.Nat.{ℕ, _≤_, _<_}
+use Prim.Native.Nat.{ℕ, _-_, _≤_, _<_}
 use mathlib.Core.Path.{_≡_}
 use mathlib.Core.Logic.{_↔_}
 use mathlib.Core.Bool.{true, false}
-use mathlib.Core.List.{List, [], _++_}
+use mathlib.Core.List.{List, [], _∷_, _++_}
 use lib.ListN.{length}
 use Rattle.settings.specs.Columns.{count}
 use Rattle.tables.specs.Rules as tables
 use Rattle.tables.specs.declared.Table.{Table}
 use Rattle.restore.specs.Order.{dueSets}
 use Rattle.restore.specs.Calls.{bothAllowed}
+use Rattle.requests.specs.declared.Wanted.{Wanted}
 use Rattle.reply.specs.Events.{Event, OnStream}
 use Rattle.follow.specs.Following.{standing, total, followerAllowed}
 use Rattle.follow.specs.Calls.{starting as following}
@@ -68,6 +69,26 @@ pub record LineSays (from to : Table) (events : List Event) : Type 0 where
 
 abbrev pub LineIsMatched : Type 0
 LineIsMatched = (from to : Table) (events : List Event) → bothAllowed from to ≡ true → OnStream events → LineSays from to events
+
+-- Every number in them, word by word, for any follower that a start and events give.
+abbrev pub joined : List (List ℕ) → List ℕ
+joined [] = []
+joined (part ∷ more) = part ++ joined more
+
+pub record NumbersSaid (f : Follower) : Type 0 where
+  pub done-is : standing f ≡ follows.Standing.Done
+      → followedText f ≡ joined (chars "done: " ∷ decimal (f .confirmed) ∷ chars " of " ∷ decimal (total f) ∷ chars " settings confirmed" ∷ [])
+  pub stopped-is : (due : Wanted) → standing f ≡ follows.Standing.Stopped due
+      → followedText f
+      ≡ joined
+      (chars "stopped: " ∷ decimal (f .confirmed) ∷ chars " of " ∷ decimal (total f) ∷ chars " settings confirmed, "
+      ∷ decimal (total f - f .confirmed)
+      ∷ chars " not confirmed"
+      ∷ [])
+  pub progress-is : progressText f ≡ joined (decimal (f .confirmed) ∷ chars " of " ∷ decimal (total f) ∷ chars " confirmed" ∷ [])
+
+abbrev pub FollowersSay : Type 0
+FollowersSay = (f : Follower) → followerAllowed f ≡ true → NumbersSaid f
 
 -- 3. The line of a board that was read says "all" exactly where a start and events give the collector and it is done. A file is said to be saved exactly
 -- where, besides, the caller says that it is on the disk; and to be as it was exactly where, besides, the caller says that.
@@ -131,6 +152,23 @@ pub record NoneReady (t : Tally) : Type 0 where
 
 abbrev pub NoneIsNone : Type 0
 NoneIsNone = (t : Tally) → Says (lineOf (summedText t)) 0 "yard: 0 done, 0 equal, " ↔ NoneReady t
+
+-- Every sum in it, word by word.
+abbrev pub SumsAreSaid : Type 0
+SumsAreSaid =
+    (t : Tally) → tallyAllowed t ≡ true
+    → summedText t
+    ≡ joined
+    (chars "yard: " ∷ decimal (t .done) ∷ chars " done, " ∷ decimal (t .equal) ∷ chars " equal, " ∷ decimal (t .stopped) ∷ chars " stopped, "
+    ∷ decimal (t .silent)
+    ∷ chars " silent, "
+    ∷ decimal (t .unbegun)
+    ∷ chars " not begun; "
+    ∷ decimal (t .confirmed)
+    ∷ chars " of "
+    ∷ decimal (t .due)
+    ∷ chars " settings confirmed"
+    ∷ [])
 
 -- 6. A state that no calls of its machine give is told as refused 12, and no other.
 abbrev pub StrayFollower : Type 0
