@@ -24,7 +24,8 @@ use wire::Written;
 // The listener's time is over long before there are this many frames that say nothing of what was asked.
 const MOST_EVENTS: u32 = 1000000000;
 
-const MOST_REQUESTS: usize = 3 * settings::COUNT;
+// A machine asks three times at most, for no more than there are settings.
+pub(crate) const MOST_REQUESTS: usize = 3 * settings::COUNT;
 
 // Which machine asks.
 pub(crate) enum Asker {
@@ -94,7 +95,7 @@ fn due(talk: Talk) -> Turn {
     match asker {
         Asker::Collector => collecting::due(talk.collected),
         Asker::Follower => restoring::due(talk.followed),
-        Asker::Viewer => viewing::due(talk.viewed, talk.silent),
+        Asker::Viewer => viewing::due(talk.viewed),
     }
 }
 
@@ -286,7 +287,7 @@ pub(crate) fn further(ends: Ends, talk: Talk, shown: bool) -> Talk {
     next
 }
 
-// Leads the talk to its end. A machine asks for a setting three times at most, so there are no more turns than that.
+// Leads the talk to its end.
 pub(crate) fn whole(ends: Ends, talk: Talk, shown: bool) -> Talk {
     let mut talk = talk;
     let mut turns = MOST_REQUESTS;

@@ -7,15 +7,13 @@ use view::Next;
 use view::Viewed;
 use view::Viewer;
 
-// Returns the request for the value that is due; nothing for a board that is silent.
-pub(crate) fn due(viewed: Viewed, silent: bool) -> Turn {
-    if silent {
-        return Turn::Nothing;
-    }
+// Returns the request for the value that is due, or nothing where the viewer has ended.
+pub(crate) fn due(viewed: Viewed) -> Turn {
     let next = viewed.next;
     match next {
         Next::Waiting(id) => Turn::Ask(Request::Get(id)),
         Next::Done => Turn::Nothing,
+        Next::Silent(_) => Turn::Nothing,
         Next::Refused(_) => Turn::Nothing,
     }
 }
@@ -32,15 +30,15 @@ fn framed(viewer: Viewer, command: u8, data: &[u8], len: usize) -> Viewed {
     viewer.reply(command, &data[..n])
 }
 
-// Hands what was told to the viewer, to which only a frame says something.
+// Hands what was told to the viewer, to which a broken frame says nothing.
 pub(crate) fn told_to(viewed: Viewed, told: Told, data: &[u8]) -> Viewed {
     let viewer = viewed.viewer;
     match told {
         Told::Nothing => viewed,
         Told::Frame { command, len } => framed(viewer, command, data, len),
         Told::Broken(_) => viewed,
-        Told::NoAnswer => viewed,
-        Told::Refused(_) => viewed,
+        Told::NoAnswer => viewer.no_answer(),
+        Told::Refused(_) => viewer.no_answer(),
     }
 }
 

@@ -1,9 +1,10 @@
-// The serial of a board, by one Get of 010A. What a serial is, `view` decides.
+// The serial of a board, by the Get of 010A. What a serial is, and how often it is asked for, `view` decides.
 use crate::serial::Ends;
 use crate::talk;
 use crate::talk::Talk;
 use crate::words;
 use lines::Line;
+use view::Next;
 use view::Sight;
 use view::Viewed;
 use view::Viewer;
@@ -72,9 +73,31 @@ fn begun(time: u64) -> Talk {
     talk
 }
 
+// Returns whether the viewer still asks for the serial.
+fn is_due(viewed: Viewed) -> bool {
+    let next = viewed.next;
+    match next {
+        Next::Waiting(id) => id == paper::SERIAL_ID,
+        Next::Done => false,
+        Next::Silent(_) => false,
+        Next::Refused(_) => false,
+    }
+}
+
+// Leads a talk on until the viewer asks for the serial no more.
+fn answered(ends: Ends, talk: Talk) -> Talk {
+    let mut talk = talk;
+    let mut turns = talk::MOST_REQUESTS;
+    while turns > 0 && is_due(talk.viewed) {
+        talk = talk::further(ends, talk, false);
+        turns -= 1;
+    }
+    talk
+}
+
 // Asks a board for its serial.
 pub(crate) fn ask(ends: Ends) -> Serial {
-    of_talk(talk::further(ends, begun(ends.begun), false))
+    of_talk(answered(ends, begun(ends.begun)))
 }
 
 // Returns whether the board told this serial.

@@ -4,12 +4,12 @@ use mathlib.Core.Bool.{Bool, true, false, cond}
 use mathlib.Core.List.{List, [], _∷_, _++_}
 use Prim.Native.Nat.{ℕ, _+_, _%_, _≤_}
 use native.Mathlib.Omega.{arith}
-use borrow.Author.Tests.{lt-ltb, le-ltb}
 use lib.ListN.{getD, take}
 use Rattle.paper.specs.Numbers.{notAllowed}
 use Rattle.reply.specs.Replies.{rest}
 use Rattle.reply.specs.Units.{inVolts, inAmperes, inFineAmperes, inAmpHours, inPercent}
 use Rattle.reply.specs.Calls.{showing}
+use Rattle.reply.specs.Events.{heard}
 use Rattle.view.specs.Values.{count, serialIn, isUnderstood}
 use Rattle.view.specs.Calls.{sightOf, allowed, viewing}
 use Rattle.view.specs.declared.Viewer.{Viewer}
@@ -17,7 +17,7 @@ use Rattle.view.specs.declared.Sight.{Sight}
 use Rattle.view.specs.declared.Viewed.{Viewed}
 use Rattle.view.proofs.Serials.{same-serial}
 use Rattle.view.proofs.Hearing.{Valued, understood-valued}
-use Rattle.view.proofs.Counting.{few-answered, few-understood, calls-allowed, counts-are-true}
+use Rattle.view.proofs.Counting.{few-answered, few-understood, waits, ended-all, ended-silent, calls-allowed, counts-are-true}
 use Rattle.lines.specs.Lines.{chars, lineOf}
 use Rattle.lines.specs.Numbers.{lastDigit, decimalFrom, decimal}
 use Rattle.lines.proofs.Adding.{says-text, text-says}
@@ -27,8 +27,8 @@ use Rattle.sentences.specs.Values.{serialText, amountText, readingText, 
 use Rattle.sentences.specs.ValueLaws.{ReadAlike, SerialIsTold, LineIsTold, ShownIsCounted, ShownIsShown, StrayViewer}
 
 -- what is said of a frame, by what it came to
-module _ (v : Viewer) (command : ℕ) (bytes : List ℕ) (viewed : Viewed) (s : Sight) (e : viewed ≡ viewing v command bytes) (is : viewed .sight ≡ s) where
-  sight-is : viewing v command bytes .sight ≡ s
+module _ (v : Viewer) (command : ℕ) (bytes : List ℕ) (viewed : Viewed) (s : Sight) (e : viewed ≡ viewing v (heard command bytes)) (is : viewed .sight ≡ s) where
+  sight-is : viewing v (heard command bytes) .sight ≡ s
   sight-is = sym (ap (λ (w : Viewed). w .sight) e) ∙ is
 
   pub said-as : (value : List ℕ) → value ≡ rest bytes → lineOf (sightText value s) ≡ lineOf (seenText v command bytes)
@@ -59,13 +59,14 @@ pub line-is-told : LineIsTold
 unfolding seenText viewing sightOf
 line-is-told v command bytes ok =
     record {
-      due-told = λ h. rw (ok, lt-ltb (v .answered) count h);
-      none-told = λ h. rw (ok, le-ltb (v .answered) count h);
+      due-told = λ h k. rw (ok, waits v h k);
+      none-told = λ h. rw (ok, ended-all v h);
+      silent-told = λ h. rw (ok, ended-silent v h);
     }
 
 pub shown-is-counted : ShownIsCounted
 unfolding shownText
-shown-is-counted frames = rw (calls-allowed frames, counts-are-true frames .understood-are)
+shown-is-counted events = rw (calls-allowed events, counts-are-true events .understood-are)
 
 -- eight is one digit, and no count of a viewer has two
 eight-shown : (u : ℕ) → u ≤ 8 → take 20 (ofText (chars "shown: ") u 8 (chars " values")) ≡ chars "shown: 8 of 8 values" → u ≡ 8

@@ -12,6 +12,7 @@ use Rattle.wire.specs.Frame.{digitsOf}
 use Rattle.endian.specs.Numbers.{fromLittle, signed}
 use Rattle.reply.specs.Replies.{rest}
 use Rattle.reply.specs.declared.Shown.{Shown}
+use Rattle.reply.specs.Events.{heard}
 use Rattle.view.specs.Values.{count, widthOf, serialIn}
 use Rattle.view.specs.Calls.{allowed, viewing}
 use Rattle.view.specs.declared.Viewer.{Viewer}
@@ -98,7 +99,7 @@ wordsText id value =
     cond (eqb id paper.productId) (productText value)
     (cond (eqb id paper.serialId) (serialText value) (cond (eqb id paper.versionId) (versionText value) (readingText id value)))
 
--- What a frame said of the id that was due, and nothing where it said nothing of it; nothing too where no start and replies give the viewer,
+-- What a frame said of the id that was due, and nothing where it said nothing of it; nothing too where no start and events give the viewer,
 -- as `view` then refuses it and looks at no frame.
 abbrev pub sightText : List ℕ → Sight → List ℕ
 sightText value Sight.Nothing = []
@@ -106,8 +107,8 @@ sightText value (Sight.Understood id) = wordsText id value
 sightText value (Sight.Strange id) = strangeText id
 
 unfoldable pub seenText : Viewer → ℕ → List ℕ → List ℕ
-seenText v command bytes = sightText (rest bytes) (viewing v command bytes .sight)
+seenText v command bytes = sightText (rest bytes) (viewing v (heard command bytes) .sight)
 
--- `shown: 5 of 8 values`; 12 where no start and replies give the viewer
+-- `shown: 5 of 8 values`; 12 where no start and events give the viewer
 unfoldable pub shownText : Viewer → List ℕ
 shownText v = cond (allowed v) (ofText (chars "shown: ") (v .understood) count (chars " values")) (refusedText paper.notAllowed)

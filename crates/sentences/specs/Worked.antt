@@ -56,8 +56,9 @@ lines =
     sample (wordsText 0xEEFF (0x85 ∷ 0xFF ∷ 0xFF ∷ 0xFF ∷ [])) "consumed -12.3 Ah" ∷
     sample (wordsText 0x0FFF (0x2E ∷ 0x22 ∷ [])) "charge 87.50 %" ∷
     sample (strangeText 0xED8D) "ED8D: not understood" ∷
-    sample (shownText (record { answered = 8; understood = 5 })) "shown: 5 of 8 values" ∷
-    sample (shownText (record { answered = 5; understood = 8 })) "refused 12" ∷
+    sample (shownText (record { answered = 8; understood = 5; silences = 0 })) "shown: 5 of 8 values" ∷
+    sample (shownText (record { answered = 2; understood = 2; silences = 3 })) "shown: 2 of 8 values" ∷
+    sample (shownText (record { answered = 5; understood = 8; silences = 0 })) "refused 12" ∷
     []
 
 abbrev pub LinesRead : Type 0

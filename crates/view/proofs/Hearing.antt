@@ -6,18 +6,18 @@ use mathlib.Core.List.{List}
 use Prim.Native.Nat.{ℕ, _≤_}
 use native.Mathlib.Omega.{arith}
 use lib.ListN.{length}
-use lib.Dec.{ltb}
 use Rattle.paper.specs.Numbers.{getCode}
 use Rattle.answers.specs.Answers.{said}
 use Rattle.reply.specs.Replies.{flagOf, rest}
 use Rattle.reply.specs.Calls.{heeding}
+use Rattle.reply.specs.Events.{heard}
 use Rattle.reply.specs.Laws.{Says, says-good, says-bad, says-nothing}
 use Rattle.reply.specs.declared.Status.{Status}
 use Rattle.reply.specs.declared.Heeded.{Heeded}
 use Rattle.reply.proofs.Heeding.{said-heeded}
 use Rattle.reply.proofs.Theorems.{heed-is-said, heeded-is-long}
-use Rattle.view.specs.Values.{count, idAt, isUnderstood}
-use Rattle.view.specs.Calls.{onHeeded, sightAt, sightOf, moved, allowed, told, stray, viewing}
+use Rattle.view.specs.Values.{idAt, isUnderstood}
+use Rattle.view.specs.Calls.{onHeeded, sightAt, isWaiting, sightOf, advanced, allowed, told, stray, viewing}
 use Rattle.view.specs.Laws.{Understands, SightIsSeen}
 use Rattle.view.specs.declared.Viewer.{Viewer}
 use Rattle.view.specs.declared.Sight.{Sight}
@@ -87,11 +87,11 @@ sight-valued due id command bytes e =
     let g = good due (rest bytes) (heeding getCode due command bytes) id e in
     record { is-long = good-long due command bytes (g .is-good); is-understood = rw (g .same-id) at (g .has-value) }
 
-pub understood-valued : (v : Viewer) (command : ℕ) (bytes : List ℕ) (id : ℕ) → viewing v command bytes .sight ≡ Sight.Understood id → Valued id bytes
+pub understood-valued : (v : Viewer) (command : ℕ) (bytes : List ℕ) (id : ℕ) → viewing v (heard command bytes) .sight ≡ Sight.Understood id → Valued id bytes
 unfolding viewing sightOf
-understood-valued v command bytes id e = by (allowed v) (ltb (v .answered) count) e
+understood-valued v command bytes id e = by (allowed v) (isWaiting v) e
   where
-    by : (a b : Bool) → cond a (told (moved v (cond b (sightAt (idAt (v .answered)) command bytes) Sight.Nothing)) (cond b (sightAt (idAt (v .answered)) command bytes) Sight.Nothing)) (stray v) .sight ≡ Sight.Understood id → Valued id bytes
+    by : (a b : Bool) → cond a (told (advanced v (heard command bytes)) (cond b (sightAt (idAt (v .answered)) command bytes) Sight.Nothing)) (stray v) .sight ≡ Sight.Understood id → Valued id bytes
     by true true e = sight-valued (idAt (v .answered)) id command bytes e
     by true false e = let z : _≡_ {A = ℕ} 0 1 = cc in absurd (omega arith)
     by false b e = let z : _≡_ {A = ℕ} 0 1 = cc in absurd (omega arith)

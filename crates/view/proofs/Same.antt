@@ -11,6 +11,7 @@ use Rattle.view.specs.declared.Viewed.{Viewed}
 use Rattle.view.proofs.Viewer.start.Reads as start
 use Rattle.view.proofs.Viewer.is_allowed.Reads as is-allowed
 use Rattle.view.proofs.Viewer.reply.Reads as reply
+use Rattle.view.proofs.Viewer.no_answer.Reads as no-answer
 
 pub start-same : (r r′ : Viewed) → start.Post tt tt r tt → start.Post tt tt r′ tt → r ≡ r′
 start-same r r′ met met′ = equal-same met met′
@@ -23,3 +24,6 @@ pub reply-same : (κs : Lfts 1) (viewer : Viewer) (command : ℕ) (bytes : RefT 
     → reply.Post κs (viewer, (command, (bytes, tt))) r′ (viewer, (command, (bytes, tt)))
     → r ≡ r′
 reply-same κs viewer command bytes r r′ met met′ = equal-same met met′
+
+pub no-answer-same : (viewer : Viewer) (r r′ : Viewed) → no-answer.Post tt (viewer, tt) r (viewer, tt) → no-answer.Post tt (viewer, tt) r′ (viewer, tt) → r ≡ r′
+no-answer-same viewer r r′ met met′ = equal-same met met′

@@ -1,18 +1,19 @@
 -- What is proved of the definitions. Each is proved under its name in proofs/, in Serials, Reaching, Counting and Hearing. Assumes nothing.
-use Prim.Native.Nat.{ℕ, zero, _+_, _^_, _<_}
+use Prim.Native.Nat.{ℕ, zero, suc, _+_, _^_, _<_}
 use mathlib.Core.Path.{_≡_}
 use mathlib.Core.Logic.{_≢_, _↔_}
 use mathlib.Core.Bool.{true, false, cond}
 use mathlib.Core.List.{List, [], _∷_, _++_}
 use lib.ListN.{length, drop}
-use lib.Dec.{ltb}
+use lib.Dec.{ltb, eqb}
 use Rattle.paper.specs.Numbers as paper
 use Rattle.who.specs.Parts.{serialFits}
 use Rattle.laws.specs.Lists.{Bytes}
 use Rattle.answers.specs.Answers.{said}
 use Rattle.reply.specs.Replies.{flagOf, rest}
+use Rattle.reply.specs.Events.{Event, heard, refusedFrame, noAnswer}
 use Rattle.reply.specs.declared.Status.{Status}
-use Rattle.view.specs.Values.{ids, count, isUnderstood}
+use Rattle.view.specs.Values.{ids, count, idAt, isUnderstood}
 use Rattle.view.specs.Calls.{sightAt, answers, shows, allowed, starting, viewing}
 use Rattle.view.specs.declared.Viewer.{Viewer}
 use Rattle.view.specs.declared.Next.{Next}
@@ -42,38 +43,64 @@ pub record Seen (id command : ℕ) (bytes : List ℕ) : Type 0 where
 abbrev pub SightIsSeen : Type 0
 SightIsSeen = (id command : ℕ) (bytes : List ℕ) → id < 256 ^ 2 → Bytes bytes → Seen id command bytes
 
--- 3. A row of calls, each on the viewer that the last one handed back. A viewer is allowed exactly when a start and replies give it.
-pub record Frame : Type 0 where
-  pub command : ℕ
-  pub bytes : List ℕ
-
-abbrev pub calls : Viewed → List Frame → Viewed
+-- 3. A row of calls, each on the viewer that the last one handed back. A viewer is allowed exactly when a start and events give it.
+abbrev pub calls : Viewed → List Event → Viewed
 calls last [] = last
-calls last (f ∷ more) = calls (viewing (last .viewer) (f .command) (f .bytes)) more
+calls last (e ∷ more) = calls (viewing (last .viewer) e) more
 
 abbrev pub AllowedIsReached : Type 0
-AllowedIsReached = (v : Viewer) → (allowed v ≡ true) ↔ ((frames : List Frame) × (v ≡ calls starting frames .viewer))
+AllowedIsReached = (v : Viewer) → (allowed v ≡ true) ↔ ((events : List Event) × (v ≡ calls starting events .viewer))
 
 -- Any other is refused 12 and comes "back as it was", with nothing seen, and no other is.
 abbrev pub RefusedIsStray : Type 0
 RefusedIsStray =
-    (v : Viewer) (command : ℕ) (bytes : List ℕ)
-    → (viewing v command bytes ≡ record { viewer = v; next = Next.Refused 12; sight = Sight.Nothing }) ↔ (allowed v ≡ false)
+    (v : Viewer) (e : Event) → (viewing v e ≡ record { viewer = v; next = Next.Refused 12; sight = Sight.Nothing }) ↔ (allowed v ≡ false)
 
--- 4. Its counts, with no viewer in them: a row of ids and a row of frames, where a frame that says something of the first id takes it away.
-abbrev pub sightFor : List ℕ → Frame → Sight
-sightFor [] f = Sight.Nothing
-sightFor (id ∷ later) f = sightAt id (f .command) (f .bytes)
+-- 4. Its counts, with no viewer in them: a row of ids and a row of events, where a frame that says something of the first id takes it away,
+-- and the third silence in a row ends it.
+abbrev pub sightFor : List ℕ → ℕ → List ℕ → Sight
+sightFor [] command bytes = Sight.Nothing
+sightFor (id ∷ later) command bytes = sightAt id command bytes
 
-abbrev pub counted : (Sight → ℕ) → List ℕ → List Frame → ℕ
-counted weigh due [] = zero
-counted weigh due (f ∷ more) = weigh (sightFor due f) + counted weigh (drop (answers (sightFor due f)) due) more
+-- how many silences in a row there are after a frame that answered so many ids, and after one more silence, which counts while an id is left
+abbrev pub since : ℕ → ℕ → ℕ
+since answered silences = cond (eqb answered 0) silences 0
 
--- After a row of calls it is done exactly where all ids were answered.
-pub record Counts (frames : List Frame) (last : Viewed) : Type 0 where
-  pub asked-are : last .viewer .answered ≡ counted answers ids frames
-  pub understood-are : last .viewer .understood ≡ counted shows ids frames
-  pub done-when : (last .next ≡ Next.Done) ↔ (counted answers ids frames ≡ count)
+abbrev pub oneMore : List ℕ → ℕ → ℕ
+oneMore [] silences = silences
+oneMore (id ∷ later) silences = suc silences
+
+-- what the answers weigh, and how many silences in a row there are at the end
+abbrev pub counted : (Sight → ℕ) → List ℕ → ℕ → List Event → ℕ
+counted weigh due n [] = zero
+counted weigh due n (heard command bytes ∷ more) =
+    let s = sightFor due command bytes in
+    weigh s + counted weigh (drop (answers s) due) (since (answers s) n) more
+counted weigh due n (refusedFrame ∷ more) = counted weigh due n more
+counted weigh due n (noAnswer ∷ more) = cond (ltb (oneMore due n) 3) (counted weigh due (oneMore due n) more) zero
+
+abbrev pub silencesIn : List ℕ → ℕ → List Event → ℕ
+silencesIn due n [] = n
+silencesIn due n (heard command bytes ∷ more) =
+    let s = sightFor due command bytes in
+    silencesIn (drop (answers s) due) (since (answers s) n) more
+silencesIn due n (refusedFrame ∷ more) = silencesIn due n more
+silencesIn due n (noAnswer ∷ more) = cond (ltb (oneMore due n) 3) (silencesIn due (oneMore due n) more) 3
+
+-- After a row of calls it is done exactly where all ids were answered, and silent exactly where three silences in a row came to the Get of
+-- one id, which is the first that was not answered.
+pub record Counts (events : List Event) (last : Viewed) : Type 0 where
+  pub asked-are : last .viewer .answered ≡ counted answers ids 0 events
+  pub understood-are : last .viewer .understood ≡ counted shows ids 0 events
+  pub done-when : (last .next ≡ Next.Done) ↔ (counted answers ids 0 events ≡ count)
+  pub silent-when : (id : ℕ) → (last .next ≡ Next.Silent id) ↔ ((silencesIn ids 0 events ≡ 3) × (id ≡ idAt (counted answers ids 0 events)))
 
 abbrev pub CountsAreTrue : Type 0
-CountsAreTrue = (frames : List Frame) → Counts frames (calls starting frames)
+CountsAreTrue = (events : List Event) → Counts events (calls starting events)
+
+-- 5. Otherwise the first id that was not answered is due; and a viewer to which none is due stays as it was, whatever comes.
+abbrev pub EndedStays : Type 0
+EndedStays =
+    (events : List Event) (e : Event) → let last = calls starting events in
+    ((id : ℕ) → last .next ≢ Next.Waiting id)
+    → viewing (last .viewer) e ≡ record { viewer = last .viewer; next = last .next; sight = Sight.Nothing }

@@ -1,8 +1,8 @@
 // What a frame says of the id that is due.
 ghost use mathlib.Core.Path.{_≡_};
+ghost use Rattle.reply.specs.Events.{heard};
 ghost use Rattle.reply.specs.declared.Heeded.{Heeded};
 ghost use Rattle.view.specs.Calls.{onHeeded, sightAt, sightOf};
-use crate::COUNT;
 use crate::Sight;
 use crate::Viewer;
 use crate::state;
@@ -31,11 +31,11 @@ fn on_frame(id: u16, command: u8, bytes: &[u8]) -> Sight
     }
 }
 
-// Returns what a frame comes to for a viewer. After the last id nothing is due.
+// Returns what a frame comes to for a viewer, which is nothing where no id is due.
 pub(crate) fn by(viewer: Viewer, command: u8, bytes: &[u8]) -> Sight
-    ensures { λ r. ⌜ r ≡ sightOf viewer command (now (bytes .entry)) ⌝ }
+    ensures { λ r. ⌜ r ≡ sightOf viewer (heard command (now (bytes .entry))) ⌝ }
 {
-    if viewer.answered < COUNT {
+    if state::is_waiting(viewer) {
         return on_frame(state::id_at(viewer.answered), command, bytes);
     }
     Sight::Nothing

@@ -2,6 +2,7 @@
 ghost use Prim.Native.Nat.{_≤_, _<_};
 ghost use mathlib.Core.Path.{_≡_};
 ghost use mathlib.Core.Bool.{true};
+ghost use Rattle.reply.specs.Events.{noAnswer};
 ghost use Rattle.view.specs.Values.{count, idAt};
 ghost use Rattle.view.specs.Calls as calls;
 use crate::COUNT;
@@ -9,6 +10,9 @@ use crate::Next;
 use crate::Sight;
 use crate::Viewed;
 use crate::Viewer;
+
+// How many times a Get is sent before no answer ends a viewer.
+const MOST_TRIES: usize = 3;
 
 // The ids in the order in which they are asked for.
 const IDS: [u16; COUNT] = [
@@ -37,15 +41,43 @@ pub(crate) fn begun() -> Viewer
     Viewer {
         answered: 0,
         understood: 0,
+        silences: 0,
     }
 }
 
-// Returns the id that is due, or that none is.
+// Returns whether no more ids are answered than there are, and there were no more silences in a row than there can be.
+pub(crate) fn is_within(answered: usize, silences: usize) -> bool
+    ensures { λ r. ⌜ r ≡ calls.within answered silences ⌝ }
+{
+    if answered < COUNT {
+        return silences <= MOST_TRIES;
+    }
+    (answered == COUNT) & (silences == 0)
+}
+
+// Returns whether an id is due.
+pub(crate) fn is_waiting(viewer: Viewer) -> bool
+    ensures { λ r. ⌜ r ≡ calls.isWaiting viewer ⌝ }
+{
+    (viewer.answered < COUNT) & (viewer.silences < MOST_TRIES)
+}
+
+// Returns that an id is due, or that it stays without an answer.
+fn next_at(id: u16, silences: usize) -> Next
+    ensures { λ r. ⌜ r ≡ calls.nextAt id silences ⌝ }
+{
+    if silences < MOST_TRIES {
+        return Next::Waiting(id);
+    }
+    Next::Silent(id)
+}
+
+// Returns what is next: for the first id that was not answered, or that all were.
 fn next_of(viewer: Viewer) -> Next
     ensures { λ r. ⌜ r ≡ calls.nextOf viewer ⌝ }
 {
     if viewer.answered < COUNT {
-        return Next::Waiting(id_at(viewer.answered));
+        return next_at(id_at(viewer.answered), viewer.silences);
     }
     Next::Done
 }
@@ -94,6 +126,17 @@ fn shows(sight: Sight) -> usize
     }
 }
 
+// Returns how many silences in a row there are after a frame.
+fn quiet(sight: Sight, silences: usize) -> usize
+    ensures { λ r. ⌜ r ≡ calls.quiet sight silences ⌝ }
+{
+    match sight {
+        Sight::Nothing => silences,
+        Sight::Understood(_) => 0,
+        Sight::Strange(_) => 0,
+    }
+}
+
 // Returns a viewer with what a frame came to counted in.
 pub(crate) fn moved(viewer: Viewer, sight: Sight) -> Viewer
     requires { ⌜ calls.allowed viewer ≡ true ⌝ }
@@ -102,5 +145,20 @@ pub(crate) fn moved(viewer: Viewer, sight: Sight) -> Viewer
     Viewer {
         answered: viewer.answered + answers(sight),
         understood: viewer.understood + shows(sight),
+        silences: quiet(sight, viewer.silences),
+    }
+}
+
+// Returns a viewer to whose Get no answer came. An ended one stays as it was.
+pub(crate) fn after_silence(viewer: Viewer) -> Viewer
+    ensures { λ r. ⌜ r ≡ calls.advanced viewer noAnswer ⌝ }
+{
+    if !is_waiting(viewer) {
+        return viewer;
+    }
+    Viewer {
+        answered: viewer.answered,
+        understood: viewer.understood,
+        silences: viewer.silences + 1,
     }
 }

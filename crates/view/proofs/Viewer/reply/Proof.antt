@@ -2,7 +2,7 @@
 use mathlib.Core.Path.{sym, _∙_}
 use borrow.Author.Needs.{needs}
 use borrow.Author.Tests.{not-true, not-false}
-use Rattle.view.specs.Calls.{viewing}
+use Rattle.view.specs.Calls.{advanced, viewing}
 use Rattle.view.proofs.Viewer.reply.Statement.{statement}
 use Rattle.view.proofs.Viewer.reply.Tie as tie
 
@@ -14,7 +14,7 @@ moved-requires : tie.Need-moved-requires
 moved-requires c κs = sym (c .before .before .is-allowed .ensures) ∙ not-false _ (c .before .if1 .left)
 
 returns-2 : tie.Need-returns-2
-unfolding viewing
+unfolding viewing advanced
 returns-2 c =
     let c4 = c .before .before .before .before in
     rw (sym (c4 .is-allowed .ensures) ∙ not-false _ (c .before .before .before .if1 .left)) (rw (c .before .moved .ensures, c .before .before .by .ensures) at (c .told .ensures))

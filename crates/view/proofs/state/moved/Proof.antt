@@ -14,7 +14,9 @@ add-t6 c =
     record { fits = omega (arith, few-answered _ (c4 .pre), few-understood _ (c4 .pre), c .before .shows .ensures .1) }
 
 returns : tie.Need-returns
-returns c = rw (c .before .before .before .answers .ensures .0, c .before .shows .ensures .0)
+returns c =
+    let c4 = c .before .before .before .before in
+    rw (c4 .answers .ensures .0, c .before .before .shows .ensures .0, c .quiet .ensures)
 
 pub moved-spec : {M : Type 1} → statement M
-moved-spec = tie.close (tie.spec (λ c κs. search needs) add-t4 (λ c κs. search needs) add-t6 returns)
+moved-spec = tie.close (tie.spec (λ c κs. search needs) add-t4 (λ c κs. search needs) add-t6 (λ c κs. search needs) returns)

@@ -6,10 +6,10 @@ use Rattle.view.proofs.state.next_of.Statement.{statement}
 use Rattle.view.proofs.state.next_of.Tie as tie
 
 returns : tie.Need-returns
-returns c = rw (lt-ltb _ count (c .before .if1 .taken), c .id-at .ensures)
+returns c = rw (lt-ltb _ count (c .before .before .if1 .taken)) (rw (c .before .id-at .ensures) at (c .next-at .ensures))
 
 returns-2 : tie.Need-returns-2
 returns-2 c = rw (le-ltb _ count (c .if1 .left))
 
 pub next-of-spec : {M : Type 1} → statement M
-next-of-spec = tie.close (tie.spec (λ c κs. search needs) returns returns-2)
+next-of-spec = tie.close (tie.spec (λ c κs. search needs) (λ c κs. search needs) returns returns-2)
