@@ -323,6 +323,14 @@ module _ (v : Viewer) (ok : allowed v ≡ true) where
       back third is true h = rw (h, third, is)
       back third is false h = let none : v .silences ≡ 0 = is-within v ok .none (ltb-false (v .answered) count h) in absurd (omega arith)
 
+  waits-asked : (id : ℕ) → (nextOf v ≡ Next.Waiting id) ↔ (((v .silences < 3) × (v .answered < count)) × (id ≡ idAt (v .answered)))
+  waits-asked id = (by (ltb (v .answered) count) (ltb (v .silences) 3) refl refl, λ is. next-waits v (waits v (is .0 .1) (is .0 .0)) ∙ ap Next.Waiting (sym (is .1)))
+    where
+      by : (t s : Bool) → ltb (v .answered) count ≡ t → ltb (v .silences) 3 ≡ s → nextBy t s ≡ Next.Waiting id → ((v .silences < 3) × (v .answered < count)) × (id ≡ idAt (v .answered))
+      by true true h k e = ((ltb-true (v .silences) 3 k, ltb-true (v .answered) count h), cc)
+      by true false h k e = let z : _≡_ {A = ℕ} 0 1 = cc in absurd (omega arith)
+      by false s h k e = let z : _≡_ {A = ℕ} 0 1 = cc in absurd (omega arith)
+
   not-waiting : ((id : ℕ) → nextOf v ≢ Next.Waiting id) → isWaiting v ≡ false
   not-waiting none = by (isWaiting v) refl
     where
@@ -347,13 +355,20 @@ pub counts-are-true : CountsAreTrue
 counts-are-true events =
     let done = done-asked (calls starting events .viewer) (calls-allowed events) in
     let silent = silent-asked (calls starting events .viewer) (calls-allowed events) in
+    let waiting = waits-asked (calls starting events .viewer) (calls-allowed events) in
+    let as-many = all events .silences-from in
     record {
       asked-are = asked events;
       understood-are = all events .understood-from ∙ omega arith;
       done-when = (λ e. sym (asked events) ∙ done .0 (sym (all events .next-own) ∙ e), λ e. all events .next-own ∙ done .1 (asked events ∙ e));
       silent-when = λ id. (
-        λ e. let is = silent id .0 (sym (all events .next-own) ∙ e) in (sym (all events .silences-from) ∙ is .0, is .1 ∙ ap idAt (asked events)),
-        λ is. all events .next-own ∙ silent id .1 (all events .silences-from ∙ is .0, is .1 ∙ ap idAt (sym (asked events))),
+        λ e. let is = silent id .0 (sym (all events .next-own) ∙ e) in (sym as-many ∙ is .0, is .1 ∙ ap idAt (asked events)),
+        λ is. all events .next-own ∙ silent id .1 (as-many ∙ is .0, is .1 ∙ ap idAt (sym (asked events))),
+      );
+      waits-when = λ id. (
+        λ e. let is = waiting id .0 (sym (all events .next-own) ∙ e) in
+            ((rw as-many at (is .0 .0), rw (asked events) at (is .0 .1)), is .1 ∙ ap idAt (asked events)),
+        λ is. all events .next-own ∙ waiting id .1 ((rw as-many (is .0 .0), rw (asked events) (is .0 .1)), is .1 ∙ ap idAt (sym (asked events))),
       );
     }
 

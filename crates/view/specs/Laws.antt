@@ -88,17 +88,20 @@ silencesIn due n (refusedFrame ∷ more) = silencesIn due n more
 silencesIn due n (noAnswer ∷ more) = cond (ltb (oneMore due n) 3) (silencesIn due (oneMore due n) more) 3
 
 -- After a row of calls it is done exactly where all ids were answered, and silent exactly where three silences in a row came to the Get of
--- one id, which is the first that was not answered.
+-- one id, which is the first that was not answered; otherwise that id is due.
 pub record Counts (events : List Event) (last : Viewed) : Type 0 where
   pub asked-are : last .viewer .answered ≡ counted answers ids 0 events
   pub understood-are : last .viewer .understood ≡ counted shows ids 0 events
   pub done-when : (last .next ≡ Next.Done) ↔ (counted answers ids 0 events ≡ count)
   pub silent-when : (id : ℕ) → (last .next ≡ Next.Silent id) ↔ ((silencesIn ids 0 events ≡ 3) × (id ≡ idAt (counted answers ids 0 events)))
+  pub waits-when :
+      (id : ℕ)
+      → (last .next ≡ Next.Waiting id) ↔ (((silencesIn ids 0 events < 3) × (counted answers ids 0 events < count)) × (id ≡ idAt (counted answers ids 0 events)))
 
 abbrev pub CountsAreTrue : Type 0
 CountsAreTrue = (events : List Event) → Counts events (calls starting events)
 
--- 5. Otherwise the first id that was not answered is due; and a viewer to which none is due stays as it was, whatever comes.
+-- 5. A viewer to which no id is due stays as it was, whatever comes.
 abbrev pub EndedStays : Type 0
 EndedStays =
     (events : List Event) (e : Event) → let last = calls starting events in
