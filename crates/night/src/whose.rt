@@ -95,9 +95,14 @@ fn answered(ends: Ends, talk: Talk) -> Talk {
     talk
 }
 
-// Asks a board for its serial.
+// Asks a board for its serial, where it is needed.
 pub(crate) fn ask(ends: Ends) -> Serial {
     of_talk(answered(ends, begun(ends.begun)))
+}
+
+// Asks a board for its serial once, where it is only shown: a dead board would keep the box waiting for the same silence twice.
+pub(crate) fn ask_once(ends: Ends) -> Serial {
+    of_talk(talk::further(ends, begun(ends.begun), false))
 }
 
 // Returns whether the board told this serial.

@@ -359,9 +359,13 @@ fn begun(sheet: Sheet, name: &[u8], ends: Ends, kept: &[u8], column: &[u8]) -> S
     finish(sheet, name, whose::untold(), counted)
 }
 
-// Asks the board for its serial, and goes on if it is the board that the row expects.
+// Asks the board for its serial, and goes on if it is the board that the row expects, if it expects one.
 fn met(sheet: Sheet, name: &[u8], ends: Ends, to: Table, column: &[u8]) -> Sheet {
-    let serial = whose::ask(ends);
+    let serial = if 0 < column.len() {
+        whose::ask(ends)
+    } else {
+        whose::ask_once(ends)
+    };
     if list::is_expected(column, serial) {
         return restore(sheet, name, ends, serial, to);
     }
