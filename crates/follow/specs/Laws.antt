@@ -42,9 +42,12 @@ AllowedIsReached = (f : Follower) → (followerAllowed f ≡ true) ↔ Reached f
 
 -- and every call on another is refused 12, with the follower "as it was, with counts [..] 0", and on no other: allowed tables with a count that
 -- their list cannot give, or stopped after its last Set, are refused like tables that are not allowed.
+abbrev pub refusedBy : ℕ → Follower → Followed
+refusedBy number f = record { follower = f; standing = Standing.Refused number; confirmed = 0 }
+
 abbrev pub RefusedIsStray : Type 0
 RefusedIsStray =
-    (f : Follower) → ((told f ≡ unanswered f) ↔ (Reached f → ⊥)) × ((e : Event) → (following f e ≡ unanswered f) ↔ (Reached f → ⊥))
+    (f : Follower) → ((told f ≡ refusedBy 12 f) ↔ (Reached f → ⊥)) × ((e : Event) → (following f e ≡ refusedBy 12 f) ↔ (Reached f → ⊥))
 
 -- 2. "Counting sent Sets as confirmed" is a slip of the trade: demand 2 wants "the number of replies that matched the Set due when they came".
 -- Matched, with no follower in it: a row of Sets and a row of events, where an event matches the first Set if it is the very reply that a

@@ -17,7 +17,7 @@ use Rattle.wire.specs.Digits.{digit, nibble, isDigit}
 use Rattle.wire.specs.Frame.{digitsOf}
 use Rattle.wire.specs.Parsing.{bytesOf}
 use Rattle.wire.proofs.Nibbles.{digit-isDigit, digit-stays, nibble-at}
-use Rattle.wire.proofs.RoundTrip.{digits-all, bytes-digits, digits-bytes, bytes-small}
+use Rattle.wire.proofs.RoundTrip.{digits-all, bytes-digits, digits-bytes, bytes-small, digit-hex}
 use Rattle.lines.specs.Lines.{lineOf, textOf}
 use Rattle.lines.specs.Laws.{isDigit as isDecimal, IsLine}
 use Rattle.lines.specs.Numbers.{decimal}
@@ -30,7 +30,7 @@ use Rattle.laws.specs.Promise.{Given}
 use Rattle.wire.specs.Calls.{unwritten, writtenAs}
 use Rattle.wire.specs.declared.Written.{Written}
 use Rattle.rows.specs.Calls.{writing, parsing}
-use Rattle.rows.specs.Laws.{RowIsShort, Begins, Reads, row, none, ReadExactly, Writes, short, its-row, WrittenExactly}
+use Rattle.rows.specs.Laws.{RowIsSpelled, RowIsShort, Begins, Reads, row, none, ReadExactly, Writes, short, its-row, WrittenExactly}
 use Rattle.rows.specs.declared.Row.{Row}
 use Rattle.rows.proofs.Decimal.{number-digits, number-small, decimal-read, read-decimal}
 
@@ -121,6 +121,13 @@ row-front id n rest = append-assoc (front id n) (newline ∷ []) rest
 pub length-row : (id n : ℕ) → length (rowOf id n) ≡ suc (length (front id n))
 unfolding rowOf
 length-row id n = length-append (front id n) (newline ∷ []) ∙ omega arith
+
+pub row-spelled : RowIsSpelled
+unfolding rowOf
+row-spelled id n h =
+    let high : id / 256 < 256 = omega arith in
+    let low : id % 256 < 256 = omega arith in
+    rw (digit-hex (id / 256 / 16) (omega arith), digit-hex (id / 256 % 16) (omega arith), digit-hex (id % 256 / 16) (omega arith), digit-hex (id % 256 % 16) (omega arith))
 
 pub row-short : RowIsShort
 row-short id n h = let few : length (decimal n) ≤ 5 = digits-under 19 n 4 h in rw (length-row id n) (omega arith)

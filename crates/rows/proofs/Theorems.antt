@@ -1,7 +1,7 @@
 -- The statements of specs/Laws.antt, proved. Assumes nothing.
-use Rattle.rows.specs.Laws.{DecimalIsRead, ReadIsDecimal, ReadExactly, JudgedExactly, PastIsRefused, RowIsShort, WrittenExactly}
+use Rattle.rows.specs.Laws.{DecimalIsRead, ReadIsDecimal, ReadExactly, JudgedExactly, PastIsRefused, RowIsSpelled, RowIsShort, WrittenExactly}
 use Rattle.rows.proofs.Decimal.{decimal-read, read-decimal}
-use Rattle.rows.proofs.Rows.{read-exactly, row-short, written-exactly}
+use Rattle.rows.proofs.Rows.{read-exactly, row-spelled, row-short, written-exactly}
 use Rattle.rows.proofs.Judging.{judged-exactly, past-refused}
 
 pub decimal-is-read : DecimalIsRead
@@ -18,6 +18,9 @@ row-is-judged-exactly = judged-exactly
 
 pub past-is-refused : PastIsRefused
 past-is-refused = past-refused
+
+pub row-is-spelled : RowIsSpelled
+row-is-spelled = row-spelled
 
 pub row-is-short : RowIsShort
 row-is-short = row-short

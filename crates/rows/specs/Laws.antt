@@ -1,12 +1,13 @@
 -- What is proved of the definitions, as statements to compare with the papers. Each is proved under its name in proofs/Theorems.antt.
 -- Assumes nothing.
-use Prim.Native.Nat.{ℕ, _≤_, _<_}
+use Prim.Native.Nat.{ℕ, _/_, _%_, _≤_, _<_}
 use mathlib.Core.Path.{_≡_}
 use mathlib.Core.Logic.{_≢_, _↔_}
 use mathlib.Core.Bool.{true, false}
-use mathlib.Core.List.{List, [], _++_}
+use mathlib.Core.List.{List, [], _∷_, _++_}
 use lib.ListN.{length}
 use Rattle.laws.specs.Promise.{Given}
+use Rattle.wire.specs.Laws.{hex}
 use Rattle.wire.specs.declared.Written.{Written}
 use Rattle.settings.specs.Columns.{count, idAt}
 use Rattle.settings.specs.Rules.{inRange}
@@ -54,6 +55,12 @@ JudgedExactly = (k : ℕ) (text : List ℕ) (answer : Judged) → k < count
 -- For a place past the table 12 is given, whatever the text, and for no other.
 abbrev pub PastIsRefused : Type 0
 PastIsRefused = (k : ℕ) (text : List ℕ) → (judging k text ≡ Judged.Refused 12) ↔ (count ≤ k)
+
+-- What a row is: four digits, "tabs between fields, numbers decimal without leading zeros, newline after each line".
+abbrev pub RowIsSpelled : Type 0
+RowIsSpelled =
+    (id n : ℕ) → id < 65536
+    → rowOf id n ≡ hex (id / 256 / 16) ∷ hex (id / 256 % 16) ∷ hex (id % 256 / 16) ∷ hex (id % 256 % 16) ∷ 9 ∷ decimal n ++ 10 ∷ []
 
 -- 4. Every row of such a number fits the room that writing needs.
 abbrev pub RowIsShort : Type 0

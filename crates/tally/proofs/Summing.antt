@@ -15,11 +15,12 @@ use Rattle.follow.specs.Following.{standing, total, followerAllowed}
 use Rattle.follow.specs.declared.Follower.{Follower}
 use Rattle.follow.specs.declared.Standing.{Standing}
 use Rattle.tally.specs.Results.{Result, restored, silent, notBegun, tallyOf, nothing, hasEnded, isStopped, endedAs, withSets, shareOf, fits, most, tallyAllowed, plus}
-use Rattle.tally.specs.Calls.{counting}
+use Rattle.tally.specs.Calls.{counted, counting}
 use Rattle.tally.specs.AsHeld.{Within}
-use Rattle.tally.specs.Laws.{tallied, fitting, one, number, addUp, isDone, isEqual, wasDone, wasEqual, wasStopped, wasSilent, wasNotBegun, confirmedOf, dueOf, SumsUp, TallySumsUp, allFit, AllAreCounted}
+use Rattle.tally.specs.Laws.{tallied, fitting, one, number, addUp, isDone, isEqual, wasDone, wasEqual, wasStopped, wasSilent, wasNotBegun, confirmedOf, dueOf, SumsUp, TallySumsUp, allFit, AllAreCounted, CountedIsAdded}
 use Rattle.tally.specs.declared.Tally.{Tally}
-use Rattle.tally.proofs.Counting.{of-within, counting-unfit, counting-fit, fits-is}
+use Rattle.tally.proofs.Counting.{of-within, counting-stray, counting-unfit, counting-fit, fits-is}
+use Rattle.tally.proofs.Refusing.{stray-refused}
 
 -- What one result adds is what it is counted as by hand.
 
@@ -74,6 +75,15 @@ shares (restored f a) e =
     }
 shares silent e = record { share-is = refl; once = refl; confirmed-few = omega arith; due-few = omega arith }
 shares notBegun e = record { share-is = refl; once = refl; confirmed-few = omega arith; due-few = omega arith }
+
+-- what is not stray is added
+pub added : CountedIsAdded
+added t r none = by (tallyAllowed t) (fits r) refl refl
+  where
+    by : (a b : Bool) → tallyAllowed t ≡ a → fits r ≡ b → counting t r ≡ counted (plus t (byHand r))
+    by true true e f = sym (counting-fit t r e f) ∙ ap (λ (s : Tally). counted (plus t s)) (shares r f .share-is)
+    by true false e f = absurd (none (stray-refused t r .0 (sym (counting-unfit t r f))))
+    by false b e f = absurd (none (stray-refused t r .0 (sym (counting-stray t r e))))
 
 -- A tally that has room for this many more.
 record Room (t : Tally) (n : ℕ) : Type 0 where

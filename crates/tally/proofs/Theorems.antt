@@ -1,5 +1,5 @@
 -- The statements of specs/Laws.antt, proved. Assumes nothing.
-use Rattle.tally.specs.Laws.{TallySumsUp, AllAreCounted, AllowedIsWithin, RefusedIsStray, BegunAnewExactly, EachCountsOnce}
+use Rattle.tally.specs.Laws.{TallySumsUp, AllAreCounted, AllowedIsWithin, RefusedIsStray, CountedIsAdded, BegunAnewExactly, EachCountsOnce}
 use Rattle.tally.proofs.Counting.{within-of, of-within}
 use Rattle.tally.proofs.Refusing.{stray-refused}
 use Rattle.tally.proofs.Summing as summing
@@ -16,6 +16,9 @@ allowed-is-within t = (within-of t, of-within t)
 
 pub refused-is-stray : RefusedIsStray
 refused-is-stray = stray-refused
+
+pub counted-is-added : CountedIsAdded
+counted-is-added = summing.added
 
 pub begun-anew-exactly : BegunAnewExactly
 begun-anew-exactly = rounds.anew-exactly

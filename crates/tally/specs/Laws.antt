@@ -140,6 +140,24 @@ pub data Stray (t : Tally) : Result → Type 0 where
 abbrev pub RefusedIsStray : Type 0
 RefusedIsStray = (t : Tally) (r : Result) → (counting t r ≡ record { tally = t; verdict = Verdict.Refused 12 }) ↔ Stray t r
 
+-- Any other is accepted, and the tally then has one more of its kind and its Sets besides, whatever it had before.
+abbrev pub CountedIsAdded : Type 0
+CountedIsAdded =
+    (t : Tally) (r : Result) → (Stray t r → ⊥)
+    → counting t r
+    ≡ record {
+      tally = record {
+        done = t .done + one (wasDone r);
+        equal = t .equal + one (wasEqual r);
+        stopped = t .stopped + one (wasStopped r);
+        silent = t .silent + one (wasSilent r);
+        unbegun = t .unbegun + one (wasNotBegun r);
+        confirmed = t .confirmed + confirmedOf r;
+        due = t .due + dueOf r;
+      };
+      verdict = Verdict.Accepted;
+    }
+
 -- 4. A trailer is begun anew exactly where its follower says that it stopped, the board said nothing to its last Set, and the round is not
 -- the last. So a refusal by the board is never tried again, nor a restore that is done.
 pub record Silently (f : Follower) (answered last : Bool) : Type 0 where

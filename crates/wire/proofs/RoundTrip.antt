@@ -10,12 +10,13 @@ use lib.Seq.{take-append-seam, getD-append-seam, split-at}
 use lib.Dec.{ltb, leb, eqb}
 use Rattle.laws.specs.Lists.{every, sumOf, Bytes}
 use Rattle.laws.proofs.Bools.{and-left, and-right}
-use Rattle.laws.proofs.Lists.{every-at, every-take, every-append, sum-append}
+use Rattle.laws.proofs.Lists.{every-at, every-take, every-append, sum-append, upTo-at}
 use Rattle.wire.specs.Digits.{digit, nibble, isDigit}
 use Rattle.paper.specs.Numbers.{colon, newline, frameTotal}
 use Rattle.wire.specs.Frame.{check, digitsOf, body, frame}
 use Rattle.wire.specs.Parsing.{Ended, good, refused, bytesOf, commandOf, payloadOf, dataOf, badCount, sumsUp, bodySays}
 use Rattle.wire.specs.Calls.{between, wellEnclosed, parsing, parsingChars, readAs, wholeSays, writing, writtenAs}
+use Rattle.wire.specs.Laws.{hex, DigitsAreTwo}
 use Rattle.wire.specs.declared.Read.{Read}
 use Rattle.wire.proofs.Nibbles.{nibble-digit, digit-nibble, digit-isDigit, nibble-at}
 use Rattle.wire.proofs.Bytes.{length-bytesOf, length-data, odd-count}
@@ -72,6 +73,17 @@ module _ (command : ℕ) (bytes : List ℕ) (nib : command ≤ 15) (few : length
   body-says =
       body-good (body command bytes) (rw length-body (omega arith)) (body-all isDigit digit-isDigit) count-back sums-back
       ∙ ap₂ good command-back data-back
+
+-- the digits as they are written out
+pub digit-hex : (n : ℕ) → n < 16 → digit n ≡ hex n
+unfolding digit
+digit-hex n h = eqb-true (digit n) (hex n) (upTo-at 16 (λ i. eqb (digit i) (hex i)) refl n h)
+
+pub digits-two : DigitsAreTwo
+digits-two b bytes h =
+    let high : digit (b / 16) ≡ hex (b / 16) = digit-hex (b / 16) (omega arith) in
+    let low : digit (b % 16) ≡ hex (b % 16) = digit-hex (b % 16) (omega arith) in
+    (ap₂ (λ (x y : ℕ). x ∷ y ∷ digitsOf bytes) high low, ap₂ (λ (x y : ℕ). record { high = x; low = y }) high low)
 
 -- Characters between a colon and a newline, and back.
 

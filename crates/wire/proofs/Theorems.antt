@@ -1,6 +1,6 @@
 -- The statements of specs/Laws.antt, proved. Assumes nothing.
-use Rattle.wire.specs.Laws.{WrittenIsRead, ReadIsWritten, WrittenSums, ReadSums, FaultGivenWhen, ReadGivenWhen, CharsGivenWhen, CharsAreWhole, WriteGivenWhen, RefusedWritesNothing}
-use Rattle.wire.proofs.RoundTrip.{frame-says, slice-written, chars-whole}
+use Rattle.wire.specs.Laws.{WrittenIsRead, ReadIsWritten, WrittenSums, ReadSums, FaultGivenWhen, ReadGivenWhen, CharsGivenWhen, CharsAreWhole, DigitsAreTwo, WriteGivenWhen, RefusedWritesNothing}
+use Rattle.wire.proofs.RoundTrip.{frame-says, slice-written, chars-whole, digits-two}
 use Rattle.wire.proofs.Refusing
 
 pub written-is-read : WrittenIsRead
@@ -26,6 +26,9 @@ chars-given-when = Refusing.chars-given
 
 pub chars-are-whole : CharsAreWhole
 chars-are-whole = chars-whole
+
+pub digits-are-two : DigitsAreTwo
+digits-are-two = digits-two
 
 pub write-given-when : WriteGivenWhen
 write-given-when = Refusing.write-given

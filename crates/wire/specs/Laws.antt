@@ -1,6 +1,6 @@
 -- What is proved of the definitions, as statements to compare with the papers. Each is proved under its name in proofs/Theorems.antt.
 -- Assumes nothing.
-use Prim.Native.Nat.{ℕ, _+_, _-_, _%_, _≤_, _<_}
+use Prim.Native.Nat.{ℕ, _+_, _-_, _/_, _%_, _≤_, _<_}
 use mathlib.Core.Path.{_≡_}
 use mathlib.Core.Bool.{not, _&&_, _||_}
 use mathlib.Core.List.{List, [], _∷_, _++_}
@@ -14,7 +14,7 @@ use Rattle.wire.specs.Frame.{digitsOf, frame}
 use Rattle.wire.specs.Parsing.{bodySays, brokenSays}
 use Rattle.laws.specs.Refusals.{row, firstOf}
 use Rattle.wire.specs.Refusals.{faults, faultOf, refusalOf, writeRefusalOf}
-use Rattle.wire.specs.Calls.{writing, parsing, parsingChars}
+use Rattle.wire.specs.Calls.{pairOf, writing, parsing, parsingChars}
 use Rattle.wire.specs.declared.Written.{Written}
 use Rattle.wire.specs.declared.Read.{Read}
 
@@ -76,6 +76,15 @@ ReadGivenWhen =
 
 abbrev pub CharsGivenWhen : Type 0
 CharsGivenWhen = (chars : List ℕ) (room : ℕ) → refusalOf (parsingChars chars room .answer) ≡ firstOf (row 11 (ltb room 35) ∷ faults chars newline)
+
+-- "data bytes as two digits each", the high nibble first, with the sixteen digits written out: in a frame, and as the public call gives them.
+abbrev pub hex : ℕ → ℕ
+hex n = getD (48 ∷ 49 ∷ 50 ∷ 51 ∷ 52 ∷ 53 ∷ 54 ∷ 55 ∷ 56 ∷ 57 ∷ 65 ∷ 66 ∷ 67 ∷ 68 ∷ 69 ∷ 70 ∷ []) n 0
+
+abbrev pub DigitsAreTwo : Type 0
+DigitsAreTwo =
+    (b : ℕ) (bytes : List ℕ) → b < 256
+    → (digitsOf (b ∷ bytes) ≡ hex (b / 16) ∷ hex (b % 16) ∷ digitsOf bytes) × (pairOf b ≡ record { high = hex (b / 16); low = hex (b % 16) })
 
 -- "The stream is read by the same frame rule": of the characters alone the whole answer, with the data in the buffer, is that of the slice in
 -- which a colon comes before them and a newline after.
