@@ -11,17 +11,18 @@ use lib.Seq.{take-append-seam}
 use lib.Dec.{ltb}
 use Rattle.settings.specs.Columns.{count}
 use Rattle.settings.specs.Calls.{settingAt}
+use Rattle.settings.specs.declared.Setting.{Setting}
 use Rattle.tables.specs.Rules.{factory}
 use Rattle.tables.specs.Rules as tables
 use Rattle.tables.specs.declared.Table.{Table}
 use Rattle.reply.specs.Events.{Event}
-use Rattle.collect.specs.Collecting.{advanced, begun, allowed}
+use Rattle.collect.specs.Collecting.{isWaiting, advanced, begun, allowed}
 use Rattle.collect.specs.Calls.{stageOf, tableOf, good, stray, told, starting, collecting}
-use Rattle.collect.specs.Laws.{run, calls, Reached, AllowedIsReached, refusedBy, RefusedIsStray, CallsFollow, namedBy, Holds, TableIsCarried, ToldIsLast, Handed, TableIsAllowed, replies, BoardIsRead}
+use Rattle.collect.specs.Laws.{run, calls, Reached, AllowedIsReached, refusedBy, RefusedIsStray, CallsFollow, namedBy, Holds, TableIsCarried, ToldIsLast, EndedStays, Handed, TableIsAllowed, replies, BoardIsRead}
 use Rattle.collect.specs.declared.Collector.{Collector}
 use Rattle.collect.specs.declared.Stage.{Stage}
 use Rattle.collect.specs.declared.Collected.{Collected}
-use Rattle.collect.proofs.Moving.{allowed-within, collecting-stray, collecting-good, told-stray, told-good}
+use Rattle.collect.proofs.Moving.{allowed-within, ended-stays, collecting-stray, collecting-good, told-stray, told-good}
 use Rattle.collect.proofs.Fitting.{table-fit, fit-table}
 use Rattle.collect.proofs.Reaching.{zeros, held, begun-held, Ends, taking, begun-ends, ends-allowed}
 use Rattle.collect.proofs.Boards.{board-run, run-append, reached}
@@ -120,6 +121,32 @@ stage-names len stopped = by (ltb len count) stopped
     by true true = refl
     by true false = refl
     by false b = refl
+
+-- a collector that waits says so, and another has ended
+stage-waits : (c : Collector) → isWaiting c ≡ true → good c .stage ≡ Stage.Waiting (settingAt (c .len))
+unfolding good isWaiting
+stage-waits c is = by (c .stopped) (ltb (c .len) count) refl refl
+  where
+    by : (s t : Bool) → c .stopped ≡ s → ltb (c .len) count ≡ t → stageOf (c .len) (c .stopped) ≡ Stage.Waiting (settingAt (c .len))
+    by true t p q = absurd (false≢true (rw p at is))
+    by false true p q = rw (q, p)
+    by false false p q = absurd (false≢true (rw (p, q) at is))
+
+pub ended-stays-it : EndedStays
+unfolding starting good begun
+ended-stays-it = (refl, λ events e none. ended events e none)
+  where
+    ended : (events : List Event) (e : Event) → ((s : Setting) → calls starting events .stage ≢ Stage.Waiting s)
+        → collecting (calls starting events .collector) e ≡ calls starting events
+    ended events e none = by (isWaiting (run begun events)) refl
+      where
+        by : (b : Bool) → isWaiting (run begun events) ≡ b → collecting (calls starting events .collector) e ≡ calls starting events
+        by true is =
+            absurd (none (settingAt (run begun events .len)) (ap (λ (r : Collected). r .stage) (called events) ∙ stage-waits (run begun events) is))
+        by false is =
+            ap (λ (c : Collector). collecting c e) (calls-run events)
+            ∙ sym (collecting-good (run begun events) e (ends-allowed (begun-ends events)))
+            ∙ ap good (sym (ended-stays (run begun events) e is)) ∙ sym (called events)
 
 -- a collector holds these numbers
 record Shape (c : Collector) (l : List ℕ) : Type 0 where

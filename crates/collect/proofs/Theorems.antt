@@ -1,6 +1,6 @@
 -- The statements of specs/Laws.antt, proved. Assumes nothing.
-use Rattle.collect.specs.Laws.{AllowedIsReached, RefusedIsStray, CallsFollow, TableIsCarried, ToldIsLast, TableIsAllowed, BoardIsRead, SilenceStops}
-use Rattle.collect.proofs.Calling.{reached-calls, stray-refused, calls-run, table-carried, told-last, table-allowed, board-read}
+use Rattle.collect.specs.Laws.{AllowedIsReached, RefusedIsStray, CallsFollow, TableIsCarried, ToldIsLast, EndedStays, TableIsAllowed, BoardIsRead, SilenceStops}
+use Rattle.collect.proofs.Calling.{reached-calls, stray-refused, calls-run, table-carried, told-last, ended-stays-it, table-allowed, board-read}
 use Rattle.collect.proofs.Silences as silences
 
 pub allowed-is-reached : AllowedIsReached
@@ -17,6 +17,9 @@ table-is-carried = table-carried
 
 pub told-is-last : ToldIsLast
 told-is-last = told-last
+
+pub ended-stays : EndedStays
+ended-stays = ended-stays-it
 
 pub table-is-allowed : TableIsAllowed
 table-is-allowed = table-allowed

@@ -113,6 +113,13 @@ TableIsCarried = (events : List Event) → OnStream events → Holds (carried []
 abbrev pub ToldIsLast : Type 0
 ToldIsLast = (events : List Event) → told (calls starting events .collector) ≡ calls starting events
 
+-- The start waits for the first setting; and where no setting is waited for, the collector has ended: whatever comes, the answer stays.
+abbrev pub EndedStays : Type 0
+EndedStays =
+    (starting .stage ≡ Stage.Waiting (settingAt 0))
+    × ((events : List Event) (e : Event) → let last = calls starting events in
+    ((s : Setting) → last .stage ≢ Stage.Waiting s) → collecting (last .collector) e ≡ last)
+
 -- 3. A table that is given as done is allowed; every other is the factory table.
 pub record Handed (last : Collected) : Type 0 where
   pub done-allowed : last .stage ≡ Stage.Done → tables.allowed (last .table) ≡ true
