@@ -1,7 +1,5 @@
 -- The public call's answer holds what is decided. Assumes nothing.
 use mathlib.Core.Path.{refl}
-use mathlib.Core.List.{List, []}
-use Prim.Native.Nat.{ℕ}
 use lib.ListN.{replicate}
 use Rattle.paper.specs.Numbers as paper
 use Rattle.laws.specs.Promise.{frontOf}

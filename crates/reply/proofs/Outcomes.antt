@@ -12,7 +12,7 @@ use Rattle.laws.specs.Lists.{Bytes}
 use Rattle.laws.proofs.Bools.{or-cases}
 use Rattle.laws.proofs.Lists.{every-take}
 use Rattle.answers.specs.Answers.{Sent, sent, said}
-use Rattle.answers.specs.Refusals.{isGetOrSet, idIn, Told, a-ping, a-version, a-product, a-restart, an-async, a-get, a-get-read-only, a-set, row-5, row-6, row-7, row-8, row-9, row-10, row-12}
+use Rattle.answers.specs.Refusals.{idIn, Told, a-ping, a-version, a-product, a-restart, an-async, a-get, a-get-read-only, a-set, row-5, row-6, row-7, row-8, row-9, row-10, row-12}
 use Rattle.answers.specs.declared.Core.{Core}
 use Rattle.answers.specs.declared.Outcome.{Outcome}
 use Rattle.answers.proofs.Telling.{from-small}
@@ -21,7 +21,6 @@ use Rattle.reply.specs.Replies.{flagOf, rest}
 use Rattle.reply.specs.Calls.{parsing}
 use Rattle.reply.specs.Laws.{hasStatus, Flagged, as-good, as-7, as-8, as-9, as-10, replyOf, FlagIsRead, Known, OutcomeIsRead}
 use Rattle.reply.specs.declared.Status.{Status}
-use Rattle.reply.specs.declared.Reply.{Reply}
 use Rattle.reply.proofs.Hearing.{said-read}
 
 -- the flag of a status, under each of the three codes

@@ -8,7 +8,6 @@ use borrow.Author.Tests.{eq-eqb}
 use lib.ListN.{length}
 use lib.Dec.{ltb}
 use Rattle.laws.proofs.Bools.{both}
-use Rattle.laws.specs.Promise.{Given}
 use Rattle.laws.specs.Refusals.{row, firstOf}
 use Rattle.settings.specs.Columns.{count}
 use Rattle.tables.specs.Rules.{allowed, numberAt}
@@ -16,7 +15,7 @@ use Rattle.tables.specs.declared.Table.{Table}
 use Rattle.requests.specs.declared.Wanted.{Wanted}
 use Rattle.restore.specs.Order.{dueSets}
 use Rattle.restore.specs.Calls.{framesFor, listRoom, unlisted, listedAs, listing, setsDue, dueAfter, dueIn}
-use Rattle.restore.specs.Laws.{listNumber, setsNumber, dueNumber, ListRefuses, ListGivenWhen, SetsGivenWhen, DueGivenWhen, ListIsGiven, SetsAreTold, left, differing, NoneWhereEqual}
+use Rattle.restore.specs.Laws.{listNumber, setsNumber, dueNumber, ListGivenWhen, SetsGivenWhen, DueGivenWhen, ListIsGiven, SetsAreTold, left, differing, NoneWhereEqual}
 use Rattle.restore.specs.declared.Due.{Due}
 use Rattle.restore.specs.declared.Listed.{Listed}
 use Rattle.restore.specs.declared.Sets.{Sets}

@@ -18,7 +18,7 @@ use Rattle.restore.proofs.Theorems.{due-tells}
 use Rattle.tables.specs.declared.Table.{Table}
 use Rattle.follow.specs.Following.{standsAt, standing, advanced, begun, total, followerAllowed}
 use Rattle.reply.specs.Events.{Event}
-use Rattle.follow.specs.Calls.{answered, told, starting, following}
+use Rattle.follow.specs.Calls.{answered, told, starting}
 use Rattle.follow.specs.Laws.{run, calls}
 use Rattle.follow.specs.declared.Follower.{Follower}
 use Rattle.follow.specs.declared.Standing.{Standing}

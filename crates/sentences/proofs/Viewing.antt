@@ -1,16 +1,15 @@
 -- The words of a board's values: proofs of the statements of specs/ValueLaws.antt. Assumes nothing.
 use mathlib.Core.Path.{_≡_, refl, sym, ap, ap₂, _∙_}
-use mathlib.Core.Bool.{Bool, true, false, cond}
-use mathlib.Core.List.{List, [], _∷_, _++_}
+use mathlib.Core.Bool.{Bool, true, false}
+use mathlib.Core.List.{List, [], _++_}
 use Prim.Native.Nat.{ℕ, _+_, _%_, _≤_}
 use native.Mathlib.Omega.{arith}
 use lib.ListN.{getD, take}
-use Rattle.paper.specs.Numbers.{notAllowed}
 use Rattle.reply.specs.Replies.{rest}
 use Rattle.reply.specs.Units.{inVolts, inAmperes, inFineAmperes, inAmpHours, inPercent}
 use Rattle.reply.specs.Calls.{showing}
 use Rattle.reply.specs.Events.{heard}
-use Rattle.view.specs.Values.{count, serialIn, isUnderstood}
+use Rattle.view.specs.Values.{serialIn, isUnderstood}
 use Rattle.view.specs.Calls.{sightOf, allowed, viewing}
 use Rattle.view.specs.declared.Viewer.{Viewer}
 use Rattle.view.specs.declared.Sight.{Sight}

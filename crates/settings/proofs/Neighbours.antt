@@ -1,6 +1,6 @@
 -- The two of a pair are neighbours, and the first speaks for both: where each first agrees with the number after it, every setting agrees
 -- with its partner. Assumes nothing.
-use mathlib.Core.Path.{_≡_, refl, sym}
+use mathlib.Core.Path.{_≡_, refl}
 use mathlib.Core.Logic.{⊎-elim}
 use mathlib.Core.Bool.{Bool, true, false, not, _&&_, _||_, false≢true}
 use mathlib.Core.List.{List}

@@ -1,5 +1,5 @@
 -- What a state says of the bytes that left it. Assumes nothing.
-use mathlib.Core.Path.{_≡_, refl, sym, ap, subst, _∙_}
+use mathlib.Core.Path.{_≡_, refl, ap, subst, _∙_}
 use mathlib.Core.Bool.{Bool, true, false}
 use mathlib.Core.Logic.{_≢_}
 use mathlib.Core.List.{List, [], _∷_, _++_, append-assoc, append-nil}
@@ -8,15 +8,14 @@ use native.Mathlib.Omega.{arith}
 use borrow.Author.Tests.{eqb-true, ne-eqb}
 use lib.ListN.{length}
 use lib.Dec.{eqb}
-use Rattle.laws.specs.Lists.{every}
 use Rattle.laws.proofs.Lists.{every-append}
 use Rattle.paper.specs.Numbers.{colon, newline}
-use Rattle.wire.specs.Frame.{body, frame}
+use Rattle.wire.specs.Frame.{frame}
 use Rattle.wire.specs.Parsing.{Ended, good, bodySays, brokenSays}
 use Rattle.wire.proofs.RoundTrip.{said, said-body}
 use Rattle.stream.specs.Stream.{Unfinished, outside, inside, next, endedBy, framesOf, leftFrom, leftBy, ends}
 use Rattle.stream.specs.Calls.{stays}
-use Rattle.stream.specs.Laws.{Since, InsideIsSince, OneMore, ByteEndsFrame, HeardIsWritten, NoColonIsSkipped}
+use Rattle.stream.specs.Laws.{Since, InsideIsSince, ByteEndsFrame, HeardIsWritten, NoColonIsSkipped}
 use Rattle.stream.proofs.Streams.{left-append, frames-append, none-ends, stay-left, noise-left, noise-frames}
 
 -- what is known of the bytes so far, by where they leave the reading

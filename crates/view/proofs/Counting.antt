@@ -13,7 +13,7 @@ use Rattle.laws.proofs.Bools.{and-left, and-right, both}
 use Rattle.laws.proofs.Lists.{drop-turn}
 use Rattle.reply.specs.Events.{Event, heard, refusedFrame, noAnswer}
 use Rattle.view.specs.Values.{ids, count, idAt}
-use Rattle.view.specs.Calls.{sightAt, isWaiting, sightOf, answers, shows, quiet, moved, silenced, advanced, begun, within, allowed, nextAt, nextOf, told, stray, starting, viewing}
+use Rattle.view.specs.Calls.{sightAt, isWaiting, sightOf, answers, shows, quiet, moved, silenced, advanced, begun, within, allowed, nextOf, told, stray, starting, viewing}
 use Rattle.view.specs.Laws.{calls, RefusedIsStray, sightFor, since, oneMore, counted, silencesIn, CountsAreTrue, EndedStays}
 use Rattle.view.specs.declared.Viewer.{Viewer}
 use Rattle.view.specs.declared.Next.{Next}

@@ -6,12 +6,6 @@ use Rattle.answers.proofs.Deciding.{answer-refused, answer-given, ident
 use Rattle.answers.proofs.answer.Statement.{statement}
 use Rattle.answers.proofs.answer.Tie as tie
 
-is-allowed-requires : tie.Need-is-allowed-requires
-is-allowed-requires c κs = tt
-
-silent-requires : tie.Need-silent-requires
-silent-requires c κs = tt
-
 returns : tie.Need-returns
 returns c = c .silent .ensures ∙ ap decidedOf (answer-refused _ _ _ (sym (c .before .before .is-allowed .ensures) ∙ not-true _ (c .before .if1 .taken)))
 
@@ -22,4 +16,4 @@ returns-2 : tie.Need-returns-2
 returns-2 c = c .frame-answer .ensures ∙ ap decidedOf (answer-given _ _ _ (sym (c .before .before .is-allowed .ensures) ∙ not-false _ (c .before .if1 .left)))
 
 pub answer-spec : {M : Type 1} → statement M
-answer-spec = tie.close (tie.spec is-allowed-requires silent-requires returns frame-answer-requires returns-2)
+answer-spec = tie.close (tie.spec (λ c κs. tt) (λ c κs. tt) returns frame-answer-requires returns-2)

@@ -8,12 +8,6 @@ use Rattle.backup.proofs.Calls.{header-inside, says-other, read-says, r
 use Rattle.backup.proofs.read.Statement.{statement}
 use Rattle.backup.proofs.read.Tie as tie
 
-begins-requires : tie.Need-begins-requires
-begins-requires c κs = search needs
-
-refused-requires : tie.Need-refused-requires
-refused-requires c κs = search needs
-
 returns : tie.Need-returns
 returns c =
     let other = sym (c .before .before .begins .ensures) ∙ not-true _ (c .before .if1 .taken) in
@@ -25,12 +19,6 @@ sub-read-lines c = header-inside _ (sym (c .before .begins .ensures) ∙ not-fal
 part-read-lines-start : tie.Need-part-read-lines-start
 part-read-lines-start c = header-inside _ (sym (c .before .begins .ensures) ∙ not-false _ (c .if1 .left))
 
-part-read-lines-end : tie.Need-part-read-lines-end
-part-read-lines-end c = search needs
-
-read-lines-requires : tie.Need-read-lines-requires
-read-lines-requires c κs = search needs
-
 returns-2 : tie.Need-returns-2
 returns-2 c =
     let begun = sym (c .before .before .before .begins .ensures) ∙ not-false _ (c .before .before .if1 .left) in
@@ -39,4 +27,5 @@ returns-2 c =
 pub read-spec : {M : Type 1} → statement M
 read-spec =
     tie.close
-    (tie.spec begins-requires refused-requires returns sub-read-lines part-read-lines-start part-read-lines-end read-lines-requires returns-2)
+    (tie.spec (λ c κs. search needs) (λ c κs. search needs) returns sub-read-lines
+    part-read-lines-start (λ c. search needs) (λ c κs. search needs) returns-2)

@@ -29,26 +29,8 @@ front-end c = c .copy .ensures .0 ∙ rw (c .before .before .before .header .ens
 returns : tie.Need-returns
 returns c = gives-none _ (write-short _ _ (c .if1 .taken))
 
-is-allowed-requires : tie.Need-is-allowed-requires
-is-allowed-requires c κs = search needs
-
 returns-2 : tie.Need-returns-2
 returns-2 c = gives-none _ (write-stray _ _ (c .before .before .if1 .left) (sym (c .before .is-allowed .ensures) ∙ not-true _ (c .if2 .taken)))
-
-header-requires : tie.Need-header-requires
-header-requires c κs = search needs
-
-slice-aggregate-copy : tie.Need-slice-aggregate-copy
-slice-aggregate-copy c = search needs
-
-copy-requires : tie.Need-copy-requires
-copy-requires c κs = search needs
-
-put-lines-requires : tie.Need-put-lines-requires
-put-lines-requires c κs = search needs
-
-same-length : tie.Need-same-length
-same-length c = search needs
 
 returns-3 : tie.Need-returns-3
 returns-3 c =
@@ -68,4 +50,5 @@ returns-3 c =
 pub write-spec : {M : Type 1} → statement M
 write-spec =
     tie.close
-    (tie.spec returns is-allowed-requires returns-2 header-requires slice-aggregate-copy copy-requires put-lines-requires same-length returns-3)
+    (tie.spec returns (λ c κs. search needs) returns-2 (λ c κs. search needs) (λ c. search needs)
+    (λ c κs. search needs) (λ c κs. search needs) (λ c. search needs) returns-3)

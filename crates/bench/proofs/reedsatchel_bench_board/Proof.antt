@@ -23,15 +23,6 @@ consumed-fits s = search needs
 charge-fits : (s : tie.Start) → SFits w64 (s .args .charge)
 charge-fits s = search needs
 
-begun-requires : tie.Need-begun-requires
-begun-requires c κs = search needs
-
-run-requires : tie.Need-run-requires
-run-requires c κs = search needs
-
-same-length : tie.Need-same-length
-same-length c = search needs
-
 returns : tie.Need-returns
 returns c =
     let s = c .before .before .before .before .before .before .before .before .before in
@@ -40,4 +31,6 @@ returns c =
     (c .before .before .run .ensures)
 
 pub reedsatchel-bench-board-spec : {M : Type 1} → statement M
-reedsatchel-bench-board-spec = tie.close (tie.spec begun-requires run-requires same-length returns)
+reedsatchel-bench-board-spec =
+    tie.close
+    (tie.spec (λ c κs. search needs) (λ c κs. search needs) (λ c. search needs) returns)

@@ -20,41 +20,17 @@ short s = search needs
 sizes-short : (s : tie.Start Inv-loop μ-loop) → length (now (s .args .sizes)) < 0x8000000000000000
 sizes-short s = search needs
 
-outside-requires : tie.Need-outside-requires Inv-loop μ-loop
-outside-requires c κs = search needs
-
 loop-holds : tie.Need-loop-holds Inv-loop μ-loop
 loop-holds c = going-start (c .outside .ensures)
-
-mul-least : tie.Need-mul-least Inv-loop μ-loop
-mul-least c = search needs
-
-shared-slice-read-least : tie.Need-shared-slice-read-least Inv-loop μ-loop
-shared-slice-read-least c = search needs
 
 sub-least : tie.Need-sub-least Inv-loop μ-loop
 sub-least c = c .before .before .loop .inv .within
 
-least-requires : tie.Need-least-requires Inv-loop μ-loop
-least-requires c κs = search needs
-
 add-end : tie.Need-add-end Inv-loop μ-loop
 add-end c = record { fits = omega (arith, c .least .ensures, c .before .before .before .loop .inv .within, short (c .before .before .before .before .before .before .before .before)) }
 
-sub-hear : tie.Need-sub-hear Inv-loop μ-loop
-sub-hear c = search needs
-
-part-hear-start : tie.Need-part-hear-start Inv-loop μ-loop
-part-hear-start c = search needs
-
 part-hear-end : tie.Need-part-hear-end Inv-loop μ-loop
 part-hear-end c = omega (arith, c .least .ensures, c .before .before .before .loop .inv .within)
-
-hear-requires : tie.Need-hear-requires Inv-loop μ-loop
-hear-requires c κs = search needs
-
-good-in-requires : tie.Need-good-in-requires Inv-loop μ-loop
-good-in-requires c κs = search needs
 
 add-count : tie.Need-add-count Inv-loop μ-loop
 add-count c = record { fits = omega (arith, c .good-in .ensures, good-most (c .before .before .before .before .hear .result .event), c .before .before .before .before .before .before .before .before .before .before .loop .inv .few, c .before .before .before .before .before .before .before .before .before .loop-test .taken, sizes-short (c .before .before .before .before .before .before .before .before .before .before .before .before .before .before .before)) }
@@ -80,25 +56,7 @@ returns c = going-end (c .loop-test .left) (c .before .loop .inv)
 pub reedsatchel-bench-stream-spec : {M : Type 1} → statement M
 reedsatchel-bench-stream-spec =
     tie.close
-    (tie.spec
-    Inv-loop
-    μ-loop
-    outside-requires
-    loop-holds
-    mul-least
-    shared-slice-read-least
-    sub-least
-    least-requires
-    add-end
-    sub-hear
-    part-hear-start
-    part-hear-end
-    hear-requires
-    good-in-requires
-    add-count
-    add-at
-    add-i
-    loop-less
-    loop-again
-    same-length
-    returns)
+    (tie.spec Inv-loop μ-loop (λ c κs. search needs) loop-holds (λ c. search needs)
+    (λ c. search needs) sub-least (λ c κs. search needs) add-end (λ c. search needs)
+    (λ c. search needs) part-hear-end (λ c κs. search needs) (λ c κs. search needs) add-count add-at
+    add-i loop-less loop-again same-length returns)

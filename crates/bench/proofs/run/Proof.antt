@@ -32,23 +32,11 @@ loop-holds c = going-start
 mul-least : tie.Need-mul-least Inv-loop μ-loop
 mul-least c = record { fits = omega (arith, c .loop-test .taken, sizes-few (c .before .before .before .before .before)) }
 
-shared-slice-read-least : tie.Need-shared-slice-read-least Inv-loop μ-loop
-shared-slice-read-least c = search needs
-
 sub-least : tie.Need-sub-least Inv-loop μ-loop
 sub-least c = c .before .before .loop .inv .within
 
-least-requires : tie.Need-least-requires Inv-loop μ-loop
-least-requires c κs = search needs
-
 add-end : tie.Need-add-end Inv-loop μ-loop
 add-end c = record { fits = omega (arith, c .least .ensures, c .before .before .before .loop .inv .within, short (c .before .before .before .before .before .before .before)) }
-
-sub-answer : tie.Need-sub-answer Inv-loop μ-loop
-sub-answer c = search needs
-
-part-answer-start : tie.Need-part-answer-start Inv-loop μ-loop
-part-answer-start c = search needs
 
 part-answer-end : tie.Need-part-answer-end Inv-loop μ-loop
 part-answer-end c = omega (arith, c .least .ensures, c .before .before .before .loop .inv .within)
@@ -58,12 +46,6 @@ sub-answer-2 c = omega (arith, c .before .before .before .before .loop .inv .roo
 
 part-answer-start-2 : tie.Need-part-answer-start-2 Inv-loop μ-loop
 part-answer-start-2 c = omega (arith, c .before .before .before .before .loop .inv .room, c .before .before .before .before .loop .inv .long)
-
-part-answer-end-2 : tie.Need-part-answer-end-2 Inv-loop μ-loop
-part-answer-end-2 c = search needs
-
-answer-requires : tie.Need-answer-requires Inv-loop μ-loop
-answer-requires c κs = search needs
 
 add-at : tie.Need-add-at Inv-loop μ-loop
 add-at c = record { fits = omega (arith, turn-within (c .before .before .before .before .before .before .before .before .before .loop-test .taken) _ (c .before .before .before .before .before .before .before .least .ensures) (c .before .before .before .before .answer .ensures) (c .before .before .before .before .before .before .before .before .before .before .loop .inv), short (c .before .before .before .before .before .before .before .before .before .before .before .before .before .before)) }
@@ -89,26 +71,7 @@ returns c = going-end (c .loop-test .left) (c .before .loop .inv)
 pub run-spec : {M : Type 1} → statement M
 run-spec =
     tie.close
-    (tie.spec
-    Inv-loop
-    μ-loop
-    loop-holds
-    mul-least
-    shared-slice-read-least
-    sub-least
-    least-requires
-    add-end
-    sub-answer
-    part-answer-start
-    part-answer-end
-    sub-answer-2
-    part-answer-start-2
-    part-answer-end-2
-    answer-requires
-    add-at
-    add-len
-    add-i
-    loop-less
-    loop-again
-    same-length
-    returns)
+    (tie.spec Inv-loop μ-loop loop-holds mul-least (λ c. search needs) sub-least
+    (λ c κs. search needs) add-end (λ c. search needs) (λ c. search needs) part-answer-end
+    sub-answer-2 part-answer-start-2 (λ c. search needs) (λ c κs. search needs) add-at add-len add-i
+    loop-less loop-again same-length returns)

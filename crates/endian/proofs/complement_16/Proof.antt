@@ -26,7 +26,4 @@ returns-2 : tie.Need-returns-2
 returns-2 c = plain-is w16 2 (c .before .args .x) (fits (c .before)) (c .if1 .left)
 
 pub complement-16-spec : {M : Type 1} → statement M
-complement-16-spec =
-    tie.close
-    (tie.spec
-    cast-result sub-result returns cast-result-2 returns-2)
+complement-16-spec = tie.close (tie.spec cast-result sub-result returns cast-result-2 returns-2)

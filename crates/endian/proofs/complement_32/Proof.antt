@@ -26,7 +26,4 @@ returns-2 : tie.Need-returns-2
 returns-2 c = plain-is w32 4 (c .before .args .x) (fits (c .before)) (c .if1 .left)
 
 pub complement-32-spec : {M : Type 1} → statement M
-complement-32-spec =
-    tie.close
-    (tie.spec
-    cast-result sub-result returns cast-result-2 returns-2)
+complement-32-spec = tie.close (tie.spec cast-result sub-result returns cast-result-2 returns-2)

@@ -10,20 +10,13 @@ use Rattle.endian.proofs.signed_16.Tie as tie
 fits : (s : tie.Start) → Fits w16 (s .args .n)
 fits s = search needs
 
-cast-result : tie.Need-cast-result
-cast-result c = search needs
-
 returns : tie.Need-returns
 returns c = plain-is w16 2 refl _ (c .if1 .taken)
-
-sub-result : tie.Need-sub-result
-sub-result c = search needs
-
-cast-result-2 : tie.Need-cast-result-2
-cast-result-2 c = search needs
 
 returns-2 : tie.Need-returns-2
 returns-2 c = turned-is w16 2 refl 65535 refl _ (fits (c .before)) (c .if1 .left)
 
 pub signed-16-spec : {M : Type 1} → statement M
-signed-16-spec = tie.close (tie.spec cast-result returns sub-result cast-result-2 returns-2)
+signed-16-spec =
+    tie.close
+    (tie.spec (λ c. search needs) returns (λ c. search needs) (λ c. search needs) returns-2)

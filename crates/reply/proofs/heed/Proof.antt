@@ -10,15 +10,9 @@ returns : tie.Need-returns
 unfolding heeding
 returns c = rw (ne-eqb _ _ (c .if1 .taken))
 
-read-requires : tie.Need-read-requires
-read-requires c κs = search needs
-
-of-kind-requires : tie.Need-of-kind-requires
-of-kind-requires c κs = search needs
-
 returns-2 : tie.Need-returns-2
 unfolding heeding
 returns-2 c = rw (eq-eqb _ _ (c .before .before .if1 .left), sym (c .before .read .ensures)) (c .of-kind .ensures)
 
 pub heed-spec : {M : Type 1} → statement M
-heed-spec = tie.close (tie.spec returns read-requires of-kind-requires returns-2)
+heed-spec = tie.close (tie.spec returns (λ c κs. search needs) (λ c κs. search needs) returns-2)

@@ -6,24 +6,6 @@ use borrow.Author.Needs.{needs}
 use Rattle.reply.proofs.read.Statement.{statement}
 use Rattle.reply.proofs.read.Tie as tie
 
-unknown-requires : tie.Need-unknown-requires
-unknown-requires c κs = search needs
-
-error-requires : tie.Need-error-requires
-error-requires c κs = search needs
-
-ping-requires : tie.Need-ping-requires
-ping-requires c κs = search needs
-
-get-requires : tie.Need-get-requires
-get-requires c κs = search needs
-
-set-requires : tie.Need-set-requires
-set-requires c κs = search needs
-
-told-requires : tie.Need-told-requires
-told-requires c κs = search needs
-
 returns : tie.Need-returns
 unfolding parsing
 returns c = rw (c .match .keys1)
@@ -61,18 +43,6 @@ returns-8 c =
 pub read-spec : {M : Type 1} → statement M
 read-spec =
     tie.close
-    (tie.spec
-    unknown-requires
-    error-requires
-    ping-requires
-    get-requires
-    set-requires
-    told-requires
-    returns
-    returns-2
-    returns-3
-    returns-4
-    returns-5
-    returns-6
-    returns-7
-    returns-8)
+    (tie.spec (λ c κs. search needs) (λ c κs. search needs) (λ c κs. search needs)
+    (λ c κs. search needs) (λ c κs. search needs) (λ c κs. search needs) returns returns-2 returns-3
+    returns-4 returns-5 returns-6 returns-7 returns-8)

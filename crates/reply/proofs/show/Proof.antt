@@ -6,21 +6,6 @@ use borrow.Author.Needs.{needs}
 use Rattle.reply.proofs.show.Statement.{statement}
 use Rattle.reply.proofs.show.Tie as tie
 
-volts-requires : tie.Need-volts-requires
-volts-requires c κs = search needs
-
-amperes-requires : tie.Need-amperes-requires
-amperes-requires c κs = search needs
-
-fine-amperes-requires : tie.Need-fine-amperes-requires
-fine-amperes-requires c κs = search needs
-
-amp-hours-requires : tie.Need-amp-hours-requires
-amp-hours-requires c κs = search needs
-
-percent-requires : tie.Need-percent-requires
-percent-requires c κs = search needs
-
 returns : tie.Need-returns
 unfolding showing
 returns c = c .volts .ensures ∙ sym (rw (c .before .match .keys1))
@@ -50,15 +35,6 @@ returns-6 c =
 pub show-spec : {M : Type 1} → statement M
 show-spec =
     tie.close
-    (tie.spec
-    volts-requires
-    amperes-requires
-    fine-amperes-requires
-    amp-hours-requires
-    percent-requires
-    returns
-    returns-2
-    returns-3
-    returns-4
-    returns-5
+    (tie.spec (λ c κs. search needs) (λ c κs. search needs) (λ c κs. search needs)
+    (λ c κs. search needs) (λ c κs. search needs) returns returns-2 returns-3 returns-4 returns-5
     returns-6)

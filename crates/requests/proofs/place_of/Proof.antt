@@ -7,9 +7,6 @@ use Rattle.requests.specs.Calls.{placeIn}
 use Rattle.requests.proofs.place_of.Statement.{statement}
 use Rattle.requests.proofs.place_of.Tie as tie
 
-setting-at-requires : tie.Need-setting-at-requires
-setting-at-requires c κs = search needs
-
 returns : tie.Need-returns
 unfolding placeIn
 returns c = rw (eq-eqb _ _ (sym (ap (λ (s : Setting). s .id) (c .before .before .before .setting-at .ensures)) ∙ c .if1 .taken))
@@ -19,4 +16,4 @@ unfolding placeIn
 returns-2 c = rw (ne-eqb _ _ (λ e. c .if1 .left (ap (λ (s : Setting). s .id) (c .before .before .before .setting-at .ensures) ∙ e)))
 
 pub place-of-spec : {M : Type 1} → statement M
-place-of-spec = tie.close (tie.spec setting-at-requires returns returns-2)
+place-of-spec = tie.close (tie.spec (λ c κs. search needs) returns returns-2)

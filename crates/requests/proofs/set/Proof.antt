@@ -11,12 +11,6 @@ use Rattle.requests.proofs.set.Tie as tie
 returns : tie.Need-returns
 returns c = gives-none _ (set-short _ _ _ (c .if1 .taken))
 
-at-requires : tie.Need-at-requires
-at-requires c κs = search needs
-
-enum-known-setting : tie.Need-enum-known-setting
-enum-known-setting c = search needs
-
 set-of-requires : tie.Need-set-of-requires
 set-of-requires c κs =
     let found = at-found _ _ (sym (c .before .before .before .before .at .ensures) ∙ c .before .before .setting .given .1) in
@@ -26,9 +20,6 @@ set-of-requires c κs =
 
 enum-told : tie.Need-enum-told
 enum-told c = search needs
-
-same-length : tie.Need-same-length
-same-length c = search needs
 
 returns-2 : tie.Need-returns-2
 returns-2 c =
@@ -41,12 +32,5 @@ returns-3 c = gives-none _ (set-past _ _ _ (c .before .before .before .if1 .left
 pub set-spec : {M : Type 1} → statement M
 set-spec =
     tie.close
-    (tie.spec
-    returns
-    at-requires
-    enum-known-setting
-    set-of-requires
-    enum-told
-    same-length
-    returns-2
-    returns-3)
+    (tie.spec returns (λ c κs. search needs) (λ c. search needs) set-of-requires enum-told
+    (λ c. search needs) returns-2 returns-3)

@@ -10,44 +10,11 @@ use borrow.Author.Needs.{needs}
 use Rattle.requests.proofs.set_of.Statement.{statement}
 use Rattle.requests.proofs.set_of.Tie as tie
 
-holds-requires : tie.Need-holds-requires
-holds-requires c κs = search needs
-
 returns : tie.Need-returns
 returns c = gives-none _ (set-wide _ _ _ (sym (c .before .holds .ensures) ∙ not-true _ (c .if1 .taken)))
 
-bytes-16-requires : tie.Need-bytes-16-requires
-bytes-16-requires c κs = search needs
-
-bytes-16-requires-2 : tie.Need-bytes-16-requires-2
-bytes-16-requires-2 c κs = search needs
-
-array-read-t13 : tie.Need-array-read-t13
-array-read-t13 c = search needs
-
-array-read-t16 : tie.Need-array-read-t16
-array-read-t16 c = search needs
-
-array-read-t19 : tie.Need-array-read-t19
-array-read-t19 c = search needs
-
-array-read-t22 : tie.Need-array-read-t22
-array-read-t22 c = search needs
-
-add-bytes : tie.Need-add-bytes
-add-bytes c = search needs
-
-array-share-prefix-bytes : tie.Need-array-share-prefix-bytes
-array-share-prefix-bytes c = search needs
-
 slice-aggregate-write-frame : tie.Need-slice-aggregate-write-frame
 slice-aggregate-write-frame c = rw length-take (omega (arith, c .before .before .before .before .before .before .pre))
-
-write-frame-requires : tie.Need-write-frame-requires
-write-frame-requires c κs = search needs
-
-same-length : tie.Need-same-length
-same-length c = search needs
 
 returns-2 : tie.Need-returns-2
 returns-2 c =
@@ -62,18 +29,7 @@ returns-2 c =
 pub set-of-spec : {M : Type 1} → statement M
 set-of-spec =
     tie.close
-    (tie.spec
-    holds-requires
-    returns
-    bytes-16-requires
-    bytes-16-requires-2
-    array-read-t13
-    array-read-t16
-    array-read-t19
-    array-read-t22
-    add-bytes
-    array-share-prefix-bytes
-    slice-aggregate-write-frame
-    write-frame-requires
-    same-length
-    returns-2)
+    (tie.spec (λ c κs. search needs) returns (λ c κs. search needs) (λ c κs. search needs)
+    (λ c. search needs) (λ c. search needs) (λ c. search needs) (λ c. search needs)
+    (λ c. search needs) (λ c. search needs) slice-aggregate-write-frame (λ c κs. search needs)
+    (λ c. search needs) returns-2)

@@ -1,6 +1,6 @@
 -- `restore::due_after` meets its contract. Assumes nothing.
 use mathlib.Core.Path.{_≡_, sym, ap, _∙_}
-use Prim.Native.Nat.{_-_, _<_, _≤_}
+use Prim.Native.Nat.{_<_, _≤_}
 use borrow.Author.Tests.{not-true, not-false}
 use Rattle.tables.specs.Rules.{allowed}
 use Rattle.restore.specs.Order.{order, wanted, dueSets}
@@ -25,9 +25,6 @@ within c =
 
 inside : (c : tie.After-indices) → c .before .before .before .before .before .before .args .done < length (order (c .before .before .before .before .before .before .args .from) (c .before .before .before .before .before .before .args .to))
 inside c = rw (sym (c .before .before .before .row-of .ensures .len-is)) (c .before .if2 .left)
-
-both-allowed-requires : tie.Need-both-allowed-requires
-both-allowed-requires c κs = search needs
 
 returns : tie.Need-returns
 returns c = due-stray _ _ _ (sym (c .before .both-allowed .ensures) ∙ not-true _ (c .if1 .taken))
@@ -61,12 +58,5 @@ returns-3 c =
 pub due-after-spec : {M : Type 1} → statement M
 due-after-spec =
     tie.close
-    (tie.spec
-    both-allowed-requires
-    returns
-    row-of-requires
-    returns-2
-    mul-wanted-at
-    array-read-wanted-at
-    wanted-at-requires
-    returns-3)
+    (tie.spec (λ c κs. search needs) returns row-of-requires returns-2 mul-wanted-at
+    array-read-wanted-at wanted-at-requires returns-3)

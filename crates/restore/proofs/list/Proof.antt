@@ -1,6 +1,5 @@
 -- `restore::list` meets its contract. Assumes nothing.
 use mathlib.Core.Path.{_≡_, sym, _∙_}
-use Prim.Native.Nat.{_-_}
 use borrow.Author.Tests.{not-true, not-false}
 use Rattle.tables.specs.Rules.{allowed}
 use Rattle.laws.proofs.Bools.{and-right}
@@ -18,9 +17,6 @@ long c = search needs
 returns : tie.Need-returns
 returns c = gives-none _ (list-short _ _ _ (c .if1 .taken))
 
-both-allowed-requires : tie.Need-both-allowed-requires
-both-allowed-requires c κs = search needs
-
 returns-2 : tie.Need-returns-2
 returns-2 c = gives-none _ (list-stray _ _ _ (c .before .before .if1 .left) (sym (c .before .both-allowed .ensures) ∙ not-true _ (c .if2 .taken)))
 
@@ -34,9 +30,6 @@ put-sets-requires c κs =
     let w = c .before .row-of .ensures in
     (c .before .before .before .before .if1 .left, and-right (allowed (s .args .from)) _ ok, row-few (s .args .from) (s .args .to) _ w (long c), row-fits (s .args .from) (s .args .to) _ w)
 
-same-length : tie.Need-same-length
-same-length c = search needs
-
 returns-3 : tie.Need-returns-3
 returns-3 c =
     let ok = sym (c .before .before .before .before .before .before .both-allowed .ensures) ∙ not-false _ (c .before .before .before .before .before .if2 .left) in
@@ -45,11 +38,5 @@ returns-3 c =
 pub list-spec : {M : Type 1} → statement M
 list-spec =
     tie.close
-    (tie.spec
-    returns
-    both-allowed-requires
-    returns-2
-    row-of-requires
-    put-sets-requires
-    same-length
-    returns-3)
+    (tie.spec returns (λ c κs. search needs) returns-2 row-of-requires put-sets-requires
+    (λ c. search needs) returns-3)

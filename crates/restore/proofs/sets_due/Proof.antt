@@ -10,9 +10,6 @@ use borrow.Author.Needs.{needs}
 use Rattle.restore.proofs.sets_due.Statement.{statement}
 use Rattle.restore.proofs.sets_due.Tie as tie
 
-both-allowed-requires : tie.Need-both-allowed-requires
-both-allowed-requires c κs = search needs
-
 returns : tie.Need-returns
 unfolding setsDue
 returns c = rw (sym (c .before .both-allowed .ensures) ∙ not-true _ (c .if1 .taken))
@@ -25,4 +22,4 @@ unfolding setsDue
 returns-2 c = rw (sym (c .before .before .both-allowed .ensures) ∙ not-false _ (c .before .if1 .left)) (ap Sets.Due (row-sets _ _ _ (c .row-of .ensures)))
 
 pub sets-due-spec : {M : Type 1} → statement M
-sets-due-spec = tie.close (tie.spec both-allowed-requires returns row-of-requires returns-2)
+sets-due-spec = tie.close (tie.spec (λ c κs. search needs) returns row-of-requires returns-2)

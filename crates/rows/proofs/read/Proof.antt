@@ -6,14 +6,8 @@ use Rattle.rows.proofs.Rows.{line-inside, read-built, read-other, read-
 use Rattle.rows.proofs.read.Statement.{statement}
 use Rattle.rows.proofs.read.Tie as tie
 
-line-len-requires : tie.Need-line-len-requires
-line-len-requires c κs = search needs
-
 slice-aggregate-is-row : tie.Need-slice-aggregate-is-row
 slice-aggregate-is-row c = line-inside _ (c .before .line-len .ensures)
-
-is-row-requires : tie.Need-is-row-requires
-is-row-requires c κs = search needs
 
 returns : tie.Need-returns
 returns c = read-other _ (c .before .before .before .line-len .ensures) (c .before .is-row .ensures) (not-true _ (c .if1 .taken))
@@ -31,4 +25,6 @@ returns-2 c =
 
 pub read-spec : {M : Type 1} → statement M
 read-spec =
-    tie.close (tie.spec line-len-requires slice-aggregate-is-row is-row-requires returns slice-aggregate-row-in row-in-requires returns-2)
+    tie.close
+    (tie.spec (λ c κs. search needs) slice-aggregate-is-row (λ c κs. search needs) returns
+    slice-aggregate-row-in row-in-requires returns-2)

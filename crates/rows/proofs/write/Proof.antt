@@ -19,9 +19,6 @@ small c = search needs
 returns : tie.Need-returns
 returns c = gives-none _ (write-short _ _ _ (c .if1 .taken))
 
-row-of-requires : tie.Need-row-of-requires
-row-of-requires c κs = search needs
-
 array-share-prefix-chars : tie.Need-array-share-prefix-chars
 array-share-prefix-chars c = line-room _ _ (small (c .before .before .before .before)) _ (c .before .row-of .ensures)
 
@@ -37,9 +34,6 @@ copy-requires c κs =
     let s = c3 .before .before .before in
     rw (line-text _ _ (small s) _ (c3 .row-of .ensures)) (omega (arith, row-short (s .args .id) (s .args .number) (omega (arith, small s)), c3 .before .if1 .left))
 
-same-length : tie.Need-same-length
-same-length c = search needs
-
 returns-2 : tie.Need-returns-2
 returns-2 c =
     let c2 = c .before .before in
@@ -51,4 +45,6 @@ returns-2 c =
 
 pub write-spec : {M : Type 1} → statement M
 write-spec =
-    tie.close (tie.spec returns row-of-requires array-share-prefix-chars slice-aggregate-copy copy-requires same-length returns-2)
+    tie.close
+    (tie.spec returns (λ c κs. search needs) array-share-prefix-chars slice-aggregate-copy
+    copy-requires (λ c. search needs) returns-2)

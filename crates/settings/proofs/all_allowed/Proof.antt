@@ -7,12 +7,6 @@ use borrow.Author.Needs.{needs}
 use Rattle.settings.proofs.all_allowed.Statement.{statement}
 use Rattle.settings.proofs.all_allowed.Tie as tie
 
-all-in-range-requires : tie.Need-all-in-range-requires
-all-in-range-requires c κs = search needs
-
-all-agree-requires : tie.Need-all-agree-requires
-all-agree-requires c κs = search needs
-
 returns : tie.Need-returns
 unfolding allAllowed allowedFor
 returns c =
@@ -21,4 +15,4 @@ returns c =
     (upTo-both count (λ k. inRange k (getD numbers k 0)) (λ k. agrees (roleAt k) (getD numbers k 0) (getD numbers (partnerAt k) 0)))
 
 pub all-allowed-spec : {M : Type 1} → statement M
-all-allowed-spec = tie.close (tie.spec all-in-range-requires all-agree-requires returns)
+all-allowed-spec = tie.close (tie.spec (λ c κs. search needs) (λ c κs. search needs) returns)

@@ -10,15 +10,9 @@ returns : tie.Need-returns
 unfolding allowing
 returns c = rw (le-ltb _ count (c .if1 .taken))
 
-allowed-for-requires : tie.Need-allowed-for-requires
-allowed-for-requires c κs = omega arith
-
 returns-2 : tie.Need-returns-2
 unfolding allowing
 returns-2 c = rw (c .allowed-for .ensures, lt-ltb _ count (c .before .if1 .left))
 
 pub allows-spec : {M : Type 1} → statement M
-allows-spec =
-    tie.close
-    (tie.spec
-    returns allowed-for-requires returns-2)
+allows-spec = tie.close (tie.spec returns (λ c κs. omega arith) returns-2)

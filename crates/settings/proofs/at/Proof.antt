@@ -10,12 +10,9 @@ returns : tie.Need-returns
 unfolding placing
 returns c = simp (le-ltb _ count (c .if1 .taken))
 
-setting-at-requires : tie.Need-setting-at-requires
-setting-at-requires c κs = search needs
-
 returns-2 : tie.Need-returns-2
 unfolding placing
 returns-2 c = rw (c .setting-at .ensures, lt-ltb _ count (c .before .if1 .left))
 
 pub at-spec : {M : Type 1} → statement M
-at-spec = tie.close (tie.spec returns setting-at-requires returns-2)
+at-spec = tie.close (tie.spec returns (λ c κs. search needs) returns-2)

@@ -10,15 +10,9 @@ returns : tie.Need-returns
 unfolding ranging
 returns c = rw (le-ltb _ count (c .if1 .taken))
 
-in-range-requires : tie.Need-in-range-requires
-in-range-requires c κs = omega arith
-
 returns-2 : tie.Need-returns-2
 unfolding ranging
 returns-2 c = rw (c .in-range .ensures, lt-ltb _ count (c .before .if1 .left))
 
 pub in-range-spec : {M : Type 1} → statement M
-in-range-spec =
-    tie.close
-    (tie.spec
-    returns in-range-requires returns-2)
+in-range-spec = tie.close (tie.spec returns (λ c κs. omega arith) returns-2)

@@ -7,15 +7,9 @@ use Rattle.settings.specs.Calls.{nearing}
 use Rattle.settings.proofs.nearest.Statement.{statement}
 use Rattle.settings.proofs.nearest.Tie as tie
 
-place-of-requires : tie.Need-place-of-requires
-place-of-requires c κs = tt
-
 returns : tie.Need-returns
 unfolding nearing
 returns c = rw (sym (c .before .place-of .ensures)) (simp (le-ltb _ count (c .if1 .taken)))
-
-is-fit-requires : tie.Need-is-fit-requires
-is-fit-requires c κs = omega arith
 
 returns-2 : tie.Need-returns-2
 unfolding nearing
@@ -33,5 +27,4 @@ returns-3 c =
 pub nearest-spec : {M : Type 1} → statement M
 nearest-spec =
     tie.close
-    (tie.spec
-    place-of-requires returns is-fit-requires returns-2 nearest-of-requires returns-3)
+    (tie.spec (λ c κs. tt) returns (λ c κs. omega arith) returns-2 nearest-of-requires returns-3)

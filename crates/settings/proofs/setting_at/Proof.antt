@@ -12,18 +12,11 @@ returns c =
     let past = c .if1 .taken in
     rw (getD-past ids _ 0 past, getD-past widths _ 0 past, getD-past partnerIds _ 0 past) refl
 
-id-of-requires : tie.Need-id-of-requires
-id-of-requires c κs = search needs
-
-width-of-requires : tie.Need-width-of-requires
-width-of-requires c κs = search needs
-
-partner-of-requires : tie.Need-partner-of-requires
-partner-of-requires c κs = search needs
-
 returns-2 : tie.Need-returns-2
 returns-2 c = rw (c .before .before .id-of .ensures, c .before .width-of .ensures, c .partner-of .ensures)
 
 pub setting-at-spec : {M : Type 1} → statement M
 setting-at-spec =
-    tie.close (tie.spec returns id-of-requires width-of-requires partner-of-requires returns-2)
+    tie.close
+    (tie.spec returns (λ c κs. search needs) (λ c κs. search needs) (λ c κs. search needs)
+    returns-2)

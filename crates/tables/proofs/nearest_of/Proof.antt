@@ -16,12 +16,6 @@ answered c = c .nearest .ensures ∙ nearest-is _ (c .before .pre .0) _ _ (c .be
 number-is : (n m : ℕ) → Number.Is n ≡ Number.Is m → n ≡ m
 number-is n m e = cc
 
-nearest-requires : tie.Need-nearest-requires
-nearest-requires c κs = tt
-
-enum-known-answer : tie.Need-enum-known-answer
-enum-known-answer c = search needs
-
 enum-told : tie.Need-enum-told
 enum-told c = search needs
 
@@ -34,4 +28,4 @@ returns-2 c =
     let z : _≡_ {A = ℕ} 0 1 = cc in absurd (omega arith)
 
 pub nearest-of-spec : {M : Type 1} → statement M
-nearest-of-spec = tie.close (tie.spec nearest-requires enum-known-answer enum-told returns returns-2)
+nearest-of-spec = tie.close (tie.spec (λ c κs. tt) (λ c. search needs) enum-told returns returns-2)

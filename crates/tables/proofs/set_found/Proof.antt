@@ -18,16 +18,10 @@ mul-numbers c = omega (arith, setting-below _ (c .before .pre .1))
 array-write-numbers : tie.Need-array-write-numbers
 array-write-numbers c = omega (arith, setting-below _ (c .before .pre .1))
 
-allows-requires : tie.Need-allows-requires
-allows-requires c κs = tt
-
 nearest-of-requires : tie.Need-nearest-of-requires
 nearest-of-requires c κs =
     let s = c .before .before .before in
     (s .pre .1, rw (sym (partner-held _ (s .pre .1) (s .args .table))) (partner-fits _ (s .pre .0) _ (setting-below _ (s .pre .1))))
-
-refused-requires : tie.Need-refused-requires
-refused-requires c κs = tt
 
 returns : tie.Need-returns
 returns c =
@@ -47,5 +41,5 @@ returns-2 c =
 pub set-found-spec : {M : Type 1} → statement M
 set-found-spec =
     tie.close
-    (tie.spec
-    mul-partner array-read-partner mul-numbers array-write-numbers allows-requires nearest-of-requires refused-requires returns returns-2)
+    (tie.spec mul-partner array-read-partner mul-numbers array-write-numbers (λ c κs. tt)
+    nearest-of-requires (λ c κs. tt) returns returns-2)

@@ -5,12 +5,6 @@ use Rattle.who.proofs.ReadOut.{read-refused, read-given}
 use Rattle.who.proofs.read_only.Statement.{statement}
 use Rattle.who.proofs.read_only.Tie as tie
 
-is-identity-requires : tie.Need-is-identity-requires
-is-identity-requires c κs = tt
-
-refused-requires : tie.Need-refused-requires
-refused-requires c κs = tt
-
 returns : tie.Need-returns
 returns c = c .refused .ensures ∙ read-refused _ _ _ (sym (c .before .before .is-identity .ensures) ∙ not-true _ (c .before .if1 .taken))
 
@@ -21,4 +15,4 @@ returns-2 : tie.Need-returns-2
 returns-2 c = c .looked .ensures ∙ read-given _ _ _ (sym (c .before .before .is-identity .ensures) ∙ not-false _ (c .before .if1 .left))
 
 pub read-only-spec : {M : Type 1} → statement M
-read-only-spec = tie.close (tie.spec is-identity-requires refused-requires returns looked-requires returns-2)
+read-only-spec = tie.close (tie.spec (λ c κs. tt) (λ c κs. tt) returns looked-requires returns-2)

@@ -14,17 +14,11 @@ returns c = gives-none _ (chars-short _ _ (c .if1 .taken))
 returns-2 : tie.Need-returns-2
 returns-2 c = gives-none _ (chars-read _ _ (c .before .if1 .left) ∙ ap readAs (body-long _ (c .if2 .taken)))
 
-all-digits-requires : tie.Need-all-digits-requires
-all-digits-requires c κs = tt
-
 returns-3 : tie.Need-returns-3
 returns-3 c =
     gives-none _
     (chars-read _ _ (c .before .before .before .if1 .left)
     ∙ ap readAs (body-strange _ (c .before .before .if2 .left) (sym (c .before .all-digits .ensures) ∙ not-true _ (c .if3 .taken))))
-
-bad-count-requires : tie.Need-bad-count-requires
-bad-count-requires c κs = tt
 
 returns-4 : tie.Need-returns-4
 returns-4 c =
@@ -39,9 +33,6 @@ read-digits-requires c κs =
     let c4 = c .before .before .before .before in
     (search needs, sym (c4 .all-digits .ensures) ∙ not-false _ (c .before .before .before .if3 .left), sym (c .before .before .bad-count .ensures) ∙ c .before .if4 .left, search needs)
 
-same-length : tie.Need-same-length
-same-length c = search needs
-
 returns-5 : tie.Need-returns-5
 returns-5 c =
     let c8 = c .before .before .before .before .before .before .before .before in
@@ -50,5 +41,5 @@ returns-5 c =
 pub read-chars-spec : {M : Type 1} → statement M
 read-chars-spec =
     tie.close
-    (tie.spec
-    returns returns-2 all-digits-requires returns-3 bad-count-requires returns-4 read-digits-requires same-length returns-5)
+    (tie.spec returns returns-2 (λ c κs. tt) returns-3 (λ c κs. tt) returns-4 read-digits-requires
+    (λ c. search needs) returns-5)

@@ -22,9 +22,6 @@ long c =
 returns : tie.Need-returns
 returns c = gives-none _ (reading-short _ _ (c .if1 .taken))
 
-well-enclosed-requires : tie.Need-well-enclosed-requires
-well-enclosed-requires c κs = omega arith
-
 returns-2 : tie.Need-returns-2
 returns-2 c = gives-none _ (reading-loose _ _ (c .before .before .if1 .left) (sym (c .before .well-enclosed .ensures) ∙ not-true _ (c .if2 .taken)))
 
@@ -36,15 +33,6 @@ sub-read-chars-2 c = omega (arith, long c)
 
 part-read-chars-start : tie.Need-part-read-chars-start
 part-read-chars-start c = omega (arith, long c)
-
-part-read-chars-end : tie.Need-part-read-chars-end
-part-read-chars-end c = omega arith
-
-read-chars-requires : tie.Need-read-chars-requires
-read-chars-requires c κs = omega arith
-
-same-length : tie.Need-same-length
-same-length c = omega arith
 
 returns-3 : tie.Need-returns-3
 returns-3 c =
@@ -58,6 +46,5 @@ returns-3 c =
 pub read-frame-spec : {M : Type 1} → statement M
 read-frame-spec =
     tie.close
-    (tie.spec
-    returns well-enclosed-requires returns-2 sub-read-chars sub-read-chars-2 part-read-chars-start part-read-chars-end
-    read-chars-requires same-length returns-3)
+    (tie.spec returns (λ c κs. omega arith) returns-2 sub-read-chars sub-read-chars-2
+    part-read-chars-start (λ c. omega arith) (λ c κs. omega arith) (λ c. omega arith) returns-3)

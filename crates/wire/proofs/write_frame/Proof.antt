@@ -17,9 +17,6 @@ returns-3 c = gives-none _ (writing-long _ _ _ (c .before .before .if1 .left) (c
 put-frame-requires : tie.Need-put-frame-requires
 put-frame-requires c κs = (omega arith, omega arith, omega arith)
 
-same-length : tie.Need-same-length
-same-length c = omega arith
-
 returns-4 : tie.Need-returns-4
 returns-4 c =
     let c4 = c .before .before .before .before in
@@ -31,5 +28,4 @@ returns-4 c =
 pub write-frame-spec : {M : Type 1} → statement M
 write-frame-spec =
     tie.close
-    (tie.spec
-    returns returns-2 returns-3 put-frame-requires same-length returns-4)
+    (tie.spec returns returns-2 returns-3 put-frame-requires (λ c. omega arith) returns-4)

@@ -5,29 +5,11 @@ use Rattle.answers.specs.Answers.{frameAnswer}
 use Rattle.answers.proofs.decisions.frame_answer.Statement.{statement}
 use Rattle.answers.proofs.decisions.frame_answer.Tie as tie
 
-tells-requires : tie.Need-tells-requires
-tells-requires c κs = tt
-
-tells-requires-2 : tie.Need-tells-requires-2
-tells-requires-2 c κs = tt
-
-tells-requires-3 : tie.Need-tells-requires-3
-tells-requires-3 c κs = tt
-
-restarts-requires : tie.Need-restarts-requires
-restarts-requires c κs = tt
-
 answer-requires : tie.Need-answer-requires
 answer-requires c κs = c .before .before .pre
 
 answer-requires-2 : tie.Need-answer-requires-2
 answer-requires-2 c κs = c .before .before .pre
-
-silent-requires : tie.Need-silent-requires
-silent-requires c κs = tt
-
-unknown-command-requires : tie.Need-unknown-command-requires
-unknown-command-requires c κs = tt
 
 returns : tie.Need-returns
 unfolding frameAnswer
@@ -67,20 +49,6 @@ returns-8 c =
 pub frame-answer-spec : {M : Type 1} → statement M
 frame-answer-spec =
     tie.close
-    (tie.spec
-    tells-requires
-    tells-requires-2
-    tells-requires-3
-    restarts-requires
-    answer-requires
-    answer-requires-2
-    silent-requires
-    unknown-command-requires
-    returns
-    returns-2
-    returns-3
-    returns-4
-    returns-5
-    returns-6
-    returns-7
+    (tie.spec (λ c κs. tt) (λ c κs. tt) (λ c κs. tt) (λ c κs. tt) answer-requires answer-requires-2
+    (λ c κs. tt) (λ c κs. tt) returns returns-2 returns-3 returns-4 returns-5 returns-6 returns-7
     returns-8)

@@ -6,23 +6,13 @@ use Rattle.answers.proofs.Deciding.{sends-is}
 use Rattle.answers.proofs.decisions.tells.Statement.{statement}
 use Rattle.answers.proofs.decisions.tells.Tie as tie
 
-malformed-requires : tie.Need-malformed-requires
-malformed-requires c κs = tt
-
 returns : tie.Need-returns
 unfolding tells
 returns c = c .malformed .ensures ∙ rw (ne-eqb _ _ (c .before .if1 .taken))
-
-number-requires : tie.Need-number-requires
-number-requires c κs = tt
-
-sends-requires : tie.Need-sends-requires
-sends-requires c κs = tt
 
 returns-2 : tie.Need-returns-2
 unfolding tells
 returns-2 c = c .sends .ensures ∙ rw (eq-eqb _ _ (c .before .before .if1 .left), c .before .number .ensures) (sends-is _ _ _ _)
 
 pub tells-spec : {M : Type 1} → statement M
-tells-spec =
-    tie.close (tie.spec malformed-requires returns number-requires sends-requires returns-2)
+tells-spec = tie.close (tie.spec (λ c κs. tt) returns (λ c κs. tt) (λ c κs. tt) returns-2)

@@ -7,29 +7,11 @@ use Rattle.answers.proofs.Deciding.{gets-odd, gets-flagged, gets-is}
 use Rattle.answers.proofs.gets.answer.Statement.{statement}
 use Rattle.answers.proofs.gets.answer.Tie as tie
 
-malformed-requires : tie.Need-malformed-requires
-malformed-requires c κs = tt
-
 returns : tie.Need-returns
 returns c = c .malformed .ensures ∙ ap decidedOf (gets-odd _ _ (c .before .if1 .taken))
 
-shared-slice-read-if2 : tie.Need-shared-slice-read-if2
-shared-slice-read-if2 c = search needs
-
-malformed-requires-2 : tie.Need-malformed-requires-2
-malformed-requires-2 c κs = tt
-
 returns-2 : tie.Need-returns-2
 returns-2 c = c .malformed2 .ensures ∙ ap decidedOf (gets-flagged _ _ (c .before .before .before .if1 .left) (c .before .if2 .taken))
-
-read-16-requires : tie.Need-read-16-requires
-read-16-requires c κs = tt
-
-find-requires : tie.Need-find-requires
-find-requires c κs = tt
-
-enum-known-found : tie.Need-enum-known-found
-enum-known-found c = search needs
 
 get-setting-requires : tie.Need-get-setting-requires
 get-setting-requires c κs = found-settled _ _ (sym (c .before .before .before .find .ensures) ∙ c .before .found .given .1)
@@ -57,17 +39,6 @@ returns-4 c =
 pub answer-spec : {M : Type 1} → statement M
 answer-spec =
     tie.close
-    (tie.spec
-    malformed-requires
-    returns
-    shared-slice-read-if2
-    malformed-requires-2
-    returns-2
-    read-16-requires
-    find-requires
-    enum-known-found
-    get-setting-requires
-    enum-told
-    get-other-requires
-    returns-3
+    (tie.spec (λ c κs. tt) returns (λ c. search needs) (λ c κs. tt) returns-2 (λ c κs. tt)
+    (λ c κs. tt) (λ c. search needs) get-setting-requires enum-told get-other-requires returns-3
     returns-4)

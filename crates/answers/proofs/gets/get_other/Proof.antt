@@ -15,9 +15,6 @@ use Rattle.answers.proofs.gets.get_other.Tie as tie
 looked : (c : tie.After-read-only) → c .read-only .result ≡ lookedOf (readOnly (c .before .args .core .identity) (c .before .args .core .readings) (c .before .args .id))
 looked c = c .read-only .ensures ∙ sym (read-given _ _ _ (c .before .pre))
 
-read-only-requires : tie.Need-read-only-requires
-read-only-requires c κs = tt
-
 enum-told : tie.Need-enum-told
 enum-told c = search needs
 
@@ -25,12 +22,6 @@ says-requires : tie.Need-says-requires
 says-requires c κs =
     let c3 = c .before .before .before in
     rw (looked c3) (looked-short _ (values-fit _ _ _ (c3 .before .pre)))
-
-enum-told-2 : tie.Need-enum-told-2
-enum-told-2 c = search needs
-
-unknown-id-requires : tie.Need-unknown-id-requires
-unknown-id-requires c κs = tt
 
 returns : tie.Need-returns
 returns c =
@@ -46,4 +37,6 @@ returns-2 c =
 
 pub get-other-spec : {M : Type 1} → statement M
 get-other-spec =
-    tie.close (tie.spec read-only-requires enum-told says-requires enum-told-2 unknown-id-requires returns returns-2)
+    tie.close
+    (tie.spec (λ c κs. tt) enum-told says-requires (λ c. search needs) (λ c κs. tt) returns
+    returns-2)

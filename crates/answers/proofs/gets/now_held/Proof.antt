@@ -3,12 +3,6 @@ use borrow.Author.Needs.{needs}
 use Rattle.answers.proofs.gets.now_held.Statement.{statement}
 use Rattle.answers.proofs.gets.now_held.Tie as tie
 
-mul-wide : tie.Need-mul-wide
-mul-wide c = search needs
-
-array-read-wide : tie.Need-array-read-wide
-array-read-wide c = search needs
-
 wide-requires : tie.Need-wide-requires
 wide-requires c κs = (c .before .before .pre .wide, c .before .before .pre .narrow)
 
@@ -16,7 +10,4 @@ returns : tie.Need-returns
 returns c = c .wide .ensures
 
 pub now-held-spec : {M : Type 1} → statement M
-now-held-spec =
-    tie.close
-    (tie.spec
-    mul-wide array-read-wide wide-requires returns)
+now-held-spec = tie.close (tie.spec (λ c. search needs) (λ c. search needs) wide-requires returns)

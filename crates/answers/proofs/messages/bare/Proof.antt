@@ -5,15 +5,9 @@ use Rattle.answers.specs.AsHeld.{messageOf}
 use Rattle.answers.proofs.messages.bare.Statement.{statement}
 use Rattle.answers.proofs.messages.bare.Tie as tie
 
-number-requires : tie.Need-number-requires
-number-requires c κs = tt
-
-array-write-bytes : tie.Need-array-write-bytes
-array-write-bytes c = search needs
-
 returns : tie.Need-returns
 unfolding messageOf frontOf overlaid
 returns c = rw (c .before .number .ensures)
 
 pub bare-spec : {M : Type 1} → statement M
-bare-spec = tie.close (tie.spec number-requires array-write-bytes returns)
+bare-spec = tie.close (tie.spec (λ c κs. tt) (λ c. search needs) returns)

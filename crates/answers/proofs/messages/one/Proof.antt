@@ -6,12 +6,9 @@ use Rattle.answers.specs.AsHeld.{messageOf}
 use Rattle.answers.proofs.messages.one.Statement.{statement}
 use Rattle.answers.proofs.messages.one.Tie as tie
 
-array-write-bytes : tie.Need-array-write-bytes
-array-write-bytes c = search needs
-
 returns : tie.Need-returns
 unfolding messageOf frontOf overlaid
 returns c = refl
 
 pub one-spec : {M : Type 1} → statement M
-one-spec = tie.close (tie.spec array-write-bytes returns)
+one-spec = tie.close (tie.spec (λ c. search needs) returns)

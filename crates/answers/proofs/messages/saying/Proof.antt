@@ -5,18 +5,9 @@ use Rattle.answers.specs.AsHeld.{messageOf, saidOf}
 use Rattle.answers.proofs.messages.saying.Statement.{statement}
 use Rattle.answers.proofs.messages.saying.Tie as tie
 
-bare-requires : tie.Need-bare-requires
-bare-requires c κs = tt
-
-add-t9 : tie.Need-add-t9
-add-t9 c = search needs
-
-joined-requires : tie.Need-joined-requires
-joined-requires c κs = tt
-
 returns : tie.Need-returns
 unfolding saidOf messageOf frontOf overlaid
 returns c = rw (c .joined .ensures, c .before .before .before .bare .ensures)
 
 pub saying-spec : {M : Type 1} → statement M
-saying-spec = tie.close (tie.spec bare-requires add-t9 joined-requires returns)
+saying-spec = tie.close (tie.spec (λ c κs. tt) (λ c. search needs) (λ c κs. tt) returns)

@@ -8,38 +8,11 @@ use Rattle.answers.proofs.Deciding.{sets-short, sets-flagged, sets-is}
 use Rattle.answers.proofs.sets.answer.Statement.{statement}
 use Rattle.answers.proofs.sets.answer.Tie as tie
 
-malformed-requires : tie.Need-malformed-requires
-malformed-requires c κs = tt
-
 returns : tie.Need-returns
 returns c = c .malformed .ensures ∙ ap decidedOf (sets-short _ _ (c .before .if1 .taken))
 
-shared-slice-read-if2 : tie.Need-shared-slice-read-if2
-shared-slice-read-if2 c = search needs
-
-malformed-requires-2 : tie.Need-malformed-requires-2
-malformed-requires-2 c κs = tt
-
 returns-2 : tie.Need-returns-2
 returns-2 c = c .malformed2 .ensures ∙ ap decidedOf (sets-flagged _ _ (c .before .before .before .if1 .left) (c .before .if2 .taken))
-
-read-16-requires : tie.Need-read-16-requires
-read-16-requires c κs = tt
-
-find-requires : tie.Need-find-requires
-find-requires c κs = tt
-
-enum-known-found : tie.Need-enum-known-found
-enum-known-found c = search needs
-
-sub-set-setting : tie.Need-sub-set-setting
-sub-set-setting c = search needs
-
-part-set-setting-start : tie.Need-part-set-setting-start
-part-set-setting-start c = search needs
-
-part-set-setting-end : tie.Need-part-set-setting-end
-part-set-setting-end c = search needs
 
 set-setting-requires : tie.Need-set-setting-requires
 set-setting-requires c κs = found-settled _ _ (sym (c .before .before .before .before .find .ensures) ∙ c .before .before .found .given .1)
@@ -67,20 +40,6 @@ returns-4 c =
 pub answer-spec : {M : Type 1} → statement M
 answer-spec =
     tie.close
-    (tie.spec
-    malformed-requires
-    returns
-    shared-slice-read-if2
-    malformed-requires-2
-    returns-2
-    read-16-requires
-    find-requires
-    enum-known-found
-    sub-set-setting
-    part-set-setting-start
-    part-set-setting-end
-    set-setting-requires
-    enum-told
-    set-other-requires
-    returns-3
-    returns-4)
+    (tie.spec (λ c κs. tt) returns (λ c. search needs) (λ c κs. tt) returns-2 (λ c κs. tt)
+    (λ c κs. tt) (λ c. search needs) (λ c. search needs) (λ c. search needs) (λ c. search needs)
+    set-setting-requires enum-told set-other-requires returns-3 returns-4)

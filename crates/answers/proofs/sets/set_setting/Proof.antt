@@ -19,12 +19,6 @@ says-requires c κs = rw (c .now-held .ensures) (value-short _ (rw (length-littl
 returns : tie.Need-returns
 returns c = c .says .ensures ∙ rw (c .before .now-held .ensures) (says-is _ _ _ _ _ _) ∙ ap decidedOf (sets-wrong _ _ _ (c .before .before .if1 .taken))
 
-read-16-requires : tie.Need-read-16-requires
-read-16-requires c κs = tt
-
-set-requires : tie.Need-set-requires
-set-requires c κs = tt
-
 stored-requires : tie.Need-stored-requires
 stored-requires c κs = c .before .before .before .before .before .before .before .pre
 
@@ -40,11 +34,5 @@ returns-2 c =
 pub set-setting-spec : {M : Type 1} → statement M
 set-setting-spec =
     tie.close
-    (tie.spec
-    now-held-requires
-    says-requires
-    returns
-    read-16-requires
-    set-requires
-    stored-requires
+    (tie.spec now-held-requires says-requires returns (λ c κs. tt) (λ c κs. tt) stored-requires
     returns-2)

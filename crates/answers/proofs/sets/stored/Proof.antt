@@ -16,9 +16,6 @@ wide-requires c κs = (c .before .before .pre .wide, c .before .before .pre .nar
 says-requires : tie.Need-says-requires
 says-requires c κs = rw (c .wide .ensures) (value-short _ (rw (length-little _ _) (omega (arith, c .before .before .before .pre .narrow))))
 
-enum-known-answer : tie.Need-enum-known-answer
-enum-known-answer c = search needs
-
 wide-requires-2 : tie.Need-wide-requires-2
 wide-requires-2 c κs = (c .before .before .before .pre .wide, c .before .before .before .pre .narrow)
 
@@ -34,12 +31,5 @@ returns-2 c = c .says2 .ensures ∙ rw (c .before .wide2 .ensures) (says-is _ _ 
 pub stored-spec : {M : Type 1} → statement M
 stored-spec =
     tie.close
-    (tie.spec
-    enum-told
-    wide-requires
-    says-requires
-    enum-known-answer
-    wide-requires-2
-    says-requires-2
-    returns
-    returns-2)
+    (tie.spec enum-told wide-requires says-requires (λ c. search needs) wide-requires-2
+    says-requires-2 returns returns-2)

@@ -7,21 +7,9 @@ use Rattle.who.specs.Calls.{valueOf}
 use Rattle.answers.proofs.values.wide.Statement.{statement}
 use Rattle.answers.proofs.values.wide.Tie as tie
 
-array-read-bytes : tie.Need-array-read-bytes
-array-read-bytes c = search needs
-
-array-write-bytes : tie.Need-array-write-bytes
-array-write-bytes c = search needs
-
 returns : tie.Need-returns
 unfolding valueOf frontOf overlaid
 returns c = rw (c .before .bytes-16 .ensures, c .if1 .taken)
-
-array-read-bytes-2 : tie.Need-array-read-bytes-2
-array-read-bytes-2 c = search needs
-
-array-write-bytes-2 : tie.Need-array-write-bytes-2
-array-write-bytes-2 c = search needs
 
 returns-2 : tie.Need-returns-2
 unfolding valueOf frontOf overlaid
@@ -30,4 +18,7 @@ returns-2 c =
     rw (c .before .bytes-16 .ensures, two)
 
 pub wide-spec : {M : Type 1} → statement M
-wide-spec = tie.close (tie.spec (λ c κs. tt) array-read-bytes array-write-bytes returns array-read-bytes-2 array-write-bytes-2 returns-2)
+wide-spec =
+    tie.close
+    (tie.spec (λ c κs. tt) (λ c. search needs) (λ c. search needs) returns (λ c. search needs)
+    (λ c. search needs) returns-2)

@@ -12,21 +12,14 @@ use Rattle.backup.proofs.reader.begins.Tie as tie
 returns : tie.Need-returns
 returns c = header-cut _ (c .if1 .taken)
 
-header-requires : tie.Need-header-requires
-header-requires c κs = search needs
-
 slice-aggregate-same : tie.Need-slice-aggregate-same
 slice-aggregate-same c = rw length-take (omega (arith, c .before .before .if1 .left))
-
-slice-aggregate-same-2 : tie.Need-slice-aggregate-same-2
-slice-aggregate-same-2 c = search needs
-
-same-requires : tie.Need-same-requires
-same-requires c κs = search needs
 
 returns-2 : tie.Need-returns-2
 returns-2 c = same-is _ _ _ (c .same .ensures) ∙ rw (c .before .before .before .header .ensures, header-long)
 
 pub begins-spec : {M : Type 1} → statement M
 begins-spec =
-    tie.close (tie.spec returns header-requires slice-aggregate-same slice-aggregate-same-2 same-requires returns-2)
+    tie.close
+    (tie.spec returns (λ c κs. search needs) slice-aggregate-same (λ c. search needs)
+    (λ c κs. search needs) returns-2)

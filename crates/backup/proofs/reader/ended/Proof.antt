@@ -5,18 +5,9 @@ use Rattle.backup.specs.Text.{endSays}
 use Rattle.backup.proofs.reader.ended.Statement.{statement}
 use Rattle.backup.proofs.reader.ended.Tie as tie
 
-refused-requires : tie.Need-refused-requires
-refused-requires c κs = tt
-
 returns : tie.Need-returns
 unfolding endSays
 returns c = c .refused .ensures ∙ rw (ne-eqb _ 0 (c .before .if1 .taken))
-
-is-allowed-requires : tie.Need-is-allowed-requires
-is-allowed-requires c κs = tt
-
-refused-requires-2 : tie.Need-refused-requires-2
-refused-requires-2 c κs = tt
 
 returns-2 : tie.Need-returns-2
 unfolding endSays
@@ -27,6 +18,4 @@ unfolding endSays
 returns-3 c = rw (eq-eqb _ 0 (c .before .before .if1 .left), sym (c .before .is-allowed .ensures) ∙ not-false _ (c .if2 .left))
 
 pub ended-spec : {M : Type 1} → statement M
-ended-spec =
-    tie.close
-    (tie.spec refused-requires returns is-allowed-requires refused-requires-2 returns-2 returns-3)
+ended-spec = tie.close (tie.spec (λ c κs. tt) returns (λ c κs. tt) (λ c κs. tt) returns-2 returns-3)

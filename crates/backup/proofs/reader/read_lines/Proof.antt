@@ -27,9 +27,6 @@ judged-is : (c : tie.After-judge Inv-loop μ-loop)
     → c .judge .result ≡ judging (c .before .before .before .loop .index) (drop (c .before .before .before .loop .at) (now (c .before .before .before .before .before .before .args .text)))
 judged-is c = c .judge .ensures ∙ rw (part-to-end _ _ _ refl)
 
-factory-numbers-requires : tie.Need-factory-numbers-requires Inv-loop μ-loop
-factory-numbers-requires c κs = tt
-
 loop-holds : tie.Need-loop-holds Inv-loop μ-loop
 loop-holds c = lined-start _ (c .factory-numbers .ensures)
 
@@ -39,47 +36,17 @@ sub-judge c = c .before .loop .inv .place
 part-judge-start : tie.Need-part-judge-start Inv-loop μ-loop
 part-judge-start c = c .before .loop .inv .place
 
-part-judge-end : tie.Need-part-judge-end Inv-loop μ-loop
-part-judge-end c = search needs
-
-judge-requires : tie.Need-judge-requires Inv-loop μ-loop
-judge-requires c κs = tt
-
-enum-known-judged : tie.Need-enum-known-judged Inv-loop μ-loop
-enum-known-judged c = search needs
-
-mul-numbers : tie.Need-mul-numbers Inv-loop μ-loop
-mul-numbers c = search needs
-
-array-write-numbers : tie.Need-array-write-numbers Inv-loop μ-loop
-array-write-numbers c = search needs
-
 add-at : tie.Need-add-at Inv-loop μ-loop
 add-at c =
     let c5 = c .before .before .before .before .before in
     let e = sym (judged-is (c .before .before .before)) ∙ c .before .judged .given .1 in
     record { fits = omega (arith, lined-room (c5 .loop-test .taken) (c5 .before .loop .inv) _ _ e, short (c5 .before .before .before .before)) }
 
-enum-known-judged-2 : tie.Need-enum-known-judged-2 Inv-loop μ-loop
-enum-known-judged-2 c = search needs
-
-add-refused : tie.Need-add-refused Inv-loop μ-loop
-add-refused c = search needs
-
-refused-requires : tie.Need-refused-requires Inv-loop μ-loop
-refused-requires c κs = tt
-
 returns : tie.Need-returns Inv-loop μ-loop
 returns c =
     let c6 = c .before .before .before .before .before .before in
     let e = sym (judged-is (c .before .before .before .before)) ∙ c .before .before .judged2 .given .1 in
     c .refused .ensures ∙ ap readAs (lined-wrong (c6 .loop-test .taken) (c6 .before .loop .inv) _ e)
-
-add-index : tie.Need-add-index Inv-loop μ-loop
-add-index c = search needs
-
-loop-less : tie.Need-loop-less Inv-loop μ-loop
-loop-less c = omega arith
 
 loop-again : tie.Need-loop-again Inv-loop μ-loop
 loop-again c =
@@ -89,15 +56,13 @@ loop-again c =
 sub-ended : tie.Need-sub-ended Inv-loop μ-loop
 sub-ended c = c .before .loop .inv .place
 
-ended-requires : tie.Need-ended-requires Inv-loop μ-loop
-ended-requires c κs = tt
-
 returns-2 : tie.Need-returns-2 Inv-loop μ-loop
 returns-2 c = c .ended .ensures ∙ ap readAs (lined-end (c .before .loop-test .left) (c .before .before .loop .inv))
 
 pub read-lines-spec : {M : Type 1} → statement M
 read-lines-spec =
     tie.close
-    (tie.spec
-    Inv-loop μ-loop factory-numbers-requires loop-holds sub-judge part-judge-start part-judge-end judge-requires enum-known-judged mul-numbers
-    array-write-numbers add-at enum-known-judged-2 add-refused refused-requires returns add-index loop-less loop-again sub-ended ended-requires returns-2)
+    (tie.spec Inv-loop μ-loop (λ c κs. tt) loop-holds sub-judge part-judge-start (λ c. search needs)
+    (λ c κs. tt) (λ c. search needs) (λ c. search needs) (λ c. search needs) add-at
+    (λ c. search needs) (λ c. search needs) (λ c κs. tt) returns (λ c. search needs)
+    (λ c. omega arith) loop-again sub-ended (λ c κs. tt) returns-2)

@@ -2,11 +2,8 @@
 use Rattle.backup.proofs.reader.refused.Statement.{statement}
 use Rattle.backup.proofs.reader.refused.Tie as tie
 
-factory-requires : tie.Need-factory-requires
-factory-requires c κs = tt
-
 returns : tie.Need-returns
 returns c = rw (c .factory .ensures)
 
 pub refused-spec : {M : Type 1} → statement M
-refused-spec = tie.close (tie.spec factory-requires returns)
+refused-spec = tie.close (tie.spec (λ c κs. tt) returns)

@@ -18,24 +18,6 @@ small s = search needs
 short : (s : tie.Start) → length (now (s .args .out)) < 0x8000000000000000
 short s = search needs
 
-setting-at-requires : tie.Need-setting-at-requires
-setting-at-requires c κs = tt
-
-sub-write : tie.Need-sub-write
-sub-write c = search needs
-
-part-write-start : tie.Need-part-write-start
-part-write-start c = search needs
-
-part-write-end : tie.Need-part-write-end
-part-write-end c = search needs
-
-write-requires : tie.Need-write-requires
-write-requires c κs = search needs
-
-enum-known-written : tie.Need-enum-known-written
-enum-known-written c = search needs
-
 -- the length that is answered is the row's
 len-is : (c : tie.After-known-told) → c .before .written .given .0 .0 ≡ length (rowOf (c .before .before .before .before .before .before .before .setting-at .result .id) (c .before .before .before .before .before .before .before .before .before .args .n))
 len-is c =
@@ -53,9 +35,6 @@ add-result c =
 enum-told : tie.Need-enum-told
 enum-told c = search needs
 
-same-length : tie.Need-same-length
-same-length c = search needs
-
 returns : tie.Need-returns
 returns c =
     let c5 = c .before .before .before .before .before in
@@ -66,9 +45,6 @@ returns c =
       row-stored (now (s .args .out)) (s .args .at) id (s .args .n) (s .pre .0) (small s) (c5 .write .ensures),
       omega (arith, len-is c, row-is-short id (s .args .n) (omega (arith, small s))),
     )
-
-same-length-2 : tie.Need-same-length-2
-same-length-2 c = search needs
 
 returns-2 : tie.Need-returns-2
 returns-2 c =
@@ -81,6 +57,6 @@ returns-2 c =
 pub put-line-spec : {M : Type 1} → statement M
 put-line-spec =
     tie.close
-    (tie.spec
-    setting-at-requires sub-write part-write-start part-write-end write-requires enum-known-written add-result enum-told same-length returns same-length-2
-    returns-2)
+    (tie.spec (λ c κs. tt) (λ c. search needs) (λ c. search needs) (λ c. search needs)
+    (λ c κs. search needs) (λ c. search needs) add-result enum-told (λ c. search needs) returns
+    (λ c. search needs) returns-2)

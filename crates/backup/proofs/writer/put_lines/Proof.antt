@@ -16,20 +16,11 @@ abbrev μ-loop : tie.MeasureT-loop
 loop-holds : tie.Need-loop-holds Inv-loop μ-loop
 loop-holds c = listing-start _ _ _ (c .before .pre)
 
-mul-put-line : tie.Need-mul-put-line Inv-loop μ-loop
-mul-put-line c = search needs
-
 array-read-put-line : tie.Need-array-read-put-line Inv-loop μ-loop
 array-read-put-line c = c .before .loop-test .taken
 
 put-line-requires : tie.Need-put-line-requires Inv-loop μ-loop
 put-line-requires c κs = (listing-room (c .before .loop-test .taken) (c .before .before .loop .inv), c .before .loop-test .taken)
-
-add-index : tie.Need-add-index Inv-loop μ-loop
-add-index c = search needs
-
-loop-less : tie.Need-loop-less Inv-loop μ-loop
-loop-less c = omega arith
 
 loop-again : tie.Need-loop-again Inv-loop μ-loop
 loop-again c = listing-turn (c .before .before .before .before .loop-test .taken) (c .before .before .before .before .before .loop .inv) (c .before .before .put-line .ensures .0) (c .before .before .put-line .ensures .1) (c .before .before .put-line .ensures .2)
@@ -43,5 +34,5 @@ returns c = listing-end (c .loop-test .left) (c .before .loop .inv)
 pub put-lines-spec : {M : Type 1} → statement M
 put-lines-spec =
     tie.close
-    (tie.spec
-    Inv-loop μ-loop loop-holds mul-put-line array-read-put-line put-line-requires add-index loop-less loop-again same-length returns)
+    (tie.spec Inv-loop μ-loop loop-holds (λ c. search needs) array-read-put-line put-line-requires
+    (λ c. search needs) (λ c. omega arith) loop-again same-length returns)

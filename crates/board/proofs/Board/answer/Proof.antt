@@ -7,26 +7,14 @@ use Rattle.board.proofs.Pieces.{answering-short, answering-unfit, answe
 use Rattle.board.proofs.Board.answer.Statement.{statement}
 use Rattle.board.proofs.Board.answer.Tie as tie
 
-unanswered-requires : tie.Need-unanswered-requires
-unanswered-requires c κs = tt
-
 returns : tie.Need-returns
 returns c = rw (c .unanswered .ensures) (gives-none _ (answering-short _ _ _ (c .before .if1 .taken)))
-
-is-allowed-requires : tie.Need-is-allowed-requires
-is-allowed-requires c κs = tt
-
-unanswered-requires-2 : tie.Need-unanswered-requires-2
-unanswered-requires-2 c κs = tt
 
 returns-2 : tie.Need-returns-2
 returns-2 c = rw (c .unanswered2 .ensures) (gives-none _ (answering-unfit _ _ _ (c .before .before .before .before .if1 .left) (sym (c .before .before .is-allowed .ensures) ∙ not-true _ (c .before .if2 .taken))))
 
 heard-requires : tie.Need-heard-requires
 heard-requires c κs = (c .before .before .before .before .if1 .left, sym (c .before .before .is-allowed .ensures) ∙ not-false _ (c .before .if2 .left))
-
-same-length : tie.Need-same-length
-same-length c = search needs
 
 returns-3 : tie.Need-returns-3
 returns-3 c =
@@ -38,12 +26,5 @@ returns-3 c =
 pub answer-spec : {M : Type 1} → statement M
 answer-spec =
     tie.close
-    (tie.spec
-    unanswered-requires
-    returns
-    is-allowed-requires
-    unanswered-requires-2
-    returns-2
-    heard-requires
-    same-length
-    returns-3)
+    (tie.spec (λ c κs. tt) returns (λ c κs. tt) (λ c κs. tt) returns-2 heard-requires
+    (λ c. search needs) returns-3)

@@ -6,29 +6,11 @@ use Rattle.board.proofs.Starts.{start-stray, start-named, start-unnamed
 use Rattle.board.proofs.Board.start.Statement.{statement}
 use Rattle.board.proofs.Board.start.Tie as tie
 
-is-allowed-requires : tie.Need-is-allowed-requires
-is-allowed-requires c κs = tt
-
-refused-start-requires : tie.Need-refused-start-requires
-refused-start-requires c κs = tt
-
 returns : tie.Need-returns
 returns c = c .refused-start .ensures ∙ sym (start-stray _ _ _ _ (sym (c .before .before .is-allowed .ensures) ∙ not-true _ (c .before .if1 .taken)))
 
-named-requires : tie.Need-named-requires
-named-requires c κs = tt
-
 enum-told : tie.Need-enum-told
 enum-told c = search needs
-
-fresh-requires : tie.Need-fresh-requires
-fresh-requires c κs = tt
-
-enum-told-2 : tie.Need-enum-told-2
-enum-told-2 c = search needs
-
-refused-start-requires-2 : tie.Need-refused-start-requires-2
-refused-start-requires-2 c κs = tt
 
 returns-2 : tie.Need-returns-2
 returns-2 c =
@@ -42,14 +24,5 @@ returns-3 c = c .refused-start2 .ensures ∙ sym (start-unnamed _ _ _ _ (c .befo
 pub start-spec : {M : Type 1} → statement M
 start-spec =
     tie.close
-    (tie.spec
-    is-allowed-requires
-    refused-start-requires
-    returns
-    named-requires
-    enum-told
-    fresh-requires
-    enum-told-2
-    refused-start-requires-2
-    returns-2
-    returns-3)
+    (tie.spec (λ c κs. tt) (λ c κs. tt) returns (λ c κs. tt) enum-told (λ c κs. tt)
+    (λ c. search needs) (λ c κs. tt) returns-2 returns-3)

@@ -3,17 +3,8 @@ use mathlib.Core.Path.{_∙_}
 use Rattle.board.proofs.Board.start_factory.Statement.{statement}
 use Rattle.board.proofs.Board.start_factory.Tie as tie
 
-factory-requires : tie.Need-factory-requires
-factory-requires c κs = tt
-
-start-requires : tie.Need-start-requires
-start-requires c κs = tt
-
 returns : tie.Need-returns
 returns c = c .start .ensures ∙ rw (c .before .factory .ensures)
 
 pub start-factory-spec : {M : Type 1} → statement M
-start-factory-spec =
-    tie.close
-    (tie.spec
-    factory-requires start-requires returns)
+start-factory-spec = tie.close (tie.spec (λ c κs. tt) (λ c κs. tt) returns)

@@ -18,12 +18,6 @@ fits c =
     let test : (c .before .before .is-allowed .result && c .before .fit .result) ≡ true = not-false _ (c .if1 .left) in
     rw (c .before .before .is-allowed .ensures, c .before .fit .ensures) at test
 
-is-allowed-requires : tie.Need-is-allowed-requires
-is-allowed-requires c κs = tt
-
-fit-requires : tie.Need-fit-requires
-fit-requires c κs = tt
-
 returns : tie.Need-returns
 returns c = sym (store-refused _ _ (stray c))
 
@@ -37,7 +31,4 @@ returns-2 c =
     rw (c .readings-of .ensures) (sym (store-accepted _ _ (fits (c .before .before .before))))
 
 pub store-spec : {M : Type 1} → statement M
-store-spec =
-    tie.close
-    (tie.spec
-    is-allowed-requires fit-requires returns readings-of-requires returns-2)
+store-spec = tie.close (tie.spec (λ c κs. tt) (λ c κs. tt) returns readings-of-requires returns-2)

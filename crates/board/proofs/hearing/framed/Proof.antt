@@ -25,18 +25,12 @@ fits s = replies-fit _ _ _ (identity-allowed _ (s .pre .1)) (low s)
 decides : (c : tie.After-answer) → c .answer .result ≡ decidedOf (decision (c .before .before .before))
 decides c = c .answer .ensures ∙ ap decidedOf (sym (answer-given _ _ _ (c .before .before .before .pre .1)))
 
-answer-requires : tie.Need-answer-requires
-answer-requires c κs = tt
-
 put-requires : tie.Need-put-requires
 put-requires c κs =
     let c3 = c .before .before .before in
     let s = c3 .before .before .before in
     let sends : Sendable (c3 .answer .result) = rw (decides c3) (sendable (decision s) (fits s)) in
     (s .pre .0, sends .nibble, sends .few)
-
-same-length : tie.Need-same-length
-same-length c = search needs
 
 returns : tie.Need-returns
 returns c =
@@ -45,4 +39,4 @@ returns c =
     decided-is (s .args .held) (decision s) (s .args .taken) (decides c6) (c .before .before .put .ensures)
 
 pub framed-spec : {M : Type 1} → statement M
-framed-spec = tie.close (tie.spec answer-requires put-requires same-length returns)
+framed-spec = tie.close (tie.spec (λ c κs. tt) put-requires (λ c. search needs) returns)

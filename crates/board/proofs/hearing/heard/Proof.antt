@@ -18,17 +18,8 @@ few c =
     let told = c .before .event .given .1 in
     whole-few (s .args .board) _ (s .pre .1) (c5 .hear .ensures .answered) (rw told) _ _ told
 
-slice-aggregate-hear : tie.Need-slice-aggregate-hear
-slice-aggregate-hear c = search needs
-
-hear-requires : tie.Need-hear-requires
-hear-requires c κs = tt
-
 enum-told : tie.Need-enum-told
 enum-told c = search needs
-
-enum-known-event : tie.Need-enum-known-event
-enum-known-event c = search needs
 
 array-share-prefix-bytes : tie.Need-array-share-prefix-bytes
 array-share-prefix-bytes c = omega (arith, long c, few c)
@@ -39,9 +30,6 @@ slice-aggregate-framed c = rw length-take (omega (arith, long (c .before), few (
 framed-requires : tie.Need-framed-requires
 framed-requires c κs =
     c .before .before .before .before .before .before .before .before .before .before .before .before .before .pre
-
-enum-known-event-2 : tie.Need-enum-known-event-2
-enum-known-event-2 c = search needs
 
 put-fault-requires : tie.Need-put-fault-requires
 put-fault-requires c κs = c .before .before .before .before .before .before .before .before .before .before .before .before .pre .0
@@ -54,9 +42,6 @@ returns c =
     let told = c .enum-told .given .1 in
     if-heard _ _ fit heard (rw told) (λ ok. heard-nothing _ _ ok heard told)
 
-same-length : tie.Need-same-length
-same-length c = search needs
-
 returns-2 : tie.Need-returns-2
 returns-2 c =
     let c5 = c .before .before .before .before .before in
@@ -65,9 +50,6 @@ returns-2 c =
     let heard = c10 .hear .ensures .answered in
     let told = c5 .before .event .given .1 in
     if-heard _ _ (s .pre .1) heard (rw told) (λ ok. heard-frame _ _ ok heard _ _ told _ (c10 .hear .ensures .left) (c .before .before .framed .ensures))
-
-same-length-2 : tie.Need-same-length-2
-same-length-2 c = search needs
 
 returns-3 : tie.Need-returns-3
 returns-3 c =
@@ -78,18 +60,6 @@ returns-3 c =
 pub heard-spec : {M : Type 1} → statement M
 heard-spec =
     tie.close
-    (tie.spec
-    slice-aggregate-hear
-    hear-requires
-    enum-told
-    enum-known-event
-    array-share-prefix-bytes
-    slice-aggregate-framed
-    framed-requires
-    enum-known-event-2
-    put-fault-requires
-    returns
-    same-length
-    returns-2
-    same-length-2
-    returns-3)
+    (tie.spec (λ c. search needs) (λ c κs. tt) enum-told (λ c. search needs)
+    array-share-prefix-bytes slice-aggregate-framed framed-requires (λ c. search needs)
+    put-fault-requires returns (λ c. search needs) returns-2 (λ c. search needs) returns-3)

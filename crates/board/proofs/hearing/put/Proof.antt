@@ -9,14 +9,8 @@ use Rattle.board.proofs.hearing.put.Tie as tie
 enum-told : tie.Need-enum-told
 enum-told c = search needs
 
-enum-told-2 : tie.Need-enum-told-2
-enum-told-2 c = search needs
-
 put-reply-requires : tie.Need-put-reply-requires
 put-reply-requires c κs = c .before .before .before .before .pre
-
-enum-told-3 : tie.Need-enum-told-3
-enum-told-3 c = search needs
 
 put-error-requires : tie.Need-put-error-requires
 put-error-requires c κs = c .before .before .before .before .pre .0
@@ -25,15 +19,9 @@ returns : tie.Need-returns
 unfolding sentBy
 returns c = rw (c .enum-told .given .1) (gives-none _ refl)
 
-same-length : tie.Need-same-length
-same-length c = search needs
-
 returns-2 : tie.Need-returns-2
 unfolding sentBy
 returns-2 c = rw (c .before .before .before .before .enum-told2 .given .1) (c .before .before .put-reply .ensures)
-
-same-length-2 : tie.Need-same-length-2
-same-length-2 c = search needs
 
 returns-3 : tie.Need-returns-3
 unfolding sentBy
@@ -42,14 +30,5 @@ returns-3 c = rw (c .before .before .before .before .enum-told3 .given .1) (c .b
 pub put-spec : {M : Type 1} → statement M
 put-spec =
     tie.close
-    (tie.spec
-    enum-told
-    enum-told-2
-    put-reply-requires
-    enum-told-3
-    put-error-requires
-    returns
-    same-length
-    returns-2
-    same-length-2
-    returns-3)
+    (tie.spec enum-told (λ c. search needs) put-reply-requires (λ c. search needs)
+    put-error-requires returns (λ c. search needs) returns-2 (λ c. search needs) returns-3)

@@ -10,15 +10,9 @@ returns : tie.Need-returns
 unfolding faultBytes
 returns c = gives-none _ (rw (eq-eqb _ 12 (c .if1 .taken)))
 
-put-error-requires : tie.Need-put-error-requires
-put-error-requires c κs = search needs
-
-same-length : tie.Need-same-length
-same-length c = search needs
-
 returns-2 : tie.Need-returns-2
 unfolding faultBytes
 returns-2 c = rw (ne-eqb _ 12 (c .before .before .before .before .if1 .left)) (c .before .before .put-error .ensures)
 
 pub put-fault-spec : {M : Type 1} → statement M
-put-fault-spec = tie.close (tie.spec returns put-error-requires same-length returns-2)
+put-fault-spec = tie.close (tie.spec returns (λ c κs. search needs) (λ c. search needs) returns-2)

@@ -21,26 +21,14 @@ array-share-prefix-bytes c = omega (arith, long (c .before .before), c .before .
 slice-aggregate-write-frame : tie.Need-slice-aggregate-write-frame
 slice-aggregate-write-frame c = rw length-take (omega (arith, long (c .before .before .before), c .before .before .before .pre .2))
 
-write-frame-requires : tie.Need-write-frame-requires
-write-frame-requires c κs = tt
-
-enum-known-written : tie.Need-enum-known-written
-enum-known-written c = search needs
-
 enum-told : tie.Need-enum-told
 enum-told c = search needs
-
-same-length : tie.Need-same-length
-same-length c = search needs
 
 returns : tie.Need-returns
 unfolding sentBy
 returns c =
     let s = c .before .before .before .before .before .before .before .before .before .before in
     put-made _ _ (s .pre .0) (s .pre .1) (few s) (c .before .before .before .before .before .write-frame .ensures) _ (c .before .written .given .1)
-
-same-length-2 : tie.Need-same-length-2
-same-length-2 c = search needs
 
 returns-2 : tie.Need-returns-2
 unfolding sentBy
@@ -51,13 +39,5 @@ returns-2 c =
 pub put-reply-spec : {M : Type 1} → statement M
 put-reply-spec =
     tie.close
-    (tie.spec
-    array-share-prefix-bytes
-    slice-aggregate-write-frame
-    write-frame-requires
-    enum-known-written
-    enum-told
-    same-length
-    returns
-    same-length-2
-    returns-2)
+    (tie.spec array-share-prefix-bytes slice-aggregate-write-frame (λ c κs. tt) (λ c. search needs)
+    enum-told (λ c. search needs) returns (λ c. search needs) returns-2)

@@ -16,7 +16,4 @@ returns : tie.Need-returns
 returns c = narrow w16 (c .args .x) _ (wide-16 (c .args .x) (c .pre)) (fits c) refl
 
 pub as-16-spec : {M : Type 1} → statement M
-as-16-spec =
-    tie.close
-    (tie.spec
-    cast-result returns)
+as-16-spec = tie.close (tie.spec cast-result returns)

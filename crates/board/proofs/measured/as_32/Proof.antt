@@ -16,7 +16,4 @@ returns : tie.Need-returns
 returns c = narrow w32 (c .args .x) _ (wide-32 (c .args .x) (c .pre)) (fits c) refl
 
 pub as-32-spec : {M : Type 1} → statement M
-as-32-spec =
-    tie.close
-    (tie.spec
-    cast-result returns)
+as-32-spec = tie.close (tie.spec cast-result returns)

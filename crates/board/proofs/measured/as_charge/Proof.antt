@@ -12,7 +12,4 @@ returns : tie.Need-returns
 returns c = ap natAbs (kept (c .args .x) (wide-charge (c .args .x) (c .pre)))
 
 pub as-charge-spec : {M : Type 1} → statement M
-as-charge-spec =
-    tie.close
-    (tie.spec
-    cast-result returns)
+as-charge-spec = tie.close (tie.spec cast-result returns)

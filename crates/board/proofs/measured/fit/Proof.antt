@@ -8,21 +8,6 @@ use Rattle.board.proofs.Signs.{kept-in}
 use Rattle.board.proofs.measured.fit.Statement.{statement}
 use Rattle.board.proofs.measured.fit.Tie as tie
 
-is-within-requires : tie.Need-is-within-requires
-is-within-requires c κs = tt
-
-is-within-requires-2 : tie.Need-is-within-requires-2
-is-within-requires-2 c κs = tt
-
-is-within-requires-3 : tie.Need-is-within-requires-3
-is-within-requires-3 c κs = tt
-
-is-within-requires-4 : tie.Need-is-within-requires-4
-is-within-requires-4 c κs = tt
-
-is-within-requires-5 : tie.Need-is-within-requires-5
-is-within-requires-5 c κs = tt
-
 voltage-fits : (s : tie.Start) → SFits w64 (s .args .given .voltage)
 voltage-fits s = search needs
 
@@ -56,5 +41,4 @@ returns c =
 pub fit-spec : {M : Type 1} → statement M
 fit-spec =
     tie.close
-    (tie.spec
-    is-within-requires is-within-requires-2 is-within-requires-3 is-within-requires-4 is-within-requires-5 returns)
+    (tie.spec (λ c κs. tt) (λ c κs. tt) (λ c κs. tt) (λ c κs. tt) (λ c κs. tt) returns)

@@ -55,5 +55,5 @@ returns c =
 pub readings-of-spec : {M : Type 1} → statement M
 readings-of-spec =
     tie.close
-    (tie.spec
-    as-16-requires as-16-requires-2 as-32-requires as-32-requires-2 as-charge-requires returns)
+    (tie.spec as-16-requires as-16-requires-2 as-32-requires as-32-requires-2 as-charge-requires
+    returns)

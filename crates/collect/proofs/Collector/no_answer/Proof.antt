@@ -7,20 +7,8 @@ use borrow.Author.Needs.{needs}
 use Rattle.collect.proofs.Collector.no_answer.Statement.{statement}
 use Rattle.collect.proofs.Collector.no_answer.Tie as tie
 
-is-allowed-requires : tie.Need-is-allowed-requires
-is-allowed-requires c κs = search needs
-
-stray-requires : tie.Need-stray-requires
-stray-requires c κs = search needs
-
 returns : tie.Need-returns
 returns c = c .stray .ensures ∙ collecting-stray _ _ (sym (c .before .before .is-allowed .ensures) ∙ not-true _ (c .before .if1 .taken))
-
-after-silence-requires : tie.Need-after-silence-requires
-after-silence-requires c κs = search needs
-
-good-requires : tie.Need-good-requires
-good-requires c κs = search needs
 
 returns-2 : tie.Need-returns-2
 returns-2 c = c .good2 .ensures ∙ ap good (c .before .after-silence .ensures) ∙ collecting-good _ _ (sym (c .before .before .before .is-allowed .ensures) ∙ not-false _ (c .before .before .if1 .left))
@@ -28,10 +16,5 @@ returns-2 c = c .good2 .ensures ∙ ap good (c .before .after-silence .ensures) 
 pub no-answer-spec : {M : Type 1} → statement M
 no-answer-spec =
     tie.close
-    (tie.spec
-    is-allowed-requires
-    stray-requires
-    returns
-    after-silence-requires
-    good-requires
-    returns-2)
+    (tie.spec (λ c κs. search needs) (λ c κs. search needs) returns (λ c κs. search needs)
+    (λ c κs. search needs) returns-2)

@@ -5,11 +5,8 @@ use borrow.Author.Needs.{needs}
 use Rattle.collect.proofs.Collector.refused_frame.Statement.{statement}
 use Rattle.collect.proofs.Collector.refused_frame.Tie as tie
 
-told-requires : tie.Need-told-requires
-told-requires c κs = search needs
-
 returns : tie.Need-returns
 returns c = c .told .ensures ∙ collecting-refused _
 
 pub refused-frame-spec : {M : Type 1} → statement M
-refused-frame-spec = tie.close (tie.spec told-requires returns)
+refused-frame-spec = tie.close (tie.spec (λ c κs. search needs) returns)

@@ -5,15 +5,9 @@ use borrow.Author.Needs.{needs}
 use Rattle.collect.proofs.Collector.start.Statement.{statement}
 use Rattle.collect.proofs.Collector.start.Tie as tie
 
-begun-requires : tie.Need-begun-requires
-begun-requires c κs = search needs
-
-good-requires : tie.Need-good-requires
-good-requires c κs = search needs
-
 returns : tie.Need-returns
 unfolding starting
 returns c = c .good2 .ensures ∙ ap good (c .before .begun .ensures)
 
 pub start-spec : {M : Type 1} → statement M
-start-spec = tie.close (tie.spec begun-requires good-requires returns)
+start-spec = tie.close (tie.spec (λ c κs. search needs) (λ c κs. search needs) returns)

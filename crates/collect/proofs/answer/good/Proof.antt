@@ -4,15 +4,9 @@ use borrow.Author.Needs.{needs}
 use Rattle.collect.proofs.answer.good.Statement.{statement}
 use Rattle.collect.proofs.answer.good.Tie as tie
 
-stage-of-requires : tie.Need-stage-of-requires
-stage-of-requires c κs = search needs
-
-table-of-requires : tie.Need-table-of-requires
-table-of-requires c κs = search needs
-
 returns : tie.Need-returns
 unfolding good
 returns c = rw (c .before .stage-of .ensures, c .table-of .ensures)
 
 pub good-spec : {M : Type 1} → statement M
-good-spec = tie.close (tie.spec stage-of-requires table-of-requires returns)
+good-spec = tie.close (tie.spec (λ c κs. search needs) (λ c κs. search needs) returns)

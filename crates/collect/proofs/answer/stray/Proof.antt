@@ -4,12 +4,9 @@ use borrow.Author.Needs.{needs}
 use Rattle.collect.proofs.answer.stray.Statement.{statement}
 use Rattle.collect.proofs.answer.stray.Tie as tie
 
-factory-requires : tie.Need-factory-requires
-factory-requires c κs = search needs
-
 returns : tie.Need-returns
 unfolding stray
 returns c = rw (c .factory .ensures)
 
 pub stray-spec : {M : Type 1} → statement M
-stray-spec = tie.close (tie.spec factory-requires returns)
+stray-spec = tie.close (tie.spec (λ c κs. search needs) returns)

@@ -5,23 +5,11 @@ use borrow.Author.Needs.{needs}
 use Rattle.collect.proofs.intake.of_frame.Statement.{statement}
 use Rattle.collect.proofs.intake.of_frame.Tie as tie
 
-setting-at-requires : tie.Need-setting-at-requires
-setting-at-requires c κs = search needs
-
-heed-requires : tie.Need-heed-requires
-heed-requires c κs = search needs
-
 enum-told : tie.Need-enum-told
 enum-told c = search needs
 
-enum-told-2 : tie.Need-enum-told-2
-enum-told-2 c = search needs
-
 of-value-requires : tie.Need-of-value-requires
 of-value-requires c κs = c .before .before .before .before .before .pre
-
-enum-told-3 : tie.Need-enum-told-3
-enum-told-3 c = search needs
 
 returns : tie.Need-returns
 returns c = heeded-is _ _ _ _ _ (asked-is _ _ _ _ _ (c .before .before .before .setting-at .ensures) (sym (c .enum-told .given .1) ∙ c .before .before .heed .ensures))
@@ -35,13 +23,5 @@ returns-3 c = heeded-is _ _ _ _ _ (asked-is _ _ _ _ _ (c .before .before .before
 pub of-frame-spec : {M : Type 1} → statement M
 of-frame-spec =
     tie.close
-    (tie.spec
-    setting-at-requires
-    heed-requires
-    enum-told
-    enum-told-2
-    of-value-requires
-    enum-told-3
-    returns
-    returns-2
-    returns-3)
+    (tie.spec (λ c κs. search needs) (λ c κs. search needs) enum-told (λ c. search needs)
+    of-value-requires (λ c. search needs) returns returns-2 returns-3)

@@ -25,29 +25,11 @@ number-is c =
     let few : length (drop 3 bytes) ≤ 2 = rw width (width-between _ _ (c .before .before .before .before .setting-at .ensures) (s .pre) .1) in
     c .read-16 .ensures ∙ ap (λ (l : List ℕ). fromLittle (take 2 l)) (part-to-end bytes _ 3 refl) ∙ all-first 2 (drop 3 bytes) few
 
-setting-at-requires : tie.Need-setting-at-requires
-setting-at-requires c κs = search needs
-
 add-if1 : tie.Need-add-if1
 add-if1 c = record { fits = omega (arith, width-between _ _ (c .before .setting-at .ensures) (c .before .before .before .pre)) }
 
 returns : tie.Need-returns
 returns c = value-other _ _ (now (c .before .before .before .before .args .bytes)) _ (c .before .before .setting-at .ensures) (c .before .before .before .before .pre) (c .if1 .taken)
-
-sub-read-16 : tie.Need-sub-read-16
-sub-read-16 c = search needs
-
-part-read-16-start : tie.Need-part-read-16-start
-part-read-16-start c = search needs
-
-part-read-16-end : tie.Need-part-read-16-end
-part-read-16-end c = search needs
-
-read-16-requires : tie.Need-read-16-requires
-read-16-requires c κs = tt
-
-is-fit-requires : tie.Need-is-fit-requires
-is-fit-requires c κs = search needs
 
 returns-2 : tie.Need-returns-2
 returns-2 c =
@@ -64,14 +46,5 @@ returns-3 c =
 pub of-value-spec : {M : Type 1} → statement M
 of-value-spec =
     tie.close
-    (tie.spec
-    setting-at-requires
-    add-if1
-    returns
-    sub-read-16
-    part-read-16-start
-    part-read-16-end
-    read-16-requires
-    is-fit-requires
-    returns-2
-    returns-3)
+    (tie.spec (λ c κs. search needs) add-if1 returns (λ c. search needs) (λ c. search needs)
+    (λ c. search needs) (λ c κs. tt) (λ c κs. search needs) returns-2 returns-3)

@@ -6,23 +6,14 @@ use borrow.Author.Needs.{needs}
 use Rattle.collect.proofs.place.is_fit.Statement.{statement}
 use Rattle.collect.proofs.place.is_fit.Tie as tie
 
-setting-at-requires : tie.Need-setting-at-requires
-setting-at-requires c κs = search needs
-
 mul-allows : tie.Need-mul-allows
 mul-allows c = record { fits = omega (arith, partner-small _ _ (c .before .setting-at .ensures) (c .before .before .pre)) }
 
 array-read-allows : tie.Need-array-read-allows
 array-read-allows c = partner-small _ _ (c .before .setting-at .ensures) (c .before .before .pre)
 
-allows-requires : tie.Need-allows-requires
-allows-requires c κs = search needs
-
 returns : tie.Need-returns
 returns c = c .allows .ensures ∙ fits-before _ _ _ _ (c .before .before .setting-at .ensures) (c .before .before .before .pre) (c .before .if1 .taken)
-
-allows-requires-2 : tie.Need-allows-requires-2
-allows-requires-2 c κs = search needs
 
 returns-2 : tie.Need-returns-2
 returns-2 c = c .allows2 .ensures ∙ fits-later _ _ _ _ (c .before .before .setting-at .ensures) (c .before .before .before .pre) (c .before .if1 .left)
@@ -30,11 +21,5 @@ returns-2 c = c .allows2 .ensures ∙ fits-later _ _ _ _ (c .before .before .set
 pub is-fit-spec : {M : Type 1} → statement M
 is-fit-spec =
     tie.close
-    (tie.spec
-    setting-at-requires
-    mul-allows
-    array-read-allows
-    allows-requires
-    returns
-    allows-requires-2
-    returns-2)
+    (tie.spec (λ c κs. search needs) mul-allows array-read-allows (λ c κs. search needs) returns
+    (λ c κs. search needs) returns-2)

@@ -8,9 +8,6 @@ use borrow.Author.Needs.{needs}
 use Rattle.collect.proofs.state.after_frame.Statement.{statement}
 use Rattle.collect.proofs.state.after_frame.Tie as tie
 
-is-waiting-requires : tie.Need-is-waiting-requires
-is-waiting-requires c κs = search needs
-
 returns : tie.Need-returns
 returns c = ended-stays _ (heard _ _) (sym (c .before .is-waiting .ensures) ∙ not-true _ (c .if1 .taken))
 
@@ -25,4 +22,5 @@ returns-2 c = c .moved .ensures ∙ ap (moved _) (c .before .of-frame .ensures) 
 
 pub after-frame-spec : {M : Type 1} → statement M
 after-frame-spec =
-    tie.close (tie.spec is-waiting-requires returns of-frame-requires moved-requires returns-2)
+    tie.close
+    (tie.spec (λ c κs. search needs) returns of-frame-requires moved-requires returns-2)

@@ -7,17 +7,13 @@ use borrow.Author.Needs.{needs}
 use Rattle.collect.proofs.state.after_silence.Statement.{statement}
 use Rattle.collect.proofs.state.after_silence.Tie as tie
 
-is-waiting-requires : tie.Need-is-waiting-requires
-is-waiting-requires c κs = search needs
-
 returns : tie.Need-returns
 returns c = ended-stays _ noAnswer (sym (c .before .is-waiting .ensures) ∙ not-true _ (c .if1 .taken))
-
-silenced-requires : tie.Need-silenced-requires
-silenced-requires c κs = search needs
 
 returns-2 : tie.Need-returns-2
 returns-2 c = c .silenced .ensures ∙ silence-counts _ (sym (c .before .before .is-waiting .ensures) ∙ not-false _ (c .before .if1 .left))
 
 pub after-silence-spec : {M : Type 1} → statement M
-after-silence-spec = tie.close (tie.spec is-waiting-requires returns silenced-requires returns-2)
+after-silence-spec =
+    tie.close
+    (tie.spec (λ c κs. search needs) returns (λ c κs. search needs) returns-2)

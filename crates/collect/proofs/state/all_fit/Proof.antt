@@ -27,12 +27,6 @@ array-read-is-fit c = omega (arith, c .before .before .pre)
 is-fit-requires : tie.Need-is-fit-requires Inv-loop μ-loop
 is-fit-requires c κs = omega (arith, c .before .before .pre)
 
-add-i : tie.Need-add-i Inv-loop μ-loop
-add-i c = omega arith
-
-loop-less : tie.Need-loop-less Inv-loop μ-loop
-loop-less c = omega arith
-
 loop-again : tie.Need-loop-again Inv-loop μ-loop
 loop-again c = (omega arith, rw (add-one, c .is-fit .ensures, c .before .before .loop .inv .1))
 
@@ -43,14 +37,5 @@ returns c = let all : c .before .loop .i ≡ c .before .before .args .len = omeg
 pub all-fit-spec : {M : Type 1} → statement M
 all-fit-spec =
     tie.close
-    (tie.spec
-    Inv-loop
-    μ-loop
-    loop-holds
-    mul-is-fit
-    array-read-is-fit
-    is-fit-requires
-    add-i
-    loop-less
-    loop-again
-    returns)
+    (tie.spec Inv-loop μ-loop loop-holds mul-is-fit array-read-is-fit is-fit-requires
+    (λ c. omega arith) (λ c. omega arith) loop-again returns)

@@ -7,9 +7,6 @@ use borrow.Author.Needs.{needs}
 use Rattle.collect.proofs.state.is_allowed.Statement.{statement}
 use Rattle.collect.proofs.state.is_allowed.Tie as tie
 
-is-within-requires : tie.Need-is-within-requires
-is-within-requires c κs = search needs
-
 returns : tie.Need-returns
 returns c = allowed-not _ (sym (c .before .is-within .ensures) ∙ not-true _ (c .if1 .taken))
 
@@ -24,4 +21,5 @@ returns-2 c = ap₂ (λ (a b : Bool). a && b) (c .before .all-fit .ensures) (c .
 
 pub is-allowed-spec : {M : Type 1} → statement M
 is-allowed-spec =
-    tie.close (tie.spec is-within-requires returns all-fit-requires none-after-requires returns-2)
+    tie.close
+    (tie.spec (λ c κs. search needs) returns all-fit-requires none-after-requires returns-2)

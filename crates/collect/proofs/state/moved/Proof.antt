@@ -5,26 +5,11 @@ use borrow.Author.Needs.{needs}
 use Rattle.collect.proofs.state.moved.Statement.{statement}
 use Rattle.collect.proofs.state.moved.Tie as tie
 
-enum-known-intake : tie.Need-enum-known-intake
-enum-known-intake c = search needs
-
 took-requires : tie.Need-took-requires
 took-requires c κs = c .before .before .before .pre
 
 enum-told : tie.Need-enum-told
 enum-told c = search needs
-
-halted-requires : tie.Need-halted-requires
-halted-requires c κs = search needs
-
-enum-told-2 : tie.Need-enum-told-2
-enum-told-2 c = search needs
-
-enum-told-3 : tie.Need-enum-told-3
-enum-told-3 c = search needs
-
-silenced-requires : tie.Need-silenced-requires
-silenced-requires c κs = search needs
 
 returns : tie.Need-returns
 returns c = c .took .ensures ∙ ap (moved _) (sym (c .before .before .intake .given .1))
@@ -41,15 +26,5 @@ returns-4 c = c .silenced .ensures ∙ ap (moved _) (sym (c .before .enum-told3 
 pub moved-spec : {M : Type 1} → statement M
 moved-spec =
     tie.close
-    (tie.spec
-    enum-known-intake
-    took-requires
-    enum-told
-    halted-requires
-    enum-told-2
-    enum-told-3
-    silenced-requires
-    returns
-    returns-2
-    returns-3
-    returns-4)
+    (tie.spec (λ c. search needs) took-requires enum-told (λ c κs. search needs) (λ c. search needs)
+    (λ c. search needs) (λ c κs. search needs) returns returns-2 returns-3 returns-4)

@@ -25,18 +25,6 @@ long s = search needs
 loop-holds : tie.Need-loop-holds Inv-loop μ-loop
 loop-holds c = (c .pre, refl)
 
-mul-all : tie.Need-mul-all Inv-loop μ-loop
-mul-all c = search needs
-
-array-read-all : tie.Need-array-read-all Inv-loop μ-loop
-array-read-all c = omega arith
-
-add-i : tie.Need-add-i Inv-loop μ-loop
-add-i c = search needs
-
-loop-less : tie.Need-loop-less Inv-loop μ-loop
-loop-less c = omega arith
-
 loop-again : tie.Need-loop-again Inv-loop μ-loop
 loop-again c = (omega arith, none-turn (c .before .before .args .t1) (c .before .loop .i) (c .before .loop .all) _ (rw (long (c .before .before)) (c .loop-test .taken)) (c .before .loop .inv .1))
 
@@ -46,4 +34,5 @@ returns c = none-end (c .before .before .args .t1) (c .before .loop .i) _ _ (rw 
 pub none-after-spec : {M : Type 1} → statement M
 none-after-spec =
     tie.close
-    (tie.spec Inv-loop μ-loop loop-holds mul-all array-read-all add-i loop-less loop-again returns)
+    (tie.spec Inv-loop μ-loop loop-holds (λ c. search needs) (λ c. omega arith) (λ c. search needs)
+    (λ c. omega arith) loop-again returns)

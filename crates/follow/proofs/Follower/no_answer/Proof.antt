@@ -10,4 +10,6 @@ returns : tie.Need-returns
 returns c = c .after .ensures ∙ following-is _ noAnswer _ _ (c .before .before .standing-of .ensures) (c .before .of-silence .ensures)
 
 pub no-answer-spec : {M : Type 1} → statement M
-no-answer-spec = tie.close (tie.spec (λ c κs. search needs) (λ c κs. search needs) (λ c κs. search needs) returns)
+no-answer-spec =
+    tie.close
+    (tie.spec (λ c κs. search needs) (λ c κs. search needs) (λ c κs. search needs) returns)

@@ -13,4 +13,6 @@ returns : tie.Need-returns
 returns c = c .after .ensures ∙ following-is _ (heard _ _) _ _ (c .before .before .standing-of .ensures) (c .before .of-frame .ensures)
 
 pub reply-spec : {M : Type 1} → statement M
-reply-spec = tie.close (tie.spec (λ c κs. search needs) of-frame-requires (λ c κs. search needs) returns)
+reply-spec =
+    tie.close
+    (tie.spec (λ c κs. search needs) of-frame-requires (λ c κs. search needs) returns)

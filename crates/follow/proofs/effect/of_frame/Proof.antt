@@ -11,17 +11,9 @@ on-request-requires c κs = subst Awaits (c .before .standing .given .1) (c .bef
 returns : tie.Need-returns
 returns c = rw (c .before .before .standing .given .1) (c .on-request .ensures)
 
-returns-2 : tie.Need-returns-2
-returns-2 c = search needs
-
-returns-3 : tie.Need-returns-3
-returns-3 c = search needs
-
-returns-4 : tie.Need-returns-4
-returns-4 c = search needs
-
-returns-5 : tie.Need-returns-5
-returns-5 c = search needs
-
 pub of-frame-spec : {M : Type 1} → statement M
-of-frame-spec = tie.close (tie.spec (λ c. search needs) on-request-requires (λ c. search needs) (λ c. search needs) (λ c. search needs) (λ c. search needs) returns returns-2 returns-3 returns-4 returns-5)
+of-frame-spec =
+    tie.close
+    (tie.spec (λ c. search needs) on-request-requires (λ c. search needs) (λ c. search needs)
+    (λ c. search needs) (λ c. search needs) returns (λ c. search needs) (λ c. search needs)
+    (λ c. search needs) (λ c. search needs))

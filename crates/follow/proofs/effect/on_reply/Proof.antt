@@ -1,6 +1,5 @@
 -- `follow::effect::on_reply` meets its contract. Assumes nothing.
 use mathlib.Core.Path.{refl, sym, _∙_}
-use Prim.Native.Nat.{_-_}
 use denote.Ref.{now}
 use lib.ListN.{length}
 use Rattle.laws.proofs.Lists.{part-to-end}
@@ -9,14 +8,8 @@ use borrow.Author.Needs.{needs}
 use Rattle.follow.proofs.effect.on_reply.Statement.{statement}
 use Rattle.follow.proofs.effect.on_reply.Tie as tie
 
-heed-requires : tie.Need-heed-requires
-heed-requires c κs = search needs
-
 enum-told : tie.Need-enum-told
 enum-told c = search needs
-
-enum-told-2 : tie.Need-enum-told-2
-enum-told-2 c = search needs
 
 sub-on-value : tie.Need-sub-on-value
 sub-on-value c = good-long _ _ _ _ (sym (c .before .before .heed .ensures) ∙ c .enum-told2 .given .1)
@@ -24,14 +17,8 @@ sub-on-value c = good-long _ _ _ _ (sym (c .before .before .heed .ensures) ∙ c
 part-on-value-start : tie.Need-part-on-value-start
 part-on-value-start c = good-long _ _ _ _ (sym (c .before .before .heed .ensures) ∙ c .enum-told2 .given .1)
 
-part-on-value-end : tie.Need-part-on-value-end
-part-on-value-end c = search needs
-
 on-value-requires : tie.Need-on-value-requires
 on-value-requires c κs = c .before .before .before .before .before .pre
-
-enum-told-3 : tie.Need-enum-told-3
-enum-told-3 c = search needs
 
 returns : tie.Need-returns
 returns c = heeded-is _ _ _ _ (sym (c .before .before .heed .ensures) ∙ c .enum-told .given .1)
@@ -48,15 +35,5 @@ returns-3 c = heeded-is _ _ _ _ (sym (c .before .before .heed .ensures) ∙ c .e
 pub on-reply-spec : {M : Type 1} → statement M
 on-reply-spec =
     tie.close
-    (tie.spec
-    heed-requires
-    enum-told
-    enum-told-2
-    sub-on-value
-    part-on-value-start
-    part-on-value-end
-    on-value-requires
-    enum-told-3
-    returns
-    returns-2
-    returns-3)
+    (tie.spec (λ c κs. search needs) enum-told (λ c. search needs) sub-on-value part-on-value-start
+    (λ c. search needs) on-value-requires (λ c. search needs) returns returns-2 returns-3)

@@ -8,11 +8,11 @@ use Rattle.follow.proofs.effect.on_request.Tie as tie
 on-reply-requires : tie.Need-on-reply-requires
 on-reply-requires c κs = subst Sent (c .before .request .given .1) (c .before .before .before .before .pre)
 
-returns : tie.Need-returns
-returns c = search needs
-
 returns-2 : tie.Need-returns-2
 returns-2 c = rw (c .before .before .request .given .1) (c .on-reply .ensures)
 
 pub on-request-spec : {M : Type 1} → statement M
-on-request-spec = tie.close (tie.spec (λ c. search needs) (λ c. search needs) on-reply-requires returns returns-2)
+on-request-spec =
+    tie.close
+    (tie.spec (λ c. search needs) (λ c. search needs) on-reply-requires (λ c. search needs)
+    returns-2)

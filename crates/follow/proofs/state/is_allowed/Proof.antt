@@ -1,26 +1,13 @@
 -- `follow::state::is_allowed` meets its contract. Assumes nothing.
 use mathlib.Core.Path.{sym, ap, _∙_}
-use Prim.Native.Nat.{_-_}
 use mathlib.Core.Bool.{not, _&&_}
 use Rattle.follow.proofs.Standings.{due-known, allowed-more, allowed-last, allowed-stray}
 use borrow.Author.Needs.{needs}
 use Rattle.follow.proofs.state.is_allowed.Statement.{statement}
 use Rattle.follow.proofs.state.is_allowed.Tie as tie
 
-due-after-requires : tie.Need-due-after-requires
-due-after-requires c κs = search needs
-
 enum-told : tie.Need-enum-told
 enum-told c = search needs
-
-enum-told-2 : tie.Need-enum-told-2
-enum-told-2 c = search needs
-
-is-reached-requires : tie.Need-is-reached-requires
-is-reached-requires c κs = search needs
-
-enum-told-3 : tie.Need-enum-told-3
-enum-told-3 c = search needs
 
 returns : tie.Need-returns
 returns c = allowed-more _ _ (due-known _ _ _ _ (sym (c .before .before .due-after .ensures) ∙ c .enum-told .given .1))
@@ -34,12 +21,5 @@ returns-3 c = allowed-stray _ (due-known _ _ _ _ (sym (c .before .before .due-af
 pub is-allowed-spec : {M : Type 1} → statement M
 is-allowed-spec =
     tie.close
-    (tie.spec
-    due-after-requires
-    enum-told
-    enum-told-2
-    is-reached-requires
-    enum-told-3
-    returns
-    returns-2
-    returns-3)
+    (tie.spec (λ c κs. search needs) enum-told (λ c. search needs) (λ c κs. search needs)
+    (λ c. search needs) returns returns-2 returns-3)

@@ -1,6 +1,6 @@
 -- `follow::state::moved_by` meets its contract. Assumes nothing.
 use mathlib.Core.Path.{ap, _∙_}
-use Prim.Native.Nat.{ℕ, _-_}
+use Prim.Native.Nat.{ℕ}
 use native.Mathlib.Numerals.{add-one}
 use Rattle.follow.proofs.Standings.{confirmed-few}
 use borrow.Author.Needs.{needs}
@@ -14,18 +14,6 @@ enum-told c = search needs
 add-with : tie.Need-add-with
 add-with c = record { fits = omega (arith, confirmed-few _ (c .before .before .before .pre)) }
 
-with-requires : tie.Need-with-requires
-with-requires c κs = search needs
-
-enum-told-2 : tie.Need-enum-told-2
-enum-told-2 c = search needs
-
-with-requires-2 : tie.Need-with-requires-2
-with-requires-2 c κs = search needs
-
-enum-told-3 : tie.Need-enum-told-3
-enum-told-3 c = search needs
-
 returns : tie.Need-returns
 returns c = c .with .ensures ∙ rw (c .before .before .enum-told .given .1) (ap (λ (n : ℕ). record { from = c .before .before .before .before .args .follower .from; to = c .before .before .before .before .args .follower .to; confirmed = n; stopped = c .before .before .before .before .args .follower .stopped }) (add-one _))
 
@@ -38,13 +26,5 @@ returns-3 c = rw (c .enum-told3 .given .1)
 pub moved-by-spec : {M : Type 1} → statement M
 moved-by-spec =
     tie.close
-    (tie.spec
-    enum-told
-    add-with
-    with-requires
-    enum-told-2
-    with-requires-2
-    enum-told-3
-    returns
-    returns-2
-    returns-3)
+    (tie.spec enum-told add-with (λ c κs. search needs) (λ c. search needs) (λ c κs. search needs)
+    (λ c. search needs) returns returns-2 returns-3)

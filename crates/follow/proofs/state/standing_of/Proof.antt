@@ -1,28 +1,12 @@
 -- `follow::state::standing_of` meets its contract. Assumes nothing.
 use mathlib.Core.Path.{sym, _∙_}
-use Prim.Native.Nat.{_-_}
 use Rattle.follow.proofs.Standings.{standing-is}
 use borrow.Author.Needs.{needs}
 use Rattle.follow.proofs.state.standing_of.Statement.{statement}
 use Rattle.follow.proofs.state.standing_of.Tie as tie
 
-due-after-requires : tie.Need-due-after-requires
-due-after-requires c κs = search needs
-
-enum-known-due : tie.Need-enum-known-due
-enum-known-due c = search needs
-
-with-due-requires : tie.Need-with-due-requires
-with-due-requires c κs = search needs
-
 enum-told : tie.Need-enum-told
 enum-told c = search needs
-
-with-none-requires : tie.Need-with-none-requires
-with-none-requires c κs = search needs
-
-enum-known-due-2 : tie.Need-enum-known-due-2
-enum-known-due-2 c = search needs
 
 returns : tie.Need-returns
 returns c = c .with-due .ensures ∙ standing-is _ _ (sym (c .before .before .before .before .due-after .ensures) ∙ c .before .before .due .given .1)
@@ -36,13 +20,5 @@ returns-3 c = standing-is _ _ (sym (c .before .before .before .due-after .ensure
 pub standing-of-spec : {M : Type 1} → statement M
 standing-of-spec =
     tie.close
-    (tie.spec
-    due-after-requires
-    enum-known-due
-    with-due-requires
-    enum-told
-    with-none-requires
-    enum-known-due-2
-    returns
-    returns-2
-    returns-3)
+    (tie.spec (λ c κs. search needs) (λ c. search needs) (λ c κs. search needs) enum-told
+    (λ c κs. search needs) (λ c. search needs) returns returns-2 returns-3)

@@ -1,5 +1,4 @@
 -- `follow::state::with_due` meets its contract. Assumes nothing.
-use Prim.Native.Nat.{_-_}
 use Rattle.follow.proofs.state.with_due.Statement.{statement}
 use Rattle.follow.proofs.state.with_due.Tie as tie
 

@@ -1,5 +1,4 @@
 -- `follow::state::with_none` meets its contract. Assumes nothing.
-use Prim.Native.Nat.{_-_}
 use borrow.Author.Tests.{eq-eqb, ne-eqb}
 use Rattle.follow.proofs.state.with_none.Statement.{statement}
 use Rattle.follow.proofs.state.with_none.Tie as tie

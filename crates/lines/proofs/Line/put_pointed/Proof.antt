@@ -24,4 +24,5 @@ returns-2 c = further _ _ _ (rw (c .before .before .before .steps-of .ensures) a
 pub put-pointed-spec : {M : Type 1} → statement M
 put-pointed-spec =
     tie.close
-    (tie.spec (λ c κs. search needs) div-put-number (λ c κs. search needs) returns (λ c κs. search needs) returns-2)
+    (tie.spec (λ c κs. search needs) div-put-number (λ c κs. search needs) returns
+    (λ c κs. search needs) returns-2)

@@ -53,5 +53,5 @@ returns c =
 pub joined-spec : {M : Type 1} → statement M
 joined-spec =
     tie.close
-    (tie.spec
-    sub-least (λ c κs. search needs) slice-aggregate-copy sub-copy part-chars-start part-chars-end copy-requires add-t6 returns)
+    (tie.spec sub-least (λ c κs. search needs) slice-aggregate-copy sub-copy part-chars-start
+    part-chars-end copy-requires add-t6 returns)

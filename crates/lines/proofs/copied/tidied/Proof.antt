@@ -32,5 +32,5 @@ returns c =
 pub tidied-spec : {M : Type 1} → statement M
 tidied-spec =
     tie.close
-    (tie.spec
-    (λ c κs. search needs) array-share-prefix-chars slice-aggregate-copy (λ c. search needs) copy-requires returns)
+    (tie.spec (λ c κs. search needs) array-share-prefix-chars slice-aggregate-copy
+    (λ c. search needs) copy-requires returns)

@@ -7,4 +7,7 @@ returns : tie.Need-returns
 returns c = c .put .ensures
 
 pub put-digit-spec : {M : Type 1} → statement M
-put-digit-spec = tie.close (tie.spec (λ c. search needs) (λ c. search needs) (λ c. search needs) (λ c κs. search needs) returns)
+put-digit-spec =
+    tie.close
+    (tie.spec (λ c. search needs) (λ c. search needs) (λ c. search needs) (λ c κs. search needs)
+    returns)

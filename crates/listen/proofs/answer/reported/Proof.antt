@@ -3,11 +3,8 @@ use borrow.Author.Needs.{needs}
 use Rattle.listen.proofs.answer.reported.Statement.{statement}
 use Rattle.listen.proofs.answer.reported.Tie as tie
 
-told-by-requires : tie.Need-told-by-requires
-told-by-requires c κs = search needs
-
 returns : tie.Need-returns
 returns c = rw (c .told-by .ensures)
 
 pub reported-spec : {M : Type 1} → statement M
-reported-spec = tie.close (tie.spec told-by-requires returns)
+reported-spec = tie.close (tie.spec (λ c κs. search needs) returns)

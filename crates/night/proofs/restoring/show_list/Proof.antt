@@ -11,37 +11,8 @@ Inv-loop report from to done₀ done = Unit {0}
 abbrev μ-loop : tie.MeasureT-loop
 μ-loop report from to done₀ done = 256 - done
 
-loop-holds : tie.Need-loop-holds Inv-loop μ-loop
-loop-holds c = tt
-
-plan-after-requires : tie.Need-plan-after-requires Inv-loop μ-loop
-plan-after-requires c κs = search needs
-
-add-done : tie.Need-add-done Inv-loop μ-loop
-add-done c = search needs
-
-loop-less : tie.Need-loop-less Inv-loop μ-loop
-loop-less c = omega arith
-
-loop-again : tie.Need-loop-again Inv-loop μ-loop
-loop-again c = tt
-
-returns : tie.Need-returns Inv-loop μ-loop
-returns c = search needs
-
-returns-2 : tie.Need-returns-2 Inv-loop μ-loop
-returns-2 c = search needs
-
 pub show-list-spec : {M : Type 1} → statement M
 show-list-spec =
     tie.close
-    (tie.spec
-    Inv-loop
-    μ-loop
-    loop-holds
-    plan-after-requires
-    add-done
-    loop-less
-    loop-again
-    returns
-    returns-2)
+    (tie.spec Inv-loop μ-loop (λ c. tt) (λ c κs. search needs) (λ c. search needs)
+    (λ c. omega arith) (λ c. tt) (λ c. search needs) (λ c. search needs))

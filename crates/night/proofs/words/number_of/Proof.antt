@@ -18,14 +18,7 @@ positive (negsuc n) e = subst T (sym e) tt
 cast-usual : tie.Need-cast-usual
 cast-usual c = (positive (toZ w32 (ofZ w32 (c .before .args .n))) (c .if1 .taken), fits-natAbs {w = w32} {w′ = w64} tt (sfits-toZ (fits-ofZ (c .before .fits .n))))
 
-usual-requires : tie.Need-usual-requires
-usual-requires c κs = search needs
-
-returns : tie.Need-returns
-returns c = search needs
-
-returns-2 : tie.Need-returns-2
-returns-2 c = search needs
-
 pub number-of-spec : {M : Type 1} → statement M
-number-of-spec = tie.close (tie.spec cast-usual usual-requires returns returns-2)
+number-of-spec =
+    tie.close
+    (tie.spec cast-usual (λ c κs. search needs) (λ c. search needs) (λ c. search needs))

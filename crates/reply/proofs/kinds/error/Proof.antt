@@ -8,19 +8,13 @@ use borrow.Author.Needs.{needs}
 use Rattle.reply.proofs.kinds.error.Statement.{statement}
 use Rattle.reply.proofs.kinds.error.Tie as tie
 
-malformed-requires : tie.Need-malformed-requires
-malformed-requires c κs = search needs
-
 returns : tie.Need-returns
 unfolding numbering
 returns c = c .malformed .ensures ∙ sym (rw (ne-eqb _ 2 (c .before .if1 .taken)))
-
-read-16-requires : tie.Need-read-16-requires
-read-16-requires c κs = search needs
 
 returns-2 : tie.Need-returns-2
 unfolding numbering
 returns-2 c = rw (eq-eqb _ 2 (c .before .if1 .left), c .read-16 .ensures, all-first 2 _ (le-of-eq (c .before .if1 .left)))
 
 pub error-spec : {M : Type 1} → statement M
-error-spec = tie.close (tie.spec malformed-requires returns read-16-requires returns-2)
+error-spec = tie.close (tie.spec (λ c κs. search needs) returns (λ c κs. search needs) returns-2)

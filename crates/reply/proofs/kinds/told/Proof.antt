@@ -5,17 +5,8 @@ use borrow.Author.Needs.{needs}
 use Rattle.reply.proofs.kinds.told.Statement.{statement}
 use Rattle.reply.proofs.kinds.told.Tie as tie
 
-front-of-requires : tie.Need-front-of-requires
-front-of-requires c κs = search needs
-
-enum-known-status : tie.Need-enum-known-status
-enum-known-status c = search needs
-
 enum-told : tie.Need-enum-told
 enum-told c = search needs
-
-malformed-requires : tie.Need-malformed-requires
-malformed-requires c κs = search needs
 
 returns : tie.Need-returns
 unfolding telling
@@ -28,4 +19,5 @@ returns-2 c = c .malformed .ensures ∙ sym (rw (sym (c .before .before .before 
 pub told-spec : {M : Type 1} → statement M
 told-spec =
     tie.close
-    (tie.spec front-of-requires enum-known-status enum-told malformed-requires returns returns-2)
+    (tie.spec (λ c κs. search needs) (λ c. search needs) enum-told (λ c κs. search needs) returns
+    returns-2)

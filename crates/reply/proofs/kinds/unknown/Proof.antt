@@ -6,19 +6,13 @@ use borrow.Author.Needs.{needs}
 use Rattle.reply.proofs.kinds.unknown.Statement.{statement}
 use Rattle.reply.proofs.kinds.unknown.Tie as tie
 
-malformed-requires : tie.Need-malformed-requires
-malformed-requires c κs = search needs
-
 returns : tie.Need-returns
 unfolding naming
 returns c = c .malformed .ensures ∙ sym (rw (ne-eqb _ 1 (c .before .if1 .taken)))
-
-shared-slice-read-t5 : tie.Need-shared-slice-read-t5
-shared-slice-read-t5 c = search needs
 
 returns-2 : tie.Need-returns-2
 unfolding naming
 returns-2 c = rw (eq-eqb _ 1 (c .before .if1 .left))
 
 pub unknown-spec : {M : Type 1} → statement M
-unknown-spec = tie.close (tie.spec malformed-requires returns shared-slice-read-t5 returns-2)
+unknown-spec = tie.close (tie.spec (λ c κs. search needs) returns (λ c. search needs) returns-2)

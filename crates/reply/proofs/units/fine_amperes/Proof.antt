@@ -6,19 +6,15 @@ use borrow.Author.Needs.{needs}
 use Rattle.reply.proofs.units.fine_amperes.Statement.{statement}
 use Rattle.reply.proofs.units.fine_amperes.Tie as tie
 
-wrong-width-requires : tie.Need-wrong-width-requires
-wrong-width-requires c κs = search needs
-
 returns : tie.Need-returns
 unfolding inFineAmperes
 returns c = c .wrong-width .ensures ∙ sym (rw (ne-eqb _ 4 (c .before .if1 .taken)))
-
-over-32-requires : tie.Need-over-32-requires
-over-32-requires c κs = search needs
 
 returns-2 : tie.Need-returns-2
 unfolding inFineAmperes
 returns-2 c = rw (eq-eqb _ 4 (c .before .if1 .left), c .over-32 .ensures)
 
 pub fine-amperes-spec : {M : Type 1} → statement M
-fine-amperes-spec = tie.close (tie.spec wrong-width-requires returns over-32-requires returns-2)
+fine-amperes-spec =
+    tie.close
+    (tie.spec (λ c κs. search needs) returns (λ c κs. search needs) returns-2)

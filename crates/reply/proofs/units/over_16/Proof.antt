@@ -9,18 +9,6 @@ use borrow.Author.Needs.{needs}
 use Rattle.reply.proofs.units.over_16.Statement.{statement}
 use Rattle.reply.proofs.units.over_16.Tie as tie
 
-read-16-requires : tie.Need-read-16-requires
-read-16-requires c κs = search needs
-
-signed-16-requires : tie.Need-signed-16-requires
-signed-16-requires c κs = search needs
-
-int-to-float-result : tie.Need-int-to-float-result
-int-to-float-result c = search needs
-
-int-to-float-result-2 : tie.Need-int-to-float-result-2
-int-to-float-result-2 c = search needs
-
 returns : tie.Need-returns
 unfolding over
 returns c =
@@ -30,4 +18,5 @@ returns c =
 pub over-16-spec : {M : Type 1} → statement M
 over-16-spec =
     tie.close
-    (tie.spec read-16-requires signed-16-requires int-to-float-result int-to-float-result-2 returns)
+    (tie.spec (λ c κs. search needs) (λ c κs. search needs) (λ c. search needs) (λ c. search needs)
+    returns)

@@ -8,21 +8,9 @@ use borrow.Author.Needs.{needs}
 use Rattle.reply.proofs.units.percent.Statement.{statement}
 use Rattle.reply.proofs.units.percent.Tie as tie
 
-wrong-width-requires : tie.Need-wrong-width-requires
-wrong-width-requires c κs = search needs
-
 returns : tie.Need-returns
 unfolding inPercent
 returns c = c .wrong-width .ensures ∙ sym (rw (ne-eqb _ 2 (c .before .if1 .taken)))
-
-read-16-requires : tie.Need-read-16-requires
-read-16-requires c κs = search needs
-
-int-to-float-t5 : tie.Need-int-to-float-t5
-int-to-float-t5 c = search needs
-
-int-to-float-t6 : tie.Need-int-to-float-t6
-int-to-float-t6 c = search needs
 
 returns-2 : tie.Need-returns-2
 unfolding inPercent over
@@ -31,4 +19,5 @@ returns-2 c = rw (eq-eqb _ 2 (c .before .before .if1 .left), c .before .read-16 
 pub percent-spec : {M : Type 1} → statement M
 percent-spec =
     tie.close
-    (tie.spec wrong-width-requires returns read-16-requires int-to-float-t5 int-to-float-t6 returns-2)
+    (tie.spec (λ c κs. search needs) returns (λ c κs. search needs) (λ c. search needs)
+    (λ c. search needs) returns-2)

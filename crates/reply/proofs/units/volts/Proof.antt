@@ -6,19 +6,13 @@ use borrow.Author.Needs.{needs}
 use Rattle.reply.proofs.units.volts.Statement.{statement}
 use Rattle.reply.proofs.units.volts.Tie as tie
 
-wrong-width-requires : tie.Need-wrong-width-requires
-wrong-width-requires c κs = search needs
-
 returns : tie.Need-returns
 unfolding inVolts
 returns c = c .wrong-width .ensures ∙ sym (rw (ne-eqb _ 2 (c .before .if1 .taken)))
-
-over-16-requires : tie.Need-over-16-requires
-over-16-requires c κs = search needs
 
 returns-2 : tie.Need-returns-2
 unfolding inVolts
 returns-2 c = rw (eq-eqb _ 2 (c .before .if1 .left), c .over-16 .ensures)
 
 pub volts-spec : {M : Type 1} → statement M
-volts-spec = tie.close (tie.spec wrong-width-requires returns over-16-requires returns-2)
+volts-spec = tie.close (tie.spec (λ c κs. search needs) returns (λ c κs. search needs) returns-2)

@@ -1,6 +1,6 @@
 -- `restore::order::is_exchanged` meets its contract. Assumes nothing.
 use mathlib.Core.Path.{sym, ap, _∙_}
-use Prim.Native.Nat.{ℕ, _-_, _<_}
+use Prim.Native.Nat.{ℕ, _<_}
 use Rattle.restore.specs.Order.{higherFirst}
 use Rattle.settings.proofs.Theorems.{rows-hold}
 use Rattle.settings.specs.Columns.{count}

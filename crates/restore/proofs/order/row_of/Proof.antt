@@ -21,28 +21,13 @@ loop-holds c = ordering-start _ _ _ refl
 turn-of-requires : tie.Need-turn-of-requires Inv-loop μ-loop
 turn-of-requires c κs = (c .before .before .pre, c .loop-test .taken)
 
-mul-indices : tie.Need-mul-indices Inv-loop μ-loop
-mul-indices c = search needs
-
-array-write-indices : tie.Need-array-write-indices Inv-loop μ-loop
-array-write-indices c = search needs
-
 is-other-requires : tie.Need-is-other-requires Inv-loop μ-loop
 is-other-requires c κs = rw (c .turn-of .ensures) (placed-below _ _ _ (c .before .loop-test .taken))
-
-one-if-requires : tie.Need-one-if-requires Inv-loop μ-loop
-one-if-requires c κs = search needs
 
 add-len : tie.Need-add-len Inv-loop μ-loop
 add-len c =
     let one : c .one-if .result ≤ 1 = rw (c .one-if .ensures) (one-few (c .before .is-other .result)) in
     record { fits = omega (arith, c .before .before .before .before .loop .inv .few, c .before .before .before .loop-test .taken) }
-
-add-place : tie.Need-add-place Inv-loop μ-loop
-add-place c = search needs
-
-loop-less : tie.Need-loop-less Inv-loop μ-loop
-loop-less c = omega arith
 
 loop-again : tie.Need-loop-again Inv-loop μ-loop
 loop-again c = rw (c .one-if .ensures, c .before .is-other .ensures) (ordering-turn (c .before .before .before .loop-test .taken) (c .before .before .before .before .loop .inv) _ (c .before .before .turn-of .ensures))
@@ -53,17 +38,6 @@ returns c = ordering-end (c .loop-test .left) (c .before .loop .inv)
 pub row-of-spec : {M : Type 1} → statement M
 row-of-spec =
     tie.close
-    (tie.spec
-    Inv-loop
-    μ-loop
-    loop-holds
-    turn-of-requires
-    mul-indices
-    array-write-indices
-    is-other-requires
-    one-if-requires
-    add-len
-    add-place
-    loop-less
-    loop-again
-    returns)
+    (tie.spec Inv-loop μ-loop loop-holds turn-of-requires (λ c. search needs) (λ c. search needs)
+    is-other-requires (λ c κs. search needs) add-len (λ c. search needs) (λ c. omega arith)
+    loop-again returns)

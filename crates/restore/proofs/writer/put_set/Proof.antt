@@ -1,6 +1,6 @@
 -- `restore::writer::put_set` meets its contract. Assumes nothing.
 use mathlib.Core.Path.{refl, sym, ap, _∙_}
-use Prim.Native.Nat.{ℕ, _+_, _-_, _<_}
+use Prim.Native.Nat.{ℕ, _+_, _<_}
 use denote.Ref.{now}
 use lib.ListN.{length}
 use lib.Seq.{sets}
@@ -12,15 +12,6 @@ use Rattle.restore.proofs.writer.put_set.Tie as tie
 
 short : (s : tie.Start) → length (now (s .args .out)) < 0x8000000000000000
 short s = search needs
-
-slice-aggregate-set : tie.Need-slice-aggregate-set
-slice-aggregate-set c = search needs
-
-set-requires : tie.Need-set-requires
-set-requires c κs = search needs
-
-enum-known-written : tie.Need-enum-known-written
-enum-known-written c = search needs
 
 array-share-prefix-frame : tie.Need-array-share-prefix-frame
 array-share-prefix-frame c = request-written _ _ _ _ _ _ (c .before .before .before .before .before .before .before .before .pre .1) (c .before .before .before .before .before .before .before .before .pre .2) refl (c .before .before .before .before .before .set .ensures) (c .before .before .written .given .1) .inside
@@ -44,9 +35,6 @@ add-result c =
 enum-told : tie.Need-enum-told
 enum-told c = search needs
 
-same-length : tie.Need-same-length
-same-length c = search needs
-
 returns : tie.Need-returns
 returns c =
     let made = request-written _ _ _ _ _ _ (c .before .before .before .before .before .before .before .before .before .before .before .before .pre .1) (c .before .before .before .before .before .before .before .before .before .before .before .before .pre .2) refl (c .before .before .before .before .before .before .before .before .before .set .ensures) (c .before .before .before .before .before .before .written .given .1) in
@@ -58,15 +46,6 @@ returns-2 c = request-made _ _ _ _ _ _ (c .before .before .before .before .befor
 pub put-set-spec : {M : Type 1} → statement M
 put-set-spec =
     tie.close
-    (tie.spec
-    slice-aggregate-set
-    set-requires
-    enum-known-written
-    array-share-prefix-frame
-    slice-aggregate-put-bytes
-    put-bytes-requires
-    add-result
-    enum-told
-    same-length
-    returns
-    returns-2)
+    (tie.spec (λ c. search needs) (λ c κs. search needs) (λ c. search needs)
+    array-share-prefix-frame slice-aggregate-put-bytes put-bytes-requires add-result enum-told
+    (λ c. search needs) returns returns-2)

@@ -56,17 +56,5 @@ returns c = putting-end (c .before .before .before .before .before .before .args
 pub put-sets-spec : {M : Type 1} → statement M
 put-sets-spec =
     tie.close
-    (tie.spec
-    Inv-loop
-    μ-loop
-    loop-holds
-    mul-index
-    array-read-index
-    mul-put-set
-    array-read-put-set
-    put-set-requires
-    add-i
-    loop-less
-    loop-again
-    same-length
-    returns)
+    (tie.spec Inv-loop μ-loop loop-holds mul-index array-read-index mul-put-set array-read-put-set
+    put-set-requires add-i loop-less loop-again same-length returns)

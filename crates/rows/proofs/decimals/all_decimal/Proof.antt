@@ -17,18 +17,6 @@ abbrev μ-loop : tie.MeasureT-loop
 loop-holds : tie.Need-loop-holds Inv-loop μ-loop
 loop-holds c = seen-start
 
-shared-slice-read-is-decimal : tie.Need-shared-slice-read-is-decimal Inv-loop μ-loop
-shared-slice-read-is-decimal c = omega arith
-
-is-decimal-requires : tie.Need-is-decimal-requires Inv-loop μ-loop
-is-decimal-requires c κs = tt
-
-add-i : tie.Need-add-i Inv-loop μ-loop
-add-i c = search needs
-
-loop-less : tie.Need-loop-less Inv-loop μ-loop
-loop-less c = omega arith
-
 loop-again : tie.Need-loop-again Inv-loop μ-loop
 loop-again c = rw (c .is-decimal .ensures) (seen-turn (c .before .before .loop-test .taken) (c .before .before .before .loop .inv))
 
@@ -38,5 +26,5 @@ returns c = seen-end (c .loop-test .left) (c .before .loop .inv)
 pub all-decimal-spec : {M : Type 1} → statement M
 all-decimal-spec =
     tie.close
-    (tie.spec
-    Inv-loop μ-loop loop-holds shared-slice-read-is-decimal is-decimal-requires add-i loop-less loop-again returns)
+    (tie.spec Inv-loop μ-loop loop-holds (λ c. omega arith) (λ c κs. tt) (λ c. search needs)
+    (λ c. omega arith) loop-again returns)

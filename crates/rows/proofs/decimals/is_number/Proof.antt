@@ -14,9 +14,6 @@ returns-2 : tie.Need-returns-2
 unfolding isNumber
 returns-2 c = rw (le-leb 1 _ (c .before .if1 .left), lt-leb _ 5 (c .if2 .taken))
 
-all-decimal-requires : tie.Need-all-decimal-requires
-all-decimal-requires c κs = tt
-
 returns-3 : tie.Need-returns-3
 unfolding isNumber
 returns-3 c = rw (le-leb 1 _ (c .before .before .before .if1 .left), le-leb _ 5 (c .before .before .if2 .left), (sym (c .before .all-decimal .ensures) ∙ not-true _ (c .if3 .taken)))
@@ -25,9 +22,6 @@ returns-4 : tie.Need-returns-4
 unfolding isNumber
 returns-4 c = rw (le-leb 1 _ (c .before .before .before .before .if1 .left), le-leb _ 5 (c .before .before .before .if2 .left), (sym (c .before .before .all-decimal .ensures) ∙ not-false _ (c .before .if3 .left)), eq-eqb _ 1 (c .if4 .taken))
 
-shared-slice-read-result : tie.Need-shared-slice-read-result
-shared-slice-read-result c = search needs
-
 returns-5 : tie.Need-returns-5
 unfolding isNumber
 returns-5 c = rw (le-leb 1 _ (c .before .before .before .before .before .if1 .left), le-leb _ 5 (c .before .before .before .before .if2 .left), (sym (c .before .before .before .all-decimal .ensures) ∙ not-false _ (c .before .before .if3 .left)), ne-eqb _ 1 (c .before .if4 .left))
@@ -35,5 +29,4 @@ returns-5 c = rw (le-leb 1 _ (c .before .before .before .before .before .if1 .le
 pub is-number-spec : {M : Type 1} → statement M
 is-number-spec =
     tie.close
-    (tie.spec
-    returns returns-2 all-decimal-requires returns-3 returns-4 shared-slice-read-result returns-5)
+    (tie.spec returns returns-2 (λ c κs. tt) returns-3 returns-4 (λ c. search needs) returns-5)

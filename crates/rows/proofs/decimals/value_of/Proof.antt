@@ -19,9 +19,6 @@ loop-holds c = parsing-start _
 mul-n : tie.Need-mul-n Inv-loop μ-loop
 mul-n c = record { fits = omega (arith, parsing-low (c .before .before .pre) (c .loop-test .taken) (c .before .loop .inv)) }
 
-shared-slice-read-n : tie.Need-shared-slice-read-n Inv-loop μ-loop
-shared-slice-read-n c = omega arith
-
 sub-n : tie.Need-sub-n Inv-loop μ-loop
 sub-n c = here (c .before .before .before .pre) (c .before .loop-test .taken) (c .before .before .loop .inv) .0
 
@@ -33,12 +30,6 @@ add-n c =
     let low = parsing-low (c .before .before .before .pre) (c .before .loop-test .taken) (c .before .before .loop .inv) in
     record { fits = omega (arith, low, here (c .before .before .before .pre) (c .before .loop-test .taken) (c .before .before .loop .inv) .1) }
 
-add-i : tie.Need-add-i Inv-loop μ-loop
-add-i c = search needs
-
-loop-less : tie.Need-loop-less Inv-loop μ-loop
-loop-less c = omega arith
-
 loop-again : tie.Need-loop-again Inv-loop μ-loop
 loop-again c = parsing-turn (c .before .before .before .pre) (c .before .loop-test .taken) (c .before .before .loop .inv)
 
@@ -48,5 +39,5 @@ returns c = parsing-end (c .loop-test .left) (c .before .loop .inv)
 pub value-of-spec : {M : Type 1} → statement M
 value-of-spec =
     tie.close
-    (tie.spec
-    Inv-loop μ-loop loop-holds mul-n shared-slice-read-n sub-n cast-n add-n add-i loop-less loop-again returns)
+    (tie.spec Inv-loop μ-loop loop-holds mul-n (λ c. omega arith) sub-n cast-n add-n
+    (λ c. search needs) (λ c. omega arith) loop-again returns)

@@ -10,15 +10,9 @@ use Rattle.rows.proofs.reader.is_fit.Tie as tie
 returns : tie.Need-returns
 returns c = sym (range-small _ _ (c .before .pre) (c .if1 .taken))
 
-cast-in-range : tie.Need-cast-in-range
-cast-in-range c = search needs
-
-in-range-requires : tie.Need-in-range-requires
-in-range-requires c κs = tt
-
 returns-2 : tie.Need-returns-2
 unfolding ranging
 returns-2 c = c .in-range .ensures ∙ rw (lt-ltb _ _ (c .before .before .pre))
 
 pub is-fit-spec : {M : Type 1} → statement M
-is-fit-spec = tie.close (tie.spec returns cast-in-range in-range-requires returns-2)
+is-fit-spec = tie.close (tie.spec returns (λ c. search needs) (λ c κs. tt) returns-2)

@@ -16,9 +16,6 @@ returns c = sym (short-row _ (c .if1 .taken))
 slice-aggregate-all-digits : tie.Need-slice-aggregate-all-digits
 slice-aggregate-all-digits c = rw length-take (omega (arith, c .before .if1 .left))
 
-all-digits-requires : tie.Need-all-digits-requires
-all-digits-requires c κs = tt
-
 returns-2 : tie.Need-returns-2
 unfolding isRow
 returns-2 c = rw (sym (c .before .all-digits .ensures) ∙ not-true _ (c .if2 .taken))
@@ -30,17 +27,8 @@ returns-3 : tie.Need-returns-3
 unfolding isRow
 returns-3 c = rw (sym (c .before .before .before .all-digits .ensures) ∙ not-false _ (c .before .before .if2 .left), ne-eqb _ 9 (c .if3 .taken))
 
-sub-is-number : tie.Need-sub-is-number
-sub-is-number c = search needs
-
 part-is-number-start : tie.Need-part-is-number-start
 part-is-number-start c = omega (arith, c .before .before .before .before .before .if1 .left)
-
-part-is-number-end : tie.Need-part-is-number-end
-part-is-number-end c = search needs
-
-is-number-requires : tie.Need-is-number-requires
-is-number-requires c κs = tt
 
 returns-4 : tie.Need-returns-4
 unfolding isRow
@@ -49,6 +37,5 @@ returns-4 c = c .is-number .ensures ∙ rw (sym (c .before .before .before .befo
 pub is-row-spec : {M : Type 1} → statement M
 is-row-spec =
     tie.close
-    (tie.spec
-    returns slice-aggregate-all-digits all-digits-requires returns-2 shared-slice-read-if3 returns-3 sub-is-number part-is-number-start
-    part-is-number-end is-number-requires returns-4)
+    (tie.spec returns slice-aggregate-all-digits (λ c κs. tt) returns-2 shared-slice-read-if3
+    returns-3 (λ c. search needs) part-is-number-start (λ c. search needs) (λ c κs. tt) returns-4)

@@ -11,15 +11,9 @@ use Rattle.rows.proofs.Ranges.{range-wide}
 use Rattle.rows.proofs.reader.judged.Statement.{statement}
 use Rattle.rows.proofs.reader.judged.Tie as tie
 
-setting-at-requires : tie.Need-setting-at-requires
-setting-at-requires c κs = tt
-
 returns : tie.Need-returns
 unfolding judgedAs
 returns c = rw (ne-eqb _ _ (λ e. c .if1 .taken (e ∙ sym (ap (λ (d : Setting). d .id) (c .before .before .setting-at .ensures)))))
-
-is-fit-requires : tie.Need-is-fit-requires
-is-fit-requires c κs = search needs
 
 returns-2 : tie.Need-returns-2
 unfolding judgedAs
@@ -41,4 +35,5 @@ returns-3 c =
 
 pub judged-spec : {M : Type 1} → statement M
 judged-spec =
-    tie.close (tie.spec setting-at-requires returns is-fit-requires returns-2 cast-t8 returns-3)
+    tie.close
+    (tie.spec (λ c κs. tt) returns (λ c κs. search needs) returns-2 cast-t8 returns-3)

@@ -21,17 +21,8 @@ abbrev μ-loop : tie.MeasureT-loop
 loop-holds : tie.Need-loop-holds Inv-loop μ-loop
 loop-holds c = (omega arith, omega arith)
 
-shared-slice-read-if1 : tie.Need-shared-slice-read-if1 Inv-loop μ-loop
-shared-slice-read-if1 c = omega arith
-
 returns : tie.Need-returns Inv-loop μ-loop
 returns c = sym (before-here _ _ (c .before .before .loop-test .taken) (λ b. eqb b newline) (eq-eqb _ _ (c .if1 .taken))) ∙ c .before .before .before .loop .inv .1
-
-add-i : tie.Need-add-i Inv-loop μ-loop
-add-i c = search needs
-
-loop-less : tie.Need-loop-less Inv-loop μ-loop
-loop-less c = omega arith
 
 loop-again : tie.Need-loop-again Inv-loop μ-loop
 loop-again c = (omega arith, before-turn _ _ (c .before .before .loop-test .taken) (λ b. eqb b newline) (ne-eqb _ _ (c .if1 .left)) ∙ c .before .before .before .loop .inv .1)
@@ -42,5 +33,5 @@ returns-2 c = sym (before-end (λ b. eqb b newline) _ _ (c .loop-test .left)) �
 pub line-len-spec : {M : Type 1} → statement M
 line-len-spec =
     tie.close
-    (tie.spec
-    Inv-loop μ-loop loop-holds shared-slice-read-if1 returns add-i loop-less loop-again returns-2)
+    (tie.spec Inv-loop μ-loop loop-holds (λ c. omega arith) returns (λ c. search needs)
+    (λ c. omega arith) loop-again returns-2)

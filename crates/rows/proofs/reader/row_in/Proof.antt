@@ -37,14 +37,8 @@ sub-value-of c = omega (arith, long (c .before .before .before .before .before .
 part-value-of-start : tie.Need-part-value-of-start
 part-value-of-start c = omega (arith, long (c .before .before .before .before .before .before))
 
-part-value-of-end : tie.Need-part-value-of-end
-part-value-of-end c = search needs
-
 value-of-requires : tie.Need-value-of-requires
 value-of-requires c κs = rw (part-to-end _ _ 5 refl) (row-number _ (c .before .before .before .before .before .before .before .pre))
-
-add-t17 : tie.Need-add-t17
-add-t17 c = search needs
 
 returns : tie.Need-returns
 returns c =
@@ -54,6 +48,6 @@ returns c =
 pub row-in-spec : {M : Type 1} → statement M
 row-in-spec =
     tie.close
-    (tie.spec
-    shared-slice-read-id-of shared-slice-read-id-of-2 shared-slice-read-id-of-3 shared-slice-read-id-of-4 id-of-requires sub-value-of
-    part-value-of-start part-value-of-end value-of-requires add-t17 returns)
+    (tie.spec shared-slice-read-id-of shared-slice-read-id-of-2 shared-slice-read-id-of-3
+    shared-slice-read-id-of-4 id-of-requires sub-value-of part-value-of-start (λ c. search needs)
+    value-of-requires (λ c. search needs) returns)

@@ -11,8 +11,4 @@ returns c = c .put-between .ensures
 pub put-good-spec : {M : Type 1} → statement M
 put-good-spec =
     tie.close
-    (tie.spec
-    (λ c. search needs)
-    (λ c. search needs)
-    (λ c κs. search needs)
-    returns)
+    (tie.spec (λ c. search needs) (λ c. search needs) (λ c κs. search needs) returns)

@@ -17,4 +17,7 @@ returns-2 c =
     rw (ne-eqb _ 0 (c .before .before .before .if1 .left)) (further _ _ _ (c4 .put-refused .ensures) (c .put-between .ensures))
 
 pub put-refusal-spec : {M : Type 1} → statement M
-put-refusal-spec = tie.close (tie.spec (λ c κs. search needs) returns (λ c. search needs) (λ c. search needs) (λ c κs. search needs) returns-2)
+put-refusal-spec =
+    tie.close
+    (tie.spec (λ c κs. search needs) returns (λ c. search needs) (λ c. search needs)
+    (λ c κs. search needs) returns-2)

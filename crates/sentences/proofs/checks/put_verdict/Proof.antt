@@ -12,4 +12,5 @@ returns-2 c = rw (c .before .before .verdict .given .1) (c .put-refusal .ensures
 pub put-verdict-spec : {M : Type 1} → statement M
 put-verdict-spec =
     tie.close
-    (tie.spec (λ c. search needs) (λ c κs. search needs) (λ c. search needs) (λ c κs. search needs) returns returns-2)
+    (tie.spec (λ c. search needs) (λ c κs. search needs) (λ c. search needs) (λ c κs. search needs)
+    returns returns-2)

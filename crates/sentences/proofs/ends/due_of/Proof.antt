@@ -12,4 +12,6 @@ returns-2 : tie.Need-returns-2
 returns-2 c = sets-are _ _ (c .before .before .before .pre) (sym (c .before .before .sets-due .ensures) ∙ c .enum-told .given .1)
 
 pub due-of-spec : {M : Type 1} → statement M
-due-of-spec = tie.close (tie.spec (λ c κs. search needs) (λ c. search needs) (λ c. search needs) returns returns-2)
+due-of-spec =
+    tie.close
+    (tie.spec (λ c κs. search needs) (λ c. search needs) (λ c. search needs) returns returns-2)

@@ -21,12 +21,5 @@ returns-2 c =
 pub put-confirmed-spec : {M : Type 1} → statement M
 put-confirmed-spec =
     tie.close
-    (tie.spec
-    (λ c κs. search needs)
-    (λ c κs. search needs)
-    returns
-    due-of-requires
-    (λ c. search needs)
-    (λ c. search needs)
-    (λ c κs. search needs)
-    returns-2)
+    (tie.spec (λ c κs. search needs) (λ c κs. search needs) returns due-of-requires
+    (λ c. search needs) (λ c. search needs) (λ c κs. search needs) returns-2)

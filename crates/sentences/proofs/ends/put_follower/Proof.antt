@@ -21,11 +21,5 @@ returns-2 c =
 pub put-follower-spec : {M : Type 1} → statement M
 put-follower-spec =
     tie.close
-    (tie.spec
-    (λ c κs. search needs)
-    (λ c κs. search needs)
-    returns
-    (λ c κs. search needs)
-    due-of-requires
-    (λ c κs. search needs)
-    returns-2)
+    (tie.spec (λ c κs. search needs) (λ c κs. search needs) returns (λ c κs. search needs)
+    due-of-requires (λ c κs. search needs) returns-2)

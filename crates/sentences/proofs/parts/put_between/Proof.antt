@@ -10,4 +10,6 @@ unfolding betweenText
 returns c = further _ _ _ (further _ _ _ (c .before .before .put .ensures) (c .before .put-number .ensures)) (c .put2 .ensures)
 
 pub put-between-spec : {M : Type 1} → statement M
-put-between-spec = tie.close (tie.spec (λ c κs. search needs) (λ c κs. search needs) (λ c κs. search needs) returns)
+put-between-spec =
+    tie.close
+    (tie.spec (λ c κs. search needs) (λ c κs. search needs) (λ c κs. search needs) returns)

@@ -16,4 +16,5 @@ returns-2 c = c .put-counts .ensures ∙ ap (adding _) (summed-good _ (sym (c .b
 pub put-sums-spec : {M : Type 1} → statement M
 put-sums-spec =
     tie.close
-    (tie.spec (λ c κs. search needs) (λ c κs. search needs) returns (λ c κs. search needs) returns-2)
+    (tie.spec (λ c κs. search needs) (λ c κs. search needs) returns (λ c κs. search needs)
+    returns-2)

@@ -18,4 +18,6 @@ returns c =
     rw (c .before .read-16 .ensures, all-first 2 value few) at (c .put-amount .ensures)
 
 pub put-narrow-spec : {M : Type 1} → statement M
-put-narrow-spec = tie.close (tie.spec (λ c κs. search needs) (λ c. search needs) (λ c κs. search needs) returns)
+put-narrow-spec =
+    tie.close
+    (tie.spec (λ c κs. search needs) (λ c. search needs) (λ c κs. search needs) returns)

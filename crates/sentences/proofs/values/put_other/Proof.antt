@@ -41,18 +41,6 @@ returns-3 c =
 pub put-other-spec : {M : Type 1} → statement M
 put-other-spec =
     tie.close
-    (tie.spec
-    (λ c. search needs)
-    (λ c. search needs)
-    put-wide-requires
-    returns
-    (λ c. search needs)
-    (λ c. search needs)
-    put-wide-requires-2
-    returns-2
-    (λ c κs. search needs)
-    (λ c. search needs)
-    (λ c. search needs)
-    (λ c. search needs)
-    (λ c κs. search needs)
-    returns-3)
+    (tie.spec (λ c. search needs) (λ c. search needs) put-wide-requires returns (λ c. search needs)
+    (λ c. search needs) put-wide-requires-2 returns-2 (λ c κs. search needs) (λ c. search needs)
+    (λ c. search needs) (λ c. search needs) (λ c κs. search needs) returns-3)

@@ -31,14 +31,6 @@ returns-3 c = rw (ne-eqb _ 0xED8D (c .before .before .if1 .left), ne-eqb _ 0xED8
 pub put-reading-spec : {M : Type 1} → statement M
 put-reading-spec =
     tie.close
-    (tie.spec
-    (λ c. search needs)
-    (λ c. search needs)
-    put-narrow-requires
-    returns
-    (λ c. search needs)
-    (λ c. search needs)
-    put-narrow-requires-2
-    returns-2
-    put-other-requires
+    (tie.spec (λ c. search needs) (λ c. search needs) put-narrow-requires returns
+    (λ c. search needs) (λ c. search needs) put-narrow-requires-2 returns-2 put-other-requires
     returns-3)

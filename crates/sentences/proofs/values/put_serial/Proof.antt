@@ -21,4 +21,5 @@ returns c =
 pub put-serial-spec : {M : Type 1} → statement M
 put-serial-spec =
     tie.close
-    (tie.spec (λ c κs. search needs) (λ c. search needs) (λ c κs. search needs) slice-aggregate-put-2 (λ c κs. search needs) returns)
+    (tie.spec (λ c κs. search needs) (λ c. search needs) (λ c κs. search needs)
+    slice-aggregate-put-2 (λ c κs. search needs) returns)

@@ -18,4 +18,6 @@ returns c =
     rw (c .before .read-32 .ensures, all-first 4 value few) at (c .put-amount .ensures)
 
 pub put-wide-spec : {M : Type 1} → statement M
-put-wide-spec = tie.close (tie.spec (λ c κs. search needs) (λ c. search needs) (λ c κs. search needs) returns)
+put-wide-spec =
+    tie.close
+    (tie.spec (λ c κs. search needs) (λ c. search needs) (λ c κs. search needs) returns)

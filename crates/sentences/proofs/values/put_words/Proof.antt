@@ -41,12 +41,5 @@ returns-4 c =
 pub put-words-spec : {M : Type 1} → statement M
 put-words-spec =
     tie.close
-    (tie.spec
-    put-product-requires
-    returns
-    (λ c κs. search needs)
-    returns-2
-    put-version-requires
-    returns-3
-    put-reading-requires
-    returns-4)
+    (tie.spec put-product-requires returns (λ c κs. search needs) returns-2 put-version-requires
+    returns-3 put-reading-requires returns-4)

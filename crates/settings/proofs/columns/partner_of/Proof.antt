@@ -7,21 +7,6 @@ use borrow.Author.Needs.{needs}
 use Rattle.settings.proofs.columns.partner_of.Statement.{statement}
 use Rattle.settings.proofs.columns.partner_of.Tie as tie
 
-mul-own : tie.Need-mul-own
-mul-own c = search needs
-
-array-read-own : tie.Need-array-read-own
-array-read-own c = search needs
-
-mul-partner : tie.Need-mul-partner
-mul-partner c = search needs
-
-array-read-partner : tie.Need-array-read-partner
-array-read-partner c = search needs
-
-add-result : tie.Need-add-result
-add-result c = search needs
-
 returns : tie.Need-returns
 returns c = add-one _ ∙ sym (partner-after _ (c .before .pre) (c .if1 .taken))
 
@@ -37,13 +22,5 @@ returns-3 c = sym (partner-self _ (c .before .before .pre) (c .before .if1 .left
 pub partner-of-spec : {M : Type 1} → statement M
 partner-of-spec =
     tie.close
-    (tie.spec
-    mul-own
-    array-read-own
-    mul-partner
-    array-read-partner
-    add-result
-    returns
-    sub-result
-    returns-2
-    returns-3)
+    (tie.spec (λ c. search needs) (λ c. search needs) (λ c. search needs) (λ c. search needs)
+    (λ c. search needs) returns sub-result returns-2 returns-3)

@@ -26,17 +26,8 @@ loop-holds : tie.Need-loop-holds Inv-loop μ-loop
 unfolding placeOf
 loop-holds c = (omega arith, omega arith)
 
-id-of-requires : tie.Need-id-of-requires Inv-loop μ-loop
-id-of-requires c κs = omega arith
-
 returns : tie.Need-returns Inv-loop μ-loop
 returns c = sym (before-here ids _ (within (c .before .before)) _ (eq-eqb _ _ (sym (c .before .id-of .ensures) ∙ c .if1 .taken))) ∙ c .before .before .before .loop .inv .1
-
-add-i : tie.Need-add-i Inv-loop μ-loop
-add-i c = omega arith
-
-loop-less : tie.Need-loop-less Inv-loop μ-loop
-loop-less c = omega arith
 
 loop-again : tie.Need-loop-again Inv-loop μ-loop
 loop-again c = (omega arith, before-turn ids _ (within (c .before .before)) _ (ne-eqb _ _ (λ e. c .if1 .left (c .before .id-of .ensures ∙ e))) ∙ c .before .before .before .loop .inv .1)
@@ -47,5 +38,5 @@ returns-2 c = sym (before-end _ ids _ (c .loop-test .left)) ∙ c .before .loop 
 pub place-of-spec : {M : Type 1} → statement M
 place-of-spec =
     tie.close
-    (tie.spec
-    Inv-loop μ-loop loop-holds id-of-requires returns add-i loop-less loop-again returns-2)
+    (tie.spec Inv-loop μ-loop loop-holds (λ c κs. omega arith) returns (λ c. omega arith)
+    (λ c. omega arith) loop-again returns-2)

@@ -4,14 +4,8 @@ use native.Mathlib.Omega.{arith}
 use Rattle.settings.proofs.columns.width_of.Statement.{statement}
 use Rattle.settings.proofs.columns.width_of.Tie as tie
 
-mul-result : tie.Need-mul-result
-mul-result c = omega arith
-
-array-read-result : tie.Need-array-read-result
-array-read-result c = omega arith
-
 returns : tie.Need-returns
 returns c = refl
 
 pub width-of-spec : {M : Type 1} → statement M
-width-of-spec = tie.close (tie.spec mul-result array-read-result returns)
+width-of-spec = tie.close (tie.spec (λ c. omega arith) (λ c. omega arith) returns)

@@ -8,30 +8,6 @@ use Rattle.settings.proofs.rules.agrees_by.Tie as tie
 enum-told : tie.Need-enum-told
 enum-told c = search needs
 
-enum-told-2 : tie.Need-enum-told-2
-enum-told-2 c = search needs
-
-low-agrees-requires : tie.Need-low-agrees-requires
-low-agrees-requires c κs = tt
-
-enum-told-3 : tie.Need-enum-told-3
-enum-told-3 c = search needs
-
-low-agrees-requires-2 : tie.Need-low-agrees-requires-2
-low-agrees-requires-2 c κs = tt
-
-enum-told-4 : tie.Need-enum-told-4
-enum-told-4 c = search needs
-
-high-agrees-requires : tie.Need-high-agrees-requires
-high-agrees-requires c κs = tt
-
-enum-told-5 : tie.Need-enum-told-5
-enum-told-5 c = search needs
-
-high-agrees-requires-2 : tie.Need-high-agrees-requires-2
-high-agrees-requires-2 c κs = tt
-
 returns : tie.Need-returns
 unfolding agrees
 returns c = rw (c .enum-told .given .1)
@@ -55,6 +31,6 @@ returns-5 c = c .high-agrees2 .ensures ∙ rw (c .before .enum-told5 .given .1)
 pub agrees-by-spec : {M : Type 1} → statement M
 agrees-by-spec =
     tie.close
-    (tie.spec
-    enum-told enum-told-2 low-agrees-requires enum-told-3 low-agrees-requires-2 enum-told-4 high-agrees-requires enum-told-5
-    high-agrees-requires-2 returns returns-2 returns-3 returns-4 returns-5)
+    (tie.spec enum-told (λ c. search needs) (λ c κs. tt) (λ c. search needs) (λ c κs. tt)
+    (λ c. search needs) (λ c κs. tt) (λ c. search needs) (λ c κs. tt) returns returns-2 returns-3
+    returns-4 returns-5)

@@ -15,41 +15,8 @@ Inv-loop numbers roles all₀ i₀ all i = (i ≤ count - 1) × (all ≡ upTo i 
 abbrev μ-loop : tie.MeasureT-loop
 μ-loop numbers roles all₀ i₀ all i = count - 1 - i
 
-roles-requires : tie.Need-roles-requires Inv-loop μ-loop
-roles-requires c κs = tt
-
 loop-holds : tie.Need-loop-holds Inv-loop μ-loop
 loop-holds c = (omega arith, refl)
-
-add-loop : tie.Need-add-loop Inv-loop μ-loop
-add-loop c = omega arith
-
-array-copy-out-role : tie.Need-array-copy-out-role Inv-loop μ-loop
-array-copy-out-role c = omega arith
-
-mul-agrees-next : tie.Need-mul-agrees-next Inv-loop μ-loop
-mul-agrees-next c = omega arith
-
-array-read-agrees-next : tie.Need-array-read-agrees-next Inv-loop μ-loop
-array-read-agrees-next c = omega arith
-
-add-agrees-next : tie.Need-add-agrees-next Inv-loop μ-loop
-add-agrees-next c = omega arith
-
-mul-agrees-next-2 : tie.Need-mul-agrees-next-2 Inv-loop μ-loop
-mul-agrees-next-2 c = omega arith
-
-array-read-agrees-next-2 : tie.Need-array-read-agrees-next-2 Inv-loop μ-loop
-array-read-agrees-next-2 c = omega arith
-
-agrees-next-requires : tie.Need-agrees-next-requires Inv-loop μ-loop
-agrees-next-requires c κs = tt
-
-add-i : tie.Need-add-i Inv-loop μ-loop
-add-i c = omega arith
-
-loop-less : tie.Need-loop-less Inv-loop μ-loop
-loop-less c = omega arith
 
 loop-again : tie.Need-loop-again Inv-loop μ-loop
 loop-again c =
@@ -64,20 +31,6 @@ returns c =
 pub all-agree-spec : {M : Type 1} → statement M
 all-agree-spec =
     tie.close
-    (tie.spec
-    Inv-loop
-    μ-loop
-    roles-requires
-    loop-holds
-    add-loop
-    array-copy-out-role
-    mul-agrees-next
-    array-read-agrees-next
-    add-agrees-next
-    mul-agrees-next-2
-    array-read-agrees-next-2
-    agrees-next-requires
-    add-i
-    loop-less
-    loop-again
-    returns)
+    (tie.spec Inv-loop μ-loop (λ c κs. tt) loop-holds (λ c. omega arith) (λ c. omega arith)
+    (λ c. omega arith) (λ c. omega arith) (λ c. omega arith) (λ c. omega arith) (λ c. omega arith)
+    (λ c κs. tt) (λ c. omega arith) (λ c. omega arith) loop-again returns)

@@ -18,47 +18,8 @@ Inv-loop numbers zeros lows highs all₀ i₀ all i = (i ≤ count) × (all ≡ 
 abbrev μ-loop : tie.MeasureT-loop
 μ-loop numbers zeros lows highs all₀ i₀ all i = count - i
 
-zeros-requires : tie.Need-zeros-requires Inv-loop μ-loop
-zeros-requires c κs = tt
-
-lows-requires : tie.Need-lows-requires Inv-loop μ-loop
-lows-requires c κs = tt
-
-highs-requires : tie.Need-highs-requires Inv-loop μ-loop
-highs-requires c κs = tt
-
 loop-holds : tie.Need-loop-holds Inv-loop μ-loop
 loop-holds c = (omega arith, refl)
-
-array-read-in-window : tie.Need-array-read-in-window Inv-loop μ-loop
-array-read-in-window c = omega arith
-
-mul-in-window : tie.Need-mul-in-window Inv-loop μ-loop
-mul-in-window c = omega arith
-
-array-read-in-window-2 : tie.Need-array-read-in-window-2 Inv-loop μ-loop
-array-read-in-window-2 c = omega arith
-
-mul-in-window-2 : tie.Need-mul-in-window-2 Inv-loop μ-loop
-mul-in-window-2 c = omega arith
-
-array-read-in-window-3 : tie.Need-array-read-in-window-3 Inv-loop μ-loop
-array-read-in-window-3 c = omega arith
-
-mul-in-window-3 : tie.Need-mul-in-window-3 Inv-loop μ-loop
-mul-in-window-3 c = omega arith
-
-array-read-in-window-4 : tie.Need-array-read-in-window-4 Inv-loop μ-loop
-array-read-in-window-4 c = omega arith
-
-in-window-requires : tie.Need-in-window-requires Inv-loop μ-loop
-in-window-requires c κs = tt
-
-add-i : tie.Need-add-i Inv-loop μ-loop
-add-i c = omega arith
-
-loop-less : tie.Need-loop-less Inv-loop μ-loop
-loop-less c = omega arith
 
 loop-again : tie.Need-loop-again Inv-loop μ-loop
 loop-again c =
@@ -71,22 +32,6 @@ returns c = let all : c .before .loop .i ≡ count = omega arith in rw all at (c
 pub all-in-range-spec : {M : Type 1} → statement M
 all-in-range-spec =
     tie.close
-    (tie.spec
-    Inv-loop
-    μ-loop
-    zeros-requires
-    lows-requires
-    highs-requires
-    loop-holds
-    array-read-in-window
-    mul-in-window
-    array-read-in-window-2
-    mul-in-window-2
-    array-read-in-window-3
-    mul-in-window-3
-    array-read-in-window-4
-    in-window-requires
-    add-i
-    loop-less
-    loop-again
-    returns)
+    (tie.spec Inv-loop μ-loop (λ c κs. tt) (λ c κs. tt) (λ c κs. tt) loop-holds (λ c. omega arith)
+    (λ c. omega arith) (λ c. omega arith) (λ c. omega arith) (λ c. omega arith) (λ c. omega arith)
+    (λ c. omega arith) (λ c κs. tt) (λ c. omega arith) (λ c. omega arith) loop-again returns)

@@ -4,15 +4,6 @@ use Rattle.settings.specs.Rules.{allowedFor}
 use Rattle.settings.proofs.rules.allowed_for.Statement.{statement}
 use Rattle.settings.proofs.rules.allowed_for.Tie as tie
 
-in-range-requires : tie.Need-in-range-requires
-in-range-requires c κs = omega arith
-
-role-of-requires : tie.Need-role-of-requires
-role-of-requires c κs = omega arith
-
-agrees-by-requires : tie.Need-agrees-by-requires
-agrees-by-requires c κs = tt
-
 returns : tie.Need-returns
 unfolding allowedFor
 returns c = rw (c .before .before .in-range .ensures, c .agrees-by .ensures, c .before .role-of .ensures)
@@ -20,5 +11,4 @@ returns c = rw (c .before .before .in-range .ensures, c .agrees-by .ensures, c .
 pub allowed-for-spec : {M : Type 1} → statement M
 allowed-for-spec =
     tie.close
-    (tie.spec
-    in-range-requires role-of-requires agrees-by-requires returns)
+    (tie.spec (λ c κs. omega arith) (λ c κs. omega arith) (λ c κs. tt) returns)

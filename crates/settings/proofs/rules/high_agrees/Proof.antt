@@ -9,7 +9,4 @@ unfolding highAgrees
 returns c = refl
 
 pub high-agrees-spec : {M : Type 1} → statement M
-high-agrees-spec =
-    tie.close
-    (tie.spec
-    returns)
+high-agrees-spec = tie.close (tie.spec returns)

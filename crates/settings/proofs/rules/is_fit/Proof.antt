@@ -5,9 +5,6 @@ use Rattle.settings.proofs.Rows.{partner-below}
 use Rattle.settings.proofs.rules.is_fit.Statement.{statement}
 use Rattle.settings.proofs.rules.is_fit.Tie as tie
 
-partner-of-requires : tie.Need-partner-of-requires
-partner-of-requires c κs = omega arith
-
 in-range-requires : tie.Need-in-range-requires
 in-range-requires c κs = rw (c .partner-of .ensures) (partner-below _ (c .before .pre))
 
@@ -16,7 +13,4 @@ unfolding partnerFits
 returns c = rw (c .in-range .ensures, c .before .partner-of .ensures)
 
 pub is-fit-spec : {M : Type 1} → statement M
-is-fit-spec =
-    tie.close
-    (tie.spec
-    partner-of-requires in-range-requires returns)
+is-fit-spec = tie.close (tie.spec (λ c κs. omega arith) in-range-requires returns)

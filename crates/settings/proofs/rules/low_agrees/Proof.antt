@@ -9,7 +9,4 @@ unfolding lowAgrees
 returns c = refl
 
 pub low-agrees-spec : {M : Type 1} → statement M
-low-agrees-spec =
-    tie.close
-    (tie.spec
-    returns)
+low-agrees-spec = tie.close (tie.spec returns)

@@ -13,7 +13,4 @@ returns-3 : tie.Need-returns-3
 returns-3 c = row-wished _ _ _ (c .before .before .pre) (c .before .if1 .left) (c .if2 .left)
 
 pub clamped-spec : {M : Type 1} → statement M
-clamped-spec =
-    tie.close
-    (tie.spec
-    returns returns-2 returns-3)
+clamped-spec = tie.close (tie.spec returns returns-2 returns-3)

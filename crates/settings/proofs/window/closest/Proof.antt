@@ -12,12 +12,6 @@ returns c =
     let only : window .zero ≡ true = window-none (window .zero) (window .low) (window .high) (c .if1 .taken) (c .before .before .pre) in
     rw only (only-zero _ _ _ (c .if1 .taken))
 
-clamped-requires : tie.Need-clamped-requires
-clamped-requires c κs = omega arith
-
-or-zero-requires : tie.Need-or-zero-requires
-or-zero-requires c κs = tt
-
 returns-2 : tie.Need-returns-2
 returns-2 c = rw (c .before .if2 .taken, c .or-zero .ensures) (with-zero _ _ _ _ (c .before .before .clamped .ensures))
 
@@ -25,7 +19,4 @@ returns-3 : tie.Need-returns-3
 returns-3 c = rw (c .if2 .left) (c .before .clamped .ensures)
 
 pub closest-spec : {M : Type 1} → statement M
-closest-spec =
-    tie.close
-    (tie.spec
-    returns clamped-requires or-zero-requires returns-2 returns-3)
+closest-spec = tie.close (tie.spec returns (λ c κs. omega arith) (λ c κs. tt) returns-2 returns-3)

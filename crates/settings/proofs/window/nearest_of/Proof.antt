@@ -20,7 +20,4 @@ returns c =
     nearest-one _ _ _ _ (nearest-same _ _ (c .before .window-of .ensures) _ _ (c .closest .ensures)) (nearest-found _ _ _ (pre .0) (pre .1) (omega arith))
 
 pub nearest-of-spec : {M : Type 1} → statement M
-nearest-of-spec =
-    tie.close
-    (tie.spec
-    window-of-requires closest-requires returns)
+nearest-of-spec = tie.close (tie.spec window-of-requires closest-requires returns)

@@ -6,9 +6,6 @@ use Rattle.settings.specs.Rules.{distance}
 use Rattle.settings.proofs.window.or_zero.Statement.{statement}
 use Rattle.settings.proofs.window.or_zero.Tie as tie
 
-distance-of-requires : tie.Need-distance-of-requires
-distance-of-requires c κs = tt
-
 returns : tie.Need-returns
 returns c =
     let s = c .before .before in
@@ -22,7 +19,4 @@ returns-2 c =
     simp (lt-leb _ _ far)
 
 pub or-zero-spec : {M : Type 1} → statement M
-or-zero-spec =
-    tie.close
-    (tie.spec
-    distance-of-requires returns returns-2)
+or-zero-spec = tie.close (tie.spec (λ c κs. tt) returns returns-2)

@@ -8,44 +8,8 @@ use Rattle.settings.proofs.Windows.{own-window, most-window, least-wind
 use Rattle.settings.proofs.window.window_of.Statement.{statement}
 use Rattle.settings.proofs.window.window_of.Tie as tie
 
-zero-of-requires : tie.Need-zero-of-requires
-zero-of-requires c κs = omega arith
-
-low-of-requires : tie.Need-low-of-requires
-low-of-requires c κs = omega arith
-
-high-of-requires : tie.Need-high-of-requires
-high-of-requires c κs = omega arith
-
-role-of-requires : tie.Need-role-of-requires
-role-of-requires c κs = omega arith
-
 enum-told : tie.Need-enum-told
 enum-told c = search needs
-
-enum-told-2 : tie.Need-enum-told-2
-enum-told-2 c = search needs
-
-at-most-requires : tie.Need-at-most-requires
-at-most-requires c κs = tt
-
-enum-told-3 : tie.Need-enum-told-3
-enum-told-3 c = search needs
-
-at-least-requires : tie.Need-at-least-requires
-at-least-requires c κs = tt
-
-enum-told-4 : tie.Need-enum-told-4
-enum-told-4 c = search needs
-
-at-least-requires-2 : tie.Need-at-least-requires-2
-at-least-requires-2 c κs = tt
-
-enum-told-5 : tie.Need-enum-told-5
-enum-told-5 c = search needs
-
-at-most-requires-2 : tie.Need-at-most-requires-2
-at-most-requires-2 c κs = tt
 
 returns : tie.Need-returns
 returns c =
@@ -93,7 +57,7 @@ returns-5 c =
 pub window-of-spec : {M : Type 1} → statement M
 window-of-spec =
     tie.close
-    (tie.spec
-    zero-of-requires low-of-requires high-of-requires role-of-requires enum-told enum-told-2 at-most-requires enum-told-3
-    at-least-requires enum-told-4 at-least-requires-2 enum-told-5 at-most-requires-2 returns returns-2 returns-3 returns-4
-    returns-5)
+    (tie.spec (λ c κs. omega arith) (λ c κs. omega arith) (λ c κs. omega arith)
+    (λ c κs. omega arith) enum-told (λ c. search needs) (λ c κs. tt) (λ c. search needs)
+    (λ c κs. tt) (λ c. search needs) (λ c κs. tt) (λ c. search needs) (λ c κs. tt) returns returns-2
+    returns-3 returns-4 returns-5)

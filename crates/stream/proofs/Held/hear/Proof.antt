@@ -7,26 +7,14 @@ use Rattle.stream.proofs.Answers.{hearing-short, hearing-stray, hearing
 use Rattle.stream.proofs.Held.hear.Statement.{statement}
 use Rattle.stream.proofs.Held.hear.Tie as tie
 
-refused-requires : tie.Need-refused-requires
-refused-requires c κs = tt
-
 returns : tie.Need-returns
 returns c = rw (c .refused .ensures) (gives-none _ (hearing-short _ _ _ (c .before .if1 .taken)))
-
-is-allowed-requires : tie.Need-is-allowed-requires
-is-allowed-requires c κs = tt
-
-refused-requires-2 : tie.Need-refused-requires-2
-refused-requires-2 c κs = tt
 
 returns-2 : tie.Need-returns-2
 returns-2 c = rw (c .refused2 .ensures) (gives-none _ (hearing-stray _ _ _ (c .before .before .before .if1 .left) (sym (c .before .before .is-allowed .ensures) ∙ not-true _ (c .before .if2 .taken))))
 
 heard-requires : tie.Need-heard-requires
 heard-requires c κs = (sym (c .before .before .is-allowed .ensures) ∙ not-false _ (c .before .if2 .left), search needs)
-
-same-length : tie.Need-same-length
-same-length c = search needs
 
 returns-3 : tie.Need-returns-3
 returns-3 c =
@@ -38,5 +26,5 @@ returns-3 c =
 pub hear-spec : {M : Type 1} → statement M
 hear-spec =
     tie.close
-    (tie.spec
-    refused-requires returns is-allowed-requires refused-requires-2 returns-2 heard-requires same-length returns-3)
+    (tie.spec (λ c κs. tt) returns (λ c κs. tt) (λ c κs. tt) returns-2 heard-requires
+    (λ c. search needs) returns-3)

@@ -9,7 +9,4 @@ unfolding heldOf noChars
 returns c = search needs
 
 pub outside-spec : {M : Type 1} → statement M
-outside-spec =
-    tie.close
-    (tie.spec
-    returns)
+outside-spec = tie.close (tie.spec returns)

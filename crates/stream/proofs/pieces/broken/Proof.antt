@@ -10,7 +10,4 @@ returns-2 : tie.Need-returns-2
 returns-2 c = rw (broken-short _ (c .if1 .left))
 
 pub broken-spec : {M : Type 1} → statement M
-broken-spec =
-    tie.close
-    (tie.spec
-    returns returns-2)
+broken-spec = tie.close (tie.spec returns returns-2)

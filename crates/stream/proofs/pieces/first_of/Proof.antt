@@ -17,12 +17,6 @@ Inv-loop piece one other i₀ i = (i ≤ length piece) × (i + before (λ b. eqb
 abbrev μ-loop : tie.MeasureT-loop
 μ-loop piece one other i₀ i = length piece - i
 
-loop-holds : tie.Need-loop-holds Inv-loop μ-loop
-loop-holds c = search needs
-
-shared-slice-read-b : tie.Need-shared-slice-read-b Inv-loop μ-loop
-shared-slice-read-b c = search needs
-
 returns : tie.Need-returns Inv-loop μ-loop
 returns c = sym (before-here _ _ (c .before .before .loop-test .taken) _ (simp (eq-eqb _ _ (c .if1 .taken)))) ∙ c .before .before .before .loop .inv .1
 
@@ -30,12 +24,6 @@ returns-2 : tie.Need-returns-2 Inv-loop μ-loop
 returns-2 c =
     let c4 = c .before .before .before .before in
     sym (before-here _ _ (c .before .before .before .loop-test .taken) _ (simp (ne-eqb _ _ (c .before .if1 .left), eq-eqb _ _ (c .if2 .taken)))) ∙ c4 .loop .inv .1
-
-add-i : tie.Need-add-i Inv-loop μ-loop
-add-i c = search needs
-
-loop-less : tie.Need-loop-less Inv-loop μ-loop
-loop-less c = search needs
 
 loop-again : tie.Need-loop-again Inv-loop μ-loop
 loop-again c =
@@ -48,5 +36,5 @@ returns-3 c = sym (before-end _ _ _ (c .loop-test .left)) ∙ c .before .loop .i
 pub first-of-spec : {M : Type 1} → statement M
 first-of-spec =
     tie.close
-    (tie.spec
-    Inv-loop μ-loop loop-holds shared-slice-read-b returns returns-2 add-i loop-less loop-again returns-3)
+    (tie.spec Inv-loop μ-loop (λ c. search needs) (λ c. search needs) returns returns-2
+    (λ c. search needs) (λ c. search needs) loop-again returns-3)

@@ -20,12 +20,6 @@ short c = rw (c .first-of .ensures) (before-first endsFrame (c .before .before .
 some : (c : tie.Else1) → c .before .first-of .result < length (c .before .before .before .before .args .piece .now)
 some c = omega (arith, short (c .before))
 
-first-of-requires : tie.Need-first-of-requires
-first-of-requires c κs = search needs
-
-begun-requires : tie.Need-begun-requires
-begun-requires c κs = search needs
-
 with-more-requires : tie.Need-with-more-requires
 with-more-requires c κs = rw (c .begun .ensures) (allowed-inside [] refl, unfold heldOf in refl)
 
@@ -39,12 +33,6 @@ add-taken c = omega (arith, some c)
 shared-slice-read-if2 : tie.Need-shared-slice-read-if2
 shared-slice-read-if2 c = some (c .before)
 
-begun-requires-2 : tie.Need-begun-requires-2
-begun-requires-2 c κs = search needs
-
-broken-requires : tie.Need-broken-requires
-broken-requires c κs = search needs
-
 returns-2 : tie.Need-returns-2
 returns-2 c =
     let c4 = c .before .before .before .before in
@@ -54,18 +42,6 @@ slice-aggregate-read-chars : tie.Need-slice-aggregate-read-chars
 slice-aggregate-read-chars c =
     let c4 = c .before .before .before .before in
     rw length-take (omega (arith, short c4))
-
-read-chars-requires : tie.Need-read-chars-requires
-read-chars-requires c κs = search needs
-
-outside-requires : tie.Need-outside-requires
-outside-requires c κs = search needs
-
-event-of-requires : tie.Need-event-of-requires
-event-of-requires c κs = search needs
-
-same-length : tie.Need-same-length
-same-length c = search needs
 
 returns-3 : tie.Need-returns-3
 returns-3 c =
@@ -79,19 +55,7 @@ returns-3 c =
 pub fresh-spec : {M : Type 1} → statement M
 fresh-spec =
     tie.close
-    (tie.spec
-    first-of-requires
-    begun-requires
-    with-more-requires
-    returns
-    add-taken
-    shared-slice-read-if2
-    begun-requires-2
-    broken-requires
-    returns-2
-    slice-aggregate-read-chars
-    read-chars-requires
-    outside-requires
-    event-of-requires
-    same-length
-    returns-3)
+    (tie.spec (λ c κs. search needs) (λ c κs. search needs) with-more-requires returns add-taken
+    shared-slice-read-if2 (λ c κs. search needs) (λ c κs. search needs) returns-2
+    slice-aggregate-read-chars (λ c κs. search needs) (λ c κs. search needs) (λ c κs. search needs)
+    (λ c. search needs) returns-3)

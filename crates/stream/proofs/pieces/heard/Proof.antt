@@ -35,18 +35,6 @@ found c =
 within : (c : tie.After-fresh) → c .fresh .result .taken ≤ length (drop (c .before .before .before .before .first-of .result + 1) (c .before .before .before .before .before .before .before .before .args .piece .now))
 within c = rw (found c .answered) (taken-within (inside []) _)
 
-in-frame-requires : tie.Need-in-frame-requires
-in-frame-requires c κs = search needs
-
-same-length : tie.Need-same-length
-same-length c = omega arith
-
-returns : tie.Need-returns
-returns c = search needs
-
-first-of-requires : tie.Need-first-of-requires
-first-of-requires c κs = omega arith
-
 returns-2 : tie.Need-returns-2
 returns-2 c =
     let c5 = c .before .before .before .before .before in
@@ -61,12 +49,6 @@ sub-fresh c = omega (arith, some c)
 part-fresh-start : tie.Need-part-fresh-start
 part-fresh-start c = omega (arith, some c)
 
-part-fresh-end : tie.Need-part-fresh-end
-part-fresh-end c = omega arith
-
-fresh-requires : tie.Need-fresh-requires
-fresh-requires c κs = search needs
-
 add-t11 : tie.Need-add-t11
 add-t11 c =
     let c6 = c .before .before .before .before .before .before in
@@ -77,9 +59,6 @@ add-t14 c =
     let c4 = c .before .before .before .before in
     let c7 = c4 .before .before .before in
     omega (arith, some c7, rw length-drop at (within c4))
-
-same-length-2 : tie.Need-same-length-2
-same-length-2 c = omega arith
 
 returns-3 : tie.Need-returns-3
 returns-3 c =
@@ -93,6 +72,6 @@ returns-3 c =
 pub heard-spec : {M : Type 1} → statement M
 heard-spec =
     tie.close
-    (tie.spec
-    in-frame-requires same-length returns first-of-requires returns-2 add-fresh sub-fresh part-fresh-start part-fresh-end fresh-requires add-t11
-    add-t14 same-length-2 returns-3)
+    (tie.spec (λ c κs. search needs) (λ c. omega arith) (λ c. search needs) (λ c κs. omega arith)
+    returns-2 add-fresh sub-fresh part-fresh-start (λ c. omega arith) (λ c κs. search needs) add-t11
+    add-t14 (λ c. omega arith) returns-3)

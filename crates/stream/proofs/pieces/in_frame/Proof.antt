@@ -20,14 +20,8 @@ some c = omega (arith, short (c .before .before .before))
 kept : (c : tie.After-with-more) → c .with-more .result .len ≤ length (c .with-more .result .chars)
 kept c = rw (c .with-more .ensures) (held-fits _)
 
-first-of-requires : tie.Need-first-of-requires
-first-of-requires c κs = omega arith
-
 slice-aggregate-with-more : tie.Need-slice-aggregate-with-more
 slice-aggregate-with-more c = rw length-take (omega (arith, short (c .before)))
-
-with-more-requires : tie.Need-with-more-requires
-with-more-requires c κs = search needs
 
 returns : tie.Need-returns
 returns c =
@@ -39,12 +33,6 @@ add-taken c = omega (arith, some c)
 
 shared-slice-read-if2 : tie.Need-shared-slice-read-if2
 shared-slice-read-if2 c = some (c .before)
-
-begun-requires : tie.Need-begun-requires
-begun-requires c κs = omega arith
-
-broken-requires : tie.Need-broken-requires
-broken-requires c κs = omega arith
 
 returns-2 : tie.Need-returns-2
 returns-2 c =
@@ -65,18 +53,6 @@ slice-aggregate-read-chars c =
     let c5 = c .before .before .before .before .before in
     rw length-take (omega (arith, kept c5))
 
-read-chars-requires : tie.Need-read-chars-requires
-read-chars-requires c κs = omega arith
-
-outside-requires : tie.Need-outside-requires
-outside-requires c κs = omega arith
-
-event-of-requires : tie.Need-event-of-requires
-event-of-requires c κs = omega arith
-
-same-length : tie.Need-same-length
-same-length c = omega arith
-
 returns-3 : tie.Need-returns-3
 returns-3 c =
     let c4 = c .before .before .before .before in
@@ -93,7 +69,7 @@ returns-3 c =
 pub in-frame-spec : {M : Type 1} → statement M
 in-frame-spec =
     tie.close
-    (tie.spec
-    first-of-requires slice-aggregate-with-more with-more-requires returns add-taken shared-slice-read-if2 begun-requires
-    broken-requires returns-2 array-share-prefix-chars slice-aggregate-read-chars read-chars-requires outside-requires
-    event-of-requires same-length returns-3)
+    (tie.spec (λ c κs. omega arith) slice-aggregate-with-more (λ c κs. search needs) returns
+    add-taken shared-slice-read-if2 (λ c κs. omega arith) (λ c κs. omega arith) returns-2
+    array-share-prefix-chars slice-aggregate-read-chars (λ c κs. omega arith) (λ c κs. omega arith)
+    (λ c κs. omega arith) (λ c. omega arith) returns-3)

@@ -9,7 +9,4 @@ unfolding heldOf noChars
 returns c = search needs
 
 pub begun-spec : {M : Type 1} → statement M
-begun-spec =
-    tie.close
-    (tie.spec
-    returns)
+begun-spec = tie.close (tie.spec returns)

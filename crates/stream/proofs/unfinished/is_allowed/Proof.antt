@@ -21,9 +21,6 @@ somewhere c = sym (c .before .inside-or-empty .ensures) ∙ not-false _ (c .if2 
 returns : tie.Need-returns
 returns c = sym (allowed-many _ (c .if1 .taken))
 
-inside-or-empty-requires : tie.Need-inside-or-empty-requires
-inside-or-empty-requires c κs = omega arith
-
 returns-2 : tie.Need-returns-2
 returns-2 c = sym (allowed-stray _ (c .before .before .if1 .left) (sym (c .before .inside-or-empty .ensures) ∙ not-true _ (c .if2 .taken)))
 
@@ -37,19 +34,10 @@ slice-aggregate-all-stay c =
     let c5 = c .before .before .before .before .before in
     rw length-take (omega (arith, chars-long c5))
 
-all-stay-requires : tie.Need-all-stay-requires
-all-stay-requires c κs = omega arith
-
-part-all-zero-start : tie.Need-part-all-zero-start
-part-all-zero-start c = omega arith
-
 part-all-zero-end : tie.Need-part-all-zero-end
 part-all-zero-end c =
     let c8 = c .before .before .before .before .before .before .before .before in
     omega (arith, chars-long c8)
-
-all-zero-requires : tie.Need-all-zero-requires
-all-zero-requires c κs = omega arith
 
 returns-3 : tie.Need-returns-3
 returns-3 c =
@@ -69,6 +57,6 @@ returns-4 c =
 pub is-allowed-spec : {M : Type 1} → statement M
 is-allowed-spec =
     tie.close
-    (tie.spec
-    returns inside-or-empty-requires returns-2 array-share-prefix-chars slice-aggregate-all-stay all-stay-requires
-    part-all-zero-start part-all-zero-end all-zero-requires returns-3 returns-4)
+    (tie.spec returns (λ c κs. omega arith) returns-2 array-share-prefix-chars
+    slice-aggregate-all-stay (λ c κs. omega arith) (λ c. omega arith) part-all-zero-end
+    (λ c κs. omega arith) returns-3 returns-4)

@@ -10,7 +10,4 @@ returns-2 : tie.Need-returns-2
 returns-2 c = simp (ne-eqb _ _ (c .if1 .left))
 
 pub stays-in-spec : {M : Type 1} → statement M
-stays-in-spec =
-    tie.close
-    (tie.spec
-    returns returns-2)
+stays-in-spec = tie.close (tie.spec returns returns-2)

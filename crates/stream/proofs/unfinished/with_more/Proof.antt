@@ -18,9 +18,6 @@ few c = allowed-few _ (c .pre .0)
 sub-least : tie.Need-sub-least
 sub-least c = few (c .before .before)
 
-least-requires : tie.Need-least-requires
-least-requires c κs = omega arith
-
 slice-aggregate-copy : tie.Need-slice-aggregate-copy
 slice-aggregate-copy c = rw length-take (omega (arith, c .before .least .ensures))
 
@@ -44,9 +41,6 @@ copy-requires c κs =
     let c5 = c .before .before .before .before .before in
     rw (length-take, length-take, length-drop) (omega (arith, c .before .before .least .ensures, chars-long c5))
 
-add-t6 : tie.Need-add-t6
-add-t6 c = omega arith
-
 returns : tie.Need-returns
 returns c =
     let c4 = c .before .before .before .before in
@@ -56,5 +50,5 @@ returns c =
 pub with-more-spec : {M : Type 1} → statement M
 with-more-spec =
     tie.close
-    (tie.spec
-    sub-least least-requires slice-aggregate-copy sub-copy part-chars-start part-chars-end copy-requires add-t6 returns)
+    (tie.spec sub-least (λ c κs. omega arith) slice-aggregate-copy sub-copy part-chars-start
+    part-chars-end copy-requires (λ c. omega arith) returns)

@@ -3,12 +3,9 @@ use Rattle.tables.specs.Rules.{allowed}
 use Rattle.tables.proofs.Table.is_allowed.Statement.{statement}
 use Rattle.tables.proofs.Table.is_allowed.Tie as tie
 
-all-allowed-requires : tie.Need-all-allowed-requires
-all-allowed-requires c κs = tt
-
 returns : tie.Need-returns
 unfolding allowed
 returns c = rw (c .all-allowed .ensures)
 
 pub is-allowed-spec : {M : Type 1} → statement M
-is-allowed-spec = tie.close (tie.spec all-allowed-requires returns)
+is-allowed-spec = tie.close (tie.spec (λ c κs. tt) returns)

@@ -12,29 +12,14 @@ use Rattle.tables.proofs.Table.set.Tie as tie
 ok : (c : tie.Else1) → allowed (c .before .before .args .self) ≡ true
 ok c = sym (c .before .is-allowed .ensures) ∙ not-false _ (c .if1 .left)
 
-is-allowed-requires : tie.Need-is-allowed-requires
-is-allowed-requires c κs = tt
-
-refused-requires : tie.Need-refused-requires
-refused-requires c κs = tt
-
 returns : tie.Need-returns
 returns c = c .refused .ensures ∙ sym (set-stray _ _ _ (sym (c .before .before .is-allowed .ensures) ∙ not-true _ (c .before .if1 .taken)))
-
-at-requires : tie.Need-at-requires
-at-requires c κs = tt
-
-enum-known-found : tie.Need-enum-known-found
-enum-known-found c = search needs
 
 set-found-requires : tie.Need-set-found-requires
 set-found-requires c κs = (ok (c .before .before .before .before), found-again _ _ (sym (c .before .before .before .at .ensures) ∙ c .before .found .given .1))
 
 enum-told : tie.Need-enum-told
 enum-told c = search needs
-
-refused-requires-2 : tie.Need-refused-requires-2
-refused-requires-2 c κs = tt
 
 returns-2 : tie.Need-returns-2
 returns-2 c = c .set-found .ensures ∙ rw (found-index _ _ (sym (c .before .before .before .before .at .ensures) ∙ c .before .before .found .given .1))
@@ -46,6 +31,5 @@ returns-3 c =
 pub set-spec : {M : Type 1} → statement M
 set-spec =
     tie.close
-    (tie.spec
-    is-allowed-requires refused-requires returns at-requires enum-known-found set-found-requires enum-told refused-requires-2 returns-2
-    returns-3)
+    (tie.spec (λ c κs. tt) (λ c κs. tt) returns (λ c κs. tt) (λ c. search needs) set-found-requires
+    enum-told (λ c κs. tt) returns-2 returns-3)

@@ -3,11 +3,8 @@ use borrow.Author.Needs.{needs}
 use Rattle.tally.proofs.Tally.nothing.Statement.{statement}
 use Rattle.tally.proofs.Tally.nothing.Tie as tie
 
-tally-of-requires : tie.Need-tally-of-requires
-tally-of-requires c κs = search needs
-
 returns : tie.Need-returns
 returns c = c .tally-of .ensures
 
 pub nothing-spec : {M : Type 1} → statement M
-nothing-spec = tie.close (tie.spec tally-of-requires returns)
+nothing-spec = tie.close (tie.spec (λ c κs. search needs) returns)

@@ -6,33 +6,6 @@ use Rattle.tally.proofs.share.ended_as.Tie as tie
 enum-told : tie.Need-enum-told
 enum-told c = search needs
 
-tally-of-requires : tie.Need-tally-of-requires
-tally-of-requires c κs = search needs
-
-enum-told-2 : tie.Need-enum-told-2
-enum-told-2 c = search needs
-
-tally-of-requires-2 : tie.Need-tally-of-requires-2
-tally-of-requires-2 c κs = search needs
-
-enum-told-3 : tie.Need-enum-told-3
-enum-told-3 c = search needs
-
-tally-of-requires-3 : tie.Need-tally-of-requires-3
-tally-of-requires-3 c κs = search needs
-
-enum-told-4 : tie.Need-enum-told-4
-enum-told-4 c = search needs
-
-stopped-as-requires : tie.Need-stopped-as-requires
-stopped-as-requires c κs = search needs
-
-enum-told-5 : tie.Need-enum-told-5
-enum-told-5 c = search needs
-
-tally-of-requires-4 : tie.Need-tally-of-requires-4
-tally-of-requires-4 c κs = search needs
-
 returns : tie.Need-returns
 returns c = rw (c .tally-of .ensures, c .before .enum-told .given .1)
 
@@ -51,19 +24,6 @@ returns-5 c = rw (c .tally-of4 .ensures, c .before .enum-told5 .given .1)
 pub ended-as-spec : {M : Type 1} → statement M
 ended-as-spec =
     tie.close
-    (tie.spec
-    enum-told
-    tally-of-requires
-    enum-told-2
-    tally-of-requires-2
-    enum-told-3
-    tally-of-requires-3
-    enum-told-4
-    stopped-as-requires
-    enum-told-5
-    tally-of-requires-4
-    returns
-    returns-2
-    returns-3
-    returns-4
-    returns-5)
+    (tie.spec enum-told (λ c κs. search needs) (λ c. search needs) (λ c κs. search needs)
+    (λ c. search needs) (λ c κs. search needs) (λ c. search needs) (λ c κs. search needs)
+    (λ c. search needs) (λ c κs. search needs) returns returns-2 returns-3 returns-4 returns-5)

@@ -3,11 +3,8 @@ use borrow.Author.Needs.{needs}
 use Rattle.tally.proofs.share.share_of.Statement.{statement}
 use Rattle.tally.proofs.share.share_of.Tie as tie
 
-ended-as-requires : tie.Need-ended-as-requires
-ended-as-requires c κs = search needs
-
 returns : tie.Need-returns
 returns c = rw (c .ended-as .ensures)
 
 pub share-of-spec : {M : Type 1} → statement M
-share-of-spec = tie.close (tie.spec ended-as-requires returns)
+share-of-spec = tie.close (tie.spec (λ c κs. search needs) returns)

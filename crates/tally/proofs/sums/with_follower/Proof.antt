@@ -15,35 +15,14 @@ fit c = sym (ended-fits _ _ (c .before .before .before .told .ensures) _) ∙ sy
 share : (c : tie.After-share-of) → c .share-of .result ≡ shareOf (restored (c .before .before .before .before .before .before .before .before .args .follower) (c .before .before .before .before .before .before .before .before .args .answered))
 share c = c .share-of .ensures ∙ share-is _ _ (c .before .before .before .before .before .before .before .told .ensures) _ (fit (c .before .before .before .before)) _ (sym (c .before .before .before .before .sets-due .ensures) ∙ c .before .before .sets .given .1)
 
-told-requires : tie.Need-told-requires
-told-requires c κs = search needs
-
-has-ended-requires : tie.Need-has-ended-requires
-has-ended-requires c κs = search needs
-
-refused-requires : tie.Need-refused-requires
-refused-requires c κs = search needs
-
 returns : tie.Need-returns
 returns c = c .refused .ensures ∙ counting-unfit _ _ (sym (ended-fits _ _ (c .before .before .before .told .ensures) _) ∙ sym (c .before .before .has-ended .ensures) ∙ not-true _ (c .before .if1 .taken))
-
-sets-due-requires : tie.Need-sets-due-requires
-sets-due-requires c κs = search needs
-
-enum-known-sets : tie.Need-enum-known-sets
-enum-known-sets c = search needs
-
-share-of-requires : tie.Need-share-of-requires
-share-of-requires c κs = search needs
 
 with-share-requires : tie.Need-with-share-requires
 with-share-requires c κs = rw (share c) (share-within _ _ (fit (c .before .before .before .before)))
 
 enum-told : tie.Need-enum-told
 enum-told c = search needs
-
-refused-requires-2 : tie.Need-refused-requires-2
-refused-requires-2 c κs = search needs
 
 returns-2 : tie.Need-returns-2
 returns-2 c = rw (c .with-share .ensures, share (c .before)) (counting-share _ _ (fit (c .before .before .before .before .before)))
@@ -54,16 +33,6 @@ returns-3 c = absurd (never-refused _ _ (c .before .before .before .before .befo
 pub with-follower-spec : {M : Type 1} → statement M
 with-follower-spec =
     tie.close
-    (tie.spec
-    told-requires
-    has-ended-requires
-    refused-requires
-    returns
-    sets-due-requires
-    enum-known-sets
-    share-of-requires
-    with-share-requires
-    enum-told
-    refused-requires-2
-    returns-2
-    returns-3)
+    (tie.spec (λ c κs. search needs) (λ c κs. search needs) (λ c κs. search needs) returns
+    (λ c κs. search needs) (λ c. search needs) (λ c κs. search needs) with-share-requires enum-told
+    (λ c κs. search needs) returns-2 returns-3)

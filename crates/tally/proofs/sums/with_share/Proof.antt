@@ -6,20 +6,11 @@ use Rattle.tally.proofs.Counting.{within-of}
 use Rattle.tally.proofs.sums.with_share.Statement.{statement}
 use Rattle.tally.proofs.sums.with_share.Tie as tie
 
-is-allowed-requires : tie.Need-is-allowed-requires
-is-allowed-requires c κs = search needs
-
-refused-requires : tie.Need-refused-requires
-refused-requires c κs = search needs
-
 returns : tie.Need-returns
 returns c = rw (c .refused .ensures, sym (c .before .before .is-allowed .ensures) ∙ not-true _ (c .before .if1 .taken))
 
 plus-requires : tie.Need-plus-requires
 plus-requires c κs = (within-of _ (sym (c .before .is-allowed .ensures) ∙ not-false _ (c .if1 .left)), c .before .before .pre)
-
-accepted-requires : tie.Need-accepted-requires
-accepted-requires c κs = search needs
 
 returns-2 : tie.Need-returns-2
 returns-2 c =
@@ -29,10 +20,5 @@ returns-2 c =
 pub with-share-spec : {M : Type 1} → statement M
 with-share-spec =
     tie.close
-    (tie.spec
-    is-allowed-requires
-    refused-requires
-    returns
-    plus-requires
-    accepted-requires
-    returns-2)
+    (tie.spec (λ c κs. search needs) (λ c κs. search needs) returns plus-requires
+    (λ c κs. search needs) returns-2)

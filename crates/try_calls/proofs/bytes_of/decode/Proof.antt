@@ -12,69 +12,10 @@ Inv-loop form text into₀ len₀ at₀ into len at = (at ≤ length text) × (l
 abbrev μ-loop : tie.MeasureT-loop
 μ-loop form text into₀ len₀ at₀ into len at = length text - at
 
-loop-holds : tie.Need-loop-holds Inv-loop μ-loop
-loop-holds c = omega arith
-
-sub-first-of : tie.Need-sub-first-of Inv-loop μ-loop
-sub-first-of c = omega arith
-
-part-first-of-start : tie.Need-part-first-of-start Inv-loop μ-loop
-part-first-of-start c = omega arith
-
-part-first-of-end : tie.Need-part-first-of-end Inv-loop μ-loop
-part-first-of-end c = omega arith
-
-first-of-requires : tie.Need-first-of-requires Inv-loop μ-loop
-first-of-requires c κs = search needs
-
-returns : tie.Need-returns Inv-loop μ-loop
-returns c = search needs
-
-sub-if2 : tie.Need-sub-if2 Inv-loop μ-loop
-sub-if2 c = omega arith
-
-returns-2 : tie.Need-returns-2 Inv-loop μ-loop
-returns-2 c = search needs
-
-returns-3 : tie.Need-returns-3 Inv-loop μ-loop
-returns-3 c = search needs
-
-element-write-into : tie.Need-element-write-into Inv-loop μ-loop
-element-write-into c = omega arith
-
-add-len : tie.Need-add-len Inv-loop μ-loop
-add-len c = omega arith
-
-add-at : tie.Need-add-at Inv-loop μ-loop
-add-at c = omega arith
-
-loop-less : tie.Need-loop-less Inv-loop μ-loop
-loop-less c = omega arith
-
-loop-again : tie.Need-loop-again Inv-loop μ-loop
-loop-again c = omega arith
-
-returns-4 : tie.Need-returns-4 Inv-loop μ-loop
-returns-4 c = search needs
-
 pub decode-spec : {M : Type 1} → statement M
 decode-spec =
     tie.close
-    (tie.spec
-    Inv-loop
-    μ-loop
-    loop-holds
-    sub-first-of
-    part-first-of-start
-    part-first-of-end
-    first-of-requires
-    returns
-    sub-if2
-    returns-2
-    returns-3
-    element-write-into
-    add-len
-    add-at
-    loop-less
-    loop-again
-    returns-4)
+    (tie.spec Inv-loop μ-loop (λ c. omega arith) (λ c. omega arith) (λ c. omega arith)
+    (λ c. omega arith) (λ c κs. search needs) (λ c. search needs) (λ c. omega arith)
+    (λ c. search needs) (λ c. search needs) (λ c. omega arith) (λ c. omega arith) (λ c. omega arith)
+    (λ c. omega arith) (λ c. omega arith) (λ c. search needs))

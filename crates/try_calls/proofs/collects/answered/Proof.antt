@@ -11,25 +11,8 @@ Inv-loop place asking₀ i₀ asking i = Unit {0}
 abbrev μ-loop : tie.MeasureT-loop
 μ-loop place asking₀ i₀ asking i = place - i
 
-loop-holds : tie.Need-loop-holds Inv-loop μ-loop
-loop-holds c = tt
-
-truly-requires : tie.Need-truly-requires Inv-loop μ-loop
-truly-requires c κs = search needs
-
-add-i : tie.Need-add-i Inv-loop μ-loop
-add-i c = omega arith
-
-loop-less : tie.Need-loop-less Inv-loop μ-loop
-loop-less c = omega arith
-
-loop-again : tie.Need-loop-again Inv-loop μ-loop
-loop-again c = tt
-
-returns : tie.Need-returns Inv-loop μ-loop
-returns c = search needs
-
 pub answered-spec : {M : Type 1} → statement M
 answered-spec =
     tie.close
-    (tie.spec Inv-loop μ-loop loop-holds truly-requires add-i loop-less loop-again returns)
+    (tie.spec Inv-loop μ-loop (λ c. tt) (λ c κs. search needs) (λ c. omega arith) (λ c. omega arith)
+    (λ c. tt) (λ c. search needs))

@@ -1,6 +1,6 @@
 -- What equals itself is a number, so it has bits. Assumes nothing.
 use mathlib.Core.Path.{_≡_}
-use mathlib.Core.Bool.{true, false, not, false≢true}
+use mathlib.Core.Bool.{true, not, false≢true}
 use borrow.Author.Needs.{needs}
 use lib.Dec.{T}
 use lib.Ieee.{Float, nan, inf, fin, eq, isNan}
@@ -13,31 +13,11 @@ number-is nan e = absurd (false≢true e)
 number-is (inf s) e = tt
 number-is (fin s m e) h = tt
 
-say-requires : tie.Need-say-requires
-say-requires c κs = search needs
-
 float-to-bits-print-hex : tie.Need-float-to-bits-print-hex
 float-to-bits-print-hex c = number-is _ (c .if1 .taken)
-
-print-hex-requires : tie.Need-print-hex-requires
-print-hex-requires c κs = search needs
-
-returns : tie.Need-returns
-returns c = search needs
-
-say-requires-2 : tie.Need-say-requires-2
-say-requires-2 c κs = search needs
-
-returns-2 : tie.Need-returns-2
-returns-2 c = search needs
 
 pub measured-spec : {M : Type 1} → statement M
 measured-spec =
     tie.close
-    (tie.spec
-    say-requires
-    float-to-bits-print-hex
-    print-hex-requires
-    returns
-    say-requires-2
-    returns-2)
+    (tie.spec (λ c κs. search needs) float-to-bits-print-hex (λ c κs. search needs)
+    (λ c. search needs) (λ c κs. search needs) (λ c. search needs))

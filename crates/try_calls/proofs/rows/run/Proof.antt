@@ -12,49 +12,9 @@ Inv-loop input at₀ at = Unit {0}
 abbrev μ-loop : tie.MeasureT-loop
 μ-loop input at₀ at = length input - at
 
-loop-holds : tie.Need-loop-holds Inv-loop μ-loop
-loop-holds c = tt
-
-find-requires : tie.Need-find-requires Inv-loop μ-loop
-find-requires c κs = search needs
-
-sub-obeys : tie.Need-sub-obeys Inv-loop μ-loop
-sub-obeys c = omega arith
-
-part-obeys-start : tie.Need-part-obeys-start Inv-loop μ-loop
-part-obeys-start c = omega arith
-
-part-obeys-end : tie.Need-part-obeys-end Inv-loop μ-loop
-part-obeys-end c = omega arith
-
-obeys-requires : tie.Need-obeys-requires Inv-loop μ-loop
-obeys-requires c κs = search needs
-
-add-at : tie.Need-add-at Inv-loop μ-loop
-add-at c = omega arith
-
-loop-less : tie.Need-loop-less Inv-loop μ-loop
-loop-less c = omega arith
-
-loop-again : tie.Need-loop-again Inv-loop μ-loop
-loop-again c = tt
-
-returns : tie.Need-returns Inv-loop μ-loop
-returns c = search needs
-
 pub run-spec : {M : Type 1} → statement M
 run-spec =
     tie.close
-    (tie.spec
-    Inv-loop
-    μ-loop
-    loop-holds
-    find-requires
-    sub-obeys
-    part-obeys-start
-    part-obeys-end
-    obeys-requires
-    add-at
-    loop-less
-    loop-again
-    returns)
+    (tie.spec Inv-loop μ-loop (λ c. tt) (λ c κs. search needs) (λ c. omega arith) (λ c. omega arith)
+    (λ c. omega arith) (λ c κs. search needs) (λ c. omega arith) (λ c. omega arith) (λ c. tt)
+    (λ c. search needs))

@@ -11,26 +11,8 @@ Inv-loop text numbers used₀ i₀ used i = Unit {0}
 abbrev μ-loop : tie.MeasureT-loop
 μ-loop text numbers used₀ i₀ used i = length text - i
 
-loop-holds : tie.Need-loop-holds Inv-loop μ-loop
-loop-holds c = tt
-
-shared-slice-read-part : tie.Need-shared-slice-read-part Inv-loop μ-loop
-shared-slice-read-part c = omega arith
-
-part-requires : tie.Need-part-requires Inv-loop μ-loop
-part-requires c κs = tt
-
-add-i : tie.Need-add-i Inv-loop μ-loop
-add-i c = omega arith
-
-loop-less : tie.Need-loop-less Inv-loop μ-loop
-loop-less c = omega arith
-
-loop-again : tie.Need-loop-again Inv-loop μ-loop
-loop-again c = tt
-
-returns : tie.Need-returns Inv-loop μ-loop
-returns c = tt
-
 pub text-spec : {M : Type 1} → statement M
-text-spec = tie.close (tie.spec Inv-loop μ-loop loop-holds shared-slice-read-part part-requires add-i loop-less loop-again returns)
+text-spec =
+    tie.close
+    (tie.spec Inv-loop μ-loop (λ c. tt) (λ c. omega arith) (λ c κs. tt) (λ c. omega arith)
+    (λ c. omega arith) (λ c. tt) (λ c. tt))

@@ -19,4 +19,6 @@ unfolding sightOf
 returns-2 c = rw (sym (c .before .is-waiting .ensures) ∙ c .if1 .left)
 
 pub by-spec : {M : Type 1} → statement M
-by-spec = tie.close (tie.spec (λ c κs. search needs) id-at-requires (λ c κs. search needs) returns returns-2)
+by-spec =
+    tie.close
+    (tie.spec (λ c κs. search needs) id-at-requires (λ c κs. search needs) returns returns-2)

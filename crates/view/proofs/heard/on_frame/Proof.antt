@@ -27,15 +27,6 @@ returns-3 c = heeded-is _ _ _ _ _ (sym (c .before .before .heed .ensures) ∙ c 
 pub on-frame-spec : {M : Type 1} → statement M
 on-frame-spec =
     tie.close
-    (tie.spec
-    (λ c κs. search needs)
-    (λ c. search needs)
-    (λ c. search needs)
-    sub-on-value
-    part-on-value-start
-    (λ c. search needs)
-    (λ c κs. search needs)
-    (λ c. search needs)
-    returns
-    returns-2
-    returns-3)
+    (tie.spec (λ c κs. search needs) (λ c. search needs) (λ c. search needs) sub-on-value
+    part-on-value-start (λ c. search needs) (λ c κs. search needs) (λ c. search needs) returns
+    returns-2 returns-3)

@@ -11,4 +11,6 @@ returns-2 : tie.Need-returns-2
 returns-2 c = named-fits _ _ (c .before .before .named .ensures) (c .enum-told2 .given .1)
 
 pub fits-spec : {M : Type 1} → statement M
-fits-spec = tie.close (tie.spec (λ c κs. search needs) (λ c. search needs) (λ c. search needs) returns returns-2)
+fits-spec =
+    tie.close
+    (tie.spec (λ c κs. search needs) (λ c. search needs) (λ c. search needs) returns returns-2)

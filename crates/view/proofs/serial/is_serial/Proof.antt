@@ -18,4 +18,7 @@ returns c =
     rw (c .before .fits2 .ensures, c .width-of .ensures, c .before .before .before .find .ensures .0 ∙ zero-found (now (c4 .before .args .value)))
 
 pub is-serial-spec : {M : Type 1} → statement M
-is-serial-spec = tie.close (tie.spec (λ c κs. search needs) slice-aggregate-fits (λ c κs. search needs) (λ c κs. search needs) returns)
+is-serial-spec =
+    tie.close
+    (tie.spec (λ c κs. search needs) slice-aggregate-fits (λ c κs. search needs)
+    (λ c κs. search needs) returns)

@@ -19,4 +19,7 @@ returns c =
     rw (c4 .answers .ensures .0, c .before .before .shows .ensures .0, c .quiet .ensures)
 
 pub moved-spec : {M : Type 1} → statement M
-moved-spec = tie.close (tie.spec (λ c κs. search needs) add-t4 (λ c κs. search needs) add-t6 (λ c κs. search needs) returns)
+moved-spec =
+    tie.close
+    (tie.spec (λ c κs. search needs) add-t4 (λ c κs. search needs) add-t6 (λ c κs. search needs)
+    returns)

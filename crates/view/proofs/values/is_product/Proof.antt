@@ -14,5 +14,4 @@ unfolding productFits
 returns-2 c = rw (eq-eqb _ 4 (c .before .before .if1 .left))
 
 pub is-product-spec : {M : Type 1} → statement M
-is-product-spec =
-    tie.close (tie.spec returns (λ c. search needs) (λ c. search needs) returns-2)
+is-product-spec = tie.close (tie.spec returns (λ c. search needs) (λ c. search needs) returns-2)

@@ -20,4 +20,5 @@ returns-3 c = rw (ne-eqb _ 0x0100 (c .before .before .if1 .left), ne-eqb _ 0x010
 pub is-understood-spec : {M : Type 1} → statement M
 is-understood-spec =
     tie.close
-    (tie.spec (λ c κs. search needs) returns (λ c κs. search needs) returns-2 (λ c κs. search needs) returns-3)
+    (tie.spec (λ c κs. search needs) returns (λ c κs. search needs) returns-2 (λ c κs. search needs)
+    returns-3)

@@ -5,12 +5,6 @@ use Rattle.who.proofs.Identities.{serial-short, named-refused, named-ac
 use Rattle.who.proofs.Identity.named.Statement.{statement}
 use Rattle.who.proofs.Identity.named.Tie as tie
 
-serial-fits-requires : tie.Need-serial-fits-requires
-serial-fits-requires c κs = tt
-
-nobody-requires : tie.Need-nobody-requires
-nobody-requires c κs = tt
-
 returns : tie.Need-returns
 returns c = rw (c .nobody .ensures) (sym (named-refused _ _ _ (sym (c .before .before .serial-fits .ensures) ∙ not-true _ (c .before .if1 .taken))))
 
@@ -21,6 +15,4 @@ returns-2 : tie.Need-returns-2
 returns-2 c = rw (c .identity-of .ensures) (sym (named-accepted _ _ _ (sym (c .before .before .serial-fits .ensures) ∙ not-false _ (c .before .if1 .left))))
 
 pub named-spec : {M : Type 1} → statement M
-named-spec =
-    tie.close
-    (tie.spec serial-fits-requires nobody-requires returns identity-of-requires returns-2)
+named-spec = tie.close (tie.spec (λ c κs. tt) (λ c κs. tt) returns identity-of-requires returns-2)

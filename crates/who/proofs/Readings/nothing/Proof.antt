@@ -7,7 +7,4 @@ returns : tie.Need-returns
 returns c = refl
 
 pub nothing-spec : {M : Type 1} → statement M
-nothing-spec =
-    tie.close
-    (tie.spec
-    returns)
+nothing-spec = tie.close (tie.spec returns)

@@ -4,12 +4,9 @@ use borrow.Author.Needs.{needs}
 use Rattle.who.proofs.names.identity_of.Statement.{statement}
 use Rattle.who.proofs.names.identity_of.Tie as tie
 
-front-requires : tie.Need-front-requires
-front-requires c κs = search needs
-
 returns : tie.Need-returns
 unfolding identityOf
 returns c = rw (c .front .ensures)
 
 pub identity-of-spec : {M : Type 1} → statement M
-identity-of-spec = tie.close (tie.spec front-requires returns)
+identity-of-spec = tie.close (tie.spec (λ c κs. search needs) returns)

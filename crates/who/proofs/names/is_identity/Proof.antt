@@ -22,19 +22,10 @@ array-share-prefix-serial c = omega (arith, serial-long (c .before .before))
 slice-aggregate-all-within : tie.Need-slice-aggregate-all-within
 slice-aggregate-all-within c = rw length-take (omega (arith, serial-long (c .before .before .before)))
 
-all-within-requires : tie.Need-all-within-requires
-all-within-requires c κs = tt
-
-part-all-within-start : tie.Need-part-all-within-start
-part-all-within-start c = search needs
-
 part-all-within-end : tie.Need-part-all-within-end
 part-all-within-end c =
     let c5 = c .before .before .before .before .before in
     omega (arith, serial-long c5)
-
-all-within-requires-2 : tie.Need-all-within-requires-2
-all-within-requires-2 c κs = tt
 
 returns-2 : tie.Need-returns-2
 unfolding identityAllowed serialOf
@@ -46,6 +37,5 @@ returns-2 c =
 pub is-identity-spec : {M : Type 1} → statement M
 is-identity-spec =
     tie.close
-    (tie.spec
-    returns array-share-prefix-serial slice-aggregate-all-within all-within-requires part-all-within-start part-all-within-end
-    all-within-requires-2 returns-2)
+    (tie.spec returns array-share-prefix-serial slice-aggregate-all-within (λ c κs. tt)
+    (λ c. search needs) part-all-within-end (λ c κs. tt) returns-2)

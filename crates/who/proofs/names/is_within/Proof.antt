@@ -7,7 +7,4 @@ returns : tie.Need-returns
 returns c = refl
 
 pub is-within-spec : {M : Type 1} → statement M
-is-within-spec =
-    tie.close
-    (tie.spec
-    returns)
+is-within-spec = tie.close (tie.spec returns)

@@ -10,7 +10,4 @@ unfolding noIdentity identityOf frontOf overlaid
 returns c = refl
 
 pub nobody-spec : {M : Type 1} → statement M
-nobody-spec =
-    tie.close
-    (tie.spec
-    returns)
+nobody-spec = tie.close (tie.spec returns)

@@ -23,68 +23,8 @@ fine-fits s = search needs
 consumed-fits : (s : tie.Start) → SFits w32 (s .args .readings .consumed)
 consumed-fits s = search needs
 
-product-value-requires : tie.Need-product-value-requires
-product-value-requires c κs = tt
-
-found-requires : tie.Need-found-requires
-found-requires c κs = tt
-
 serial-value-requires : tie.Need-serial-value-requires
 serial-value-requires c κs = c .before .pre
-
-found-requires-2 : tie.Need-found-requires-2
-found-requires-2 c κs = tt
-
-two-requires : tie.Need-two-requires
-two-requires c κs = tt
-
-found-requires-3 : tie.Need-found-requires-3
-found-requires-3 c κs = tt
-
-complement-16-requires : tie.Need-complement-16-requires
-complement-16-requires c κs = tt
-
-two-requires-2 : tie.Need-two-requires-2
-two-requires-2 c κs = tt
-
-found-requires-4 : tie.Need-found-requires-4
-found-requires-4 c κs = tt
-
-complement-16-requires-2 : tie.Need-complement-16-requires-2
-complement-16-requires-2 c κs = tt
-
-two-requires-3 : tie.Need-two-requires-3
-two-requires-3 c κs = tt
-
-found-requires-5 : tie.Need-found-requires-5
-found-requires-5 c κs = tt
-
-complement-32-requires : tie.Need-complement-32-requires
-complement-32-requires c κs = tt
-
-four-requires : tie.Need-four-requires
-four-requires c κs = tt
-
-found-requires-6 : tie.Need-found-requires-6
-found-requires-6 c κs = tt
-
-complement-32-requires-2 : tie.Need-complement-32-requires-2
-complement-32-requires-2 c κs = tt
-
-four-requires-2 : tie.Need-four-requires-2
-four-requires-2 c κs = tt
-
-found-requires-7 : tie.Need-found-requires-7
-found-requires-7 c κs = tt
-
-two-requires-4 : tie.Need-two-requires-4
-two-requires-4 c κs = tt
-
-found-requires-8 : tie.Need-found-requires-8
-found-requires-8 c κs = tt
-
-refused-requires : tie.Need-refused-requires
-refused-requires c κs = tt
 
 returns : tie.Need-returns
 unfolding readOnly lookedOf
@@ -148,8 +88,8 @@ returns-9 c =
 pub looked-spec : {M : Type 1} → statement M
 looked-spec =
     tie.close
-    (tie.spec
-    product-value-requires found-requires serial-value-requires found-requires-2 two-requires found-requires-3
-    complement-16-requires two-requires-2 found-requires-4 complement-16-requires-2 two-requires-3 found-requires-5
-    complement-32-requires four-requires found-requires-6 complement-32-requires-2 four-requires-2 found-requires-7 two-requires-4
-    found-requires-8 refused-requires returns returns-2 returns-3 returns-4 returns-5 returns-6 returns-7 returns-8 returns-9)
+    (tie.spec (λ c κs. tt) (λ c κs. tt) serial-value-requires (λ c κs. tt) (λ c κs. tt) (λ c κs. tt)
+    (λ c κs. tt) (λ c κs. tt) (λ c κs. tt) (λ c κs. tt) (λ c κs. tt) (λ c κs. tt) (λ c κs. tt)
+    (λ c κs. tt) (λ c κs. tt) (λ c κs. tt) (λ c κs. tt) (λ c κs. tt) (λ c κs. tt) (λ c κs. tt)
+    (λ c κs. tt) returns returns-2 returns-3 returns-4 returns-5 returns-6 returns-7 returns-8
+    returns-9)

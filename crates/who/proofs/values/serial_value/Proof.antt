@@ -10,9 +10,6 @@ use Rattle.who.proofs.values.serial_value.Tie as tie
 long : (s : tie.Start) → length (s .args .identity .serial) ≡ 32
 long s = search needs
 
-add-t5 : tie.Need-add-t5
-add-t5 c = search needs
-
 returns : tie.Need-returns
 returns c = rw add-one (sym (serial-short-value _ (long (c .before .before)) (c .before .before .pre) (c .if1 .taken)))
 
@@ -20,7 +17,4 @@ returns-2 : tie.Need-returns-2
 returns-2 c = sym (serial-full-value _ (long (c .before .before)) (c .before .before .pre) (c .if1 .left))
 
 pub serial-value-spec : {M : Type 1} → statement M
-serial-value-spec =
-    tie.close
-    (tie.spec
-    add-t5 returns returns-2)
+serial-value-spec = tie.close (tie.spec (λ c. search needs) returns returns-2)

@@ -4,12 +4,9 @@ use borrow.Author.Needs.{needs}
 use Rattle.who.proofs.values.value_of.Statement.{statement}
 use Rattle.who.proofs.values.value_of.Tie as tie
 
-front-requires : tie.Need-front-requires
-front-requires c κs = search needs
-
 returns : tie.Need-returns
 unfolding valueOf
 returns c = rw (c .front .ensures)
 
 pub value-of-spec : {M : Type 1} → statement M
-value-of-spec = tie.close (tie.spec front-requires returns)
+value-of-spec = tie.close (tie.spec (λ c κs. search needs) returns)

@@ -4,14 +4,8 @@ use Rattle.wire.proofs.Nibbles.{nibble-bits}
 use Rattle.wire.proofs.digits.nibble_of.Statement.{statement}
 use Rattle.wire.proofs.digits.nibble_of.Tie as tie
 
-mul-result : tie.Need-mul-result
-mul-result c = search needs
-
-add-result : tie.Need-add-result
-add-result c = search needs
-
 returns : tie.Need-returns
 returns c = nibble-bits _ (c .pre)
 
 pub nibble-of-spec : {M : Type 1} → statement M
-nibble-of-spec = tie.close (tie.spec mul-result add-result returns)
+nibble-of-spec = tie.close (tie.spec (λ c. search needs) (λ c. search needs) returns)

@@ -16,18 +16,6 @@ abbrev μ-loop : tie.MeasureT-loop
 loop-holds : tie.Need-loop-holds Inv-loop μ-loop
 loop-holds c = seen-start
 
-shared-slice-read-is-digit : tie.Need-shared-slice-read-is-digit Inv-loop μ-loop
-shared-slice-read-is-digit c = search needs
-
-is-digit-requires : tie.Need-is-digit-requires Inv-loop μ-loop
-is-digit-requires c κs = tt
-
-add-i : tie.Need-add-i Inv-loop μ-loop
-add-i c = search needs
-
-loop-less : tie.Need-loop-less Inv-loop μ-loop
-loop-less c = search needs
-
 loop-again : tie.Need-loop-again Inv-loop μ-loop
 loop-again c = rw (c .is-digit .ensures) (seen-turn (c .before .before .loop-test .taken) (c .before .before .before .loop .inv))
 
@@ -37,5 +25,5 @@ returns c = seen-end (c .loop-test .left) (c .before .loop .inv)
 pub all-digits-spec : {M : Type 1} → statement M
 all-digits-spec =
     tie.close
-    (tie.spec
-    Inv-loop μ-loop loop-holds shared-slice-read-is-digit is-digit-requires add-i loop-less loop-again returns)
+    (tie.spec Inv-loop μ-loop loop-holds (λ c. search needs) (λ c κs. tt) (λ c. search needs)
+    (λ c. search needs) loop-again returns)

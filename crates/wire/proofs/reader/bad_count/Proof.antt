@@ -10,7 +10,4 @@ returns-2 : tie.Need-returns-2
 returns-2 c = simp (le-ltb _ _ (c .if1 .left))
 
 pub bad-count-spec : {M : Type 1} → statement M
-bad-count-spec =
-    tie.close
-    (tie.spec
-    returns returns-2)
+bad-count-spec = tie.close (tie.spec returns returns-2)

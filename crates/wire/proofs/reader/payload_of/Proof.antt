@@ -17,33 +17,6 @@ Inv-loop chars payload₀ i₀ payload i = (2 * i ≤ length chars) × (length p
 abbrev μ-loop : tie.MeasureT-loop
 μ-loop chars payload₀ i₀ payload i = length chars - 2 * i
 
-loop-holds : tie.Need-loop-holds Inv-loop μ-loop
-loop-holds c = search needs
-
-mul-loop : tie.Need-mul-loop Inv-loop μ-loop
-mul-loop c = omega arith
-
-add-loop : tie.Need-add-loop Inv-loop μ-loop
-add-loop c = omega arith
-
-mul-byte-of : tie.Need-mul-byte-of Inv-loop μ-loop
-mul-byte-of c = omega arith
-
-add-byte-of : tie.Need-add-byte-of Inv-loop μ-loop
-add-byte-of c = omega arith
-
-shared-slice-read-byte-of : tie.Need-shared-slice-read-byte-of Inv-loop μ-loop
-shared-slice-read-byte-of c = omega arith
-
-mul-byte-of-2 : tie.Need-mul-byte-of-2 Inv-loop μ-loop
-mul-byte-of-2 c = omega arith
-
-add-byte-of-2 : tie.Need-add-byte-of-2 Inv-loop μ-loop
-add-byte-of-2 c = omega arith
-
-shared-slice-read-byte-of-2 : tie.Need-shared-slice-read-byte-of-2 Inv-loop μ-loop
-shared-slice-read-byte-of-2 c = omega arith
-
 byte-of-requires : tie.Need-byte-of-requires Inv-loop μ-loop
 byte-of-requires c κs =
     let c5 = c .before .before .before .before .before in
@@ -51,15 +24,6 @@ byte-of-requires c κs =
     let chars = c5 .args .chars .now in
     let digits = c5 .pre .1 in
     (nibble-at chars digits (2 * i + 1) (omega arith), nibble-at chars digits (2 * i + 2) (omega arith))
-
-array-write-payload : tie.Need-array-write-payload Inv-loop μ-loop
-array-write-payload c = omega arith
-
-add-i : tie.Need-add-i Inv-loop μ-loop
-add-i c = omega arith
-
-loop-less : tie.Need-loop-less Inv-loop μ-loop
-loop-less c = omega arith
 
 loop-again : tie.Need-loop-again Inv-loop μ-loop
 loop-again c =
@@ -72,6 +36,7 @@ returns c = (c .before .loop .inv .1, payload-front _ _ (c .loop-test .left) (c 
 pub payload-of-spec : {M : Type 1} → statement M
 payload-of-spec =
     tie.close
-    (tie.spec
-    Inv-loop μ-loop loop-holds mul-loop add-loop mul-byte-of add-byte-of shared-slice-read-byte-of mul-byte-of-2 add-byte-of-2
-    shared-slice-read-byte-of-2 byte-of-requires array-write-payload add-i loop-less loop-again returns)
+    (tie.spec Inv-loop μ-loop (λ c. search needs) (λ c. omega arith) (λ c. omega arith)
+    (λ c. omega arith) (λ c. omega arith) (λ c. omega arith) (λ c. omega arith) (λ c. omega arith)
+    (λ c. omega arith) byte-of-requires (λ c. omega arith) (λ c. omega arith) (λ c. omega arith)
+    loop-again returns)

@@ -19,9 +19,6 @@ use Rattle.wire.proofs.reader.read_digits.Tie as tie
 many : (c : tie.Start) → 3 ≤ length (c .args .chars .now)
 many c = odd-count (length (c .args .chars .now)) (c .pre .2) .0
 
-payload-of-requires : tie.Need-payload-of-requires
-payload-of-requires c κs = search needs
-
 shared-slice-read-nibble-of : tie.Need-shared-slice-read-nibble-of
 shared-slice-read-nibble-of c =
     let c4 = c .before .before .before .before in
@@ -32,20 +29,8 @@ nibble-of-requires c κs =
     let c4 = c .before .before .before .before in
     nibble-at (c4 .args .chars .now) (c4 .pre .1) 0 (omega (arith, many c4))
 
-cast-if1 : tie.Need-cast-if1
-cast-if1 c = omega arith
-
-array-share-prefix-payload : tie.Need-array-share-prefix-payload
-array-share-prefix-payload c = omega arith
-
 slice-aggregate-sum-of : tie.Need-slice-aggregate-sum-of
 slice-aggregate-sum-of c = rw length-take (omega (arith, c .before .before .before .payload-of .ensures .0))
-
-sum-of-requires : tie.Need-sum-of-requires
-sum-of-requires c κs = omega arith
-
-add-if1 : tie.Need-add-if1
-add-if1 c = omega arith
 
 -- the sum as it was taken is that of the whole payload
 sums : (c : tie.After-sum-of) → (c .before .before .nibble-of .result + c .sum-of .result) % 256 ≡ (commandOf (c .before .before .before .before .before .before .before .args .chars .now) + sumOf (payloadOf (c .before .before .before .before .before .before .before .args .chars .now))) % 256
@@ -65,9 +50,6 @@ sub-payload c =
     let c8 = c .before .before .before .before .before .before .before .before in
     omega (arith, many c8)
 
-array-share-prefix-payload-2 : tie.Need-array-share-prefix-payload-2
-array-share-prefix-payload-2 c = omega arith
-
 slice-aggregate-copy : tie.Need-slice-aggregate-copy
 slice-aggregate-copy c =
     let c6 = c .before .before .before .before .before .before in
@@ -82,9 +64,6 @@ sub-t14 : tie.Need-sub-t14
 sub-t14 c =
     let c13 = c .before .before .before .before .before .before .before .before .before .before .before .before .before in
     omega (arith, many c13)
-
-same-length : tie.Need-same-length
-same-length c = omega arith
 
 returns-2 : tie.Need-returns-2
 returns-2 c =
@@ -101,7 +80,7 @@ returns-2 c =
 pub read-digits-spec : {M : Type 1} → statement M
 read-digits-spec =
     tie.close
-    (tie.spec
-    payload-of-requires shared-slice-read-nibble-of nibble-of-requires cast-if1 array-share-prefix-payload slice-aggregate-sum-of
-    sum-of-requires add-if1 returns sub-payload array-share-prefix-payload-2 slice-aggregate-copy copy-requires sub-t14
-    same-length returns-2)
+    (tie.spec (λ c κs. search needs) shared-slice-read-nibble-of nibble-of-requires
+    (λ c. omega arith) (λ c. omega arith) slice-aggregate-sum-of (λ c κs. omega arith)
+    (λ c. omega arith) returns sub-payload (λ c. omega arith) slice-aggregate-copy copy-requires
+    sub-t14 (λ c. omega arith) returns-2)

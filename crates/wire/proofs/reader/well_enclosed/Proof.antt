@@ -7,15 +7,6 @@ use Rattle.wire.proofs.reader.well_enclosed.Tie as tie
 returns : tie.Need-returns
 returns c = simp (lt-leb _ _ (c .if1 .taken))
 
-shared-slice-read-if2 : tie.Need-shared-slice-read-if2
-shared-slice-read-if2 c = search needs
-
-sub-result : tie.Need-sub-result
-sub-result c = search needs
-
-shared-slice-read-result : tie.Need-shared-slice-read-result
-shared-slice-read-result c = search needs
-
 returns-2 : tie.Need-returns-2
 returns-2 c = simp (le-leb _ _ (c .before .before .before .if1 .left), eq-eqb _ _ (c .before .if2 .taken))
 
@@ -25,5 +16,5 @@ returns-3 c = simp (le-leb _ _ (c .before .before .if1 .left), ne-eqb _ _ (c .if
 pub well-enclosed-spec : {M : Type 1} → statement M
 well-enclosed-spec =
     tie.close
-    (tie.spec
-    returns shared-slice-read-if2 sub-result shared-slice-read-result returns-2 returns-3)
+    (tie.spec returns (λ c. search needs) (λ c. search needs) (λ c. search needs) returns-2
+    returns-3)

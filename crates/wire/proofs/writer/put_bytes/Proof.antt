@@ -19,24 +19,6 @@ abbrev μ-loop : tie.MeasureT-loop
 loop-holds : tie.Need-loop-holds Inv-loop μ-loop
 loop-holds c = (search needs, refl, rw add-zero)
 
-mul-put-byte : tie.Need-mul-put-byte Inv-loop μ-loop
-mul-put-byte c = search needs
-
-add-put-byte : tie.Need-add-put-byte Inv-loop μ-loop
-add-put-byte c = search needs
-
-shared-slice-read-put-byte : tie.Need-shared-slice-read-put-byte Inv-loop μ-loop
-shared-slice-read-put-byte c = search needs
-
-put-byte-requires : tie.Need-put-byte-requires Inv-loop μ-loop
-put-byte-requires c κs = search needs
-
-add-i : tie.Need-add-i Inv-loop μ-loop
-add-i c = search needs
-
-loop-less : tie.Need-loop-less Inv-loop μ-loop
-loop-less c = search needs
-
 loop-again : tie.Need-loop-again Inv-loop μ-loop
 loop-again c =
     let c5 = c .before .before .before .before .before in
@@ -52,6 +34,5 @@ returns c = sym (digits-end _ _ (c .loop-test .left) _ _) ∙ c .before .loop .i
 pub put-bytes-spec : {M : Type 1} → statement M
 put-bytes-spec =
     tie.close
-    (tie.spec
-    Inv-loop μ-loop loop-holds mul-put-byte add-put-byte shared-slice-read-put-byte put-byte-requires add-i loop-less loop-again
-    same-length returns)
+    (tie.spec Inv-loop μ-loop loop-holds (λ c. search needs) (λ c. search needs) (λ c. search needs)
+    (λ c κs. search needs) (λ c. search needs) (λ c. search needs) loop-again same-length returns)

@@ -6,42 +6,21 @@ use Rattle.wire.proofs.Frames.{length-frame, frame-stores}
 use Rattle.wire.proofs.writer.put_frame.Statement.{statement}
 use Rattle.wire.proofs.writer.put_frame.Tie as tie
 
-mul-end : tie.Need-mul-end
-mul-end c = omega arith
-
-add-end : tie.Need-add-end
-add-end c = omega arith
-
-slice-write-out : tie.Need-slice-write-out
-slice-write-out c = omega arith
-
-digit-of-requires : tie.Need-digit-of-requires
-digit-of-requires c κs = omega arith
-
 slice-write-out-2 : tie.Need-slice-write-out-2
 slice-write-out-2 c = omega (arith, length-set (c .before .before .before .args .out .now) 0 58)
 
 put-bytes-requires : tie.Need-put-bytes-requires
 put-bytes-requires c κs = simp length-set (omega arith)
 
-check-of-requires : tie.Need-check-of-requires
-check-of-requires c κs = omega arith
-
 put-byte-requires : tie.Need-put-byte-requires
 put-byte-requires c κs =
     let c4 = c .before .before .before .before in
     omega (arith, simp length-set at (c4 .put-bytes .kept .0))
 
-add-out : tie.Need-add-out
-add-out c = omega arith
-
 slice-write-out-3 : tie.Need-slice-write-out-3
 slice-write-out-3 c =
     let c7 = c .before .before .before .before .before .before .before in
     omega (arith, c .before .before .put-byte .kept .0, simp length-set at (c7 .put-bytes .kept .0))
-
-add-result : tie.Need-add-result
-add-result c = omega arith
 
 same-length : tie.Need-same-length
 same-length c =
@@ -60,6 +39,6 @@ returns c =
 pub put-frame-spec : {M : Type 1} → statement M
 put-frame-spec =
     tie.close
-    (tie.spec
-    mul-end add-end slice-write-out digit-of-requires slice-write-out-2 put-bytes-requires check-of-requires put-byte-requires
-    add-out slice-write-out-3 add-result same-length returns)
+    (tie.spec (λ c. omega arith) (λ c. omega arith) (λ c. omega arith) (λ c κs. omega arith)
+    slice-write-out-2 put-bytes-requires (λ c κs. omega arith) put-byte-requires (λ c. omega arith)
+    slice-write-out-3 (λ c. omega arith) same-length returns)
