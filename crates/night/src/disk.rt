@@ -1,9 +1,6 @@
 // What is at a path. The checker covers no call that fills a struct, such as `stat`, so kinds are told by what the system lets be done.
-ghost use Rattle.io.specs.Counts.{Counts};
 ghost use Rattle.libc.specs.Io.{Ended};
-use crate::words;
 use libc::PATH_MAX;
-use lines::Line;
 
 const LAST: usize = PATH_MAX - 1;
 
@@ -81,34 +78,4 @@ pub(crate) fn at(path: &[u8]) -> Kind {
         return kind_shut(path, os::errno());
     }
     kind_of(fd)
-}
-
-// Returns a line as a path.
-fn path_of(line: Line) -> [u8; PATH_MAX]
-    ensures { λ r. ⌜ Ended r ⌝ }
-{
-    let chars = line.chars;
-    let n = words::front(line.len, &chars);
-    ended(&chars[..n])
-}
-
-// Puts the system's own name of an open file at the front of `name`, and returns its length or -1.
-fn link_of(fd: i32, name: &mut [u8]) -> isize {
-    if fd < 0 {
-        return -1;
-    }
-    let line = Line::start().put(b"/proc/self/fd/");
-    let path = path_of(line.put_number(words::number_of(fd)));
-    libc::readlink(&path, name)
-}
-
-// Puts the system's own name of what is at a path at the front of `name`: one name, whichever links lead to it. Returns its length, or 0
-// where it cannot be opened.
-pub(crate) fn real(path: &[u8], name: &mut [u8]) -> usize
-    ensures { λ r. ⌜ Counts r (now (name .exit)) ⌝ }
-{
-    let fd = os::open_update(path);
-    let got = link_of(fd, name);
-    libc::close(fd);
-    io::count(got, name)
 }

@@ -2,7 +2,6 @@
 // wished, `serial=` and the serial of its board. A file's name may have blanks. An empty row and one that begins with # are skipped.
 ghost use Prim.Native.Nat.{_≤_};
 ghost use lib.ListN.{length};
-use crate::disk;
 use crate::file;
 use crate::whose;
 use crate::whose::Serial;
@@ -22,12 +21,6 @@ pub(crate) enum State {
 pub(crate) struct List {
     pub(crate) state: State,
     pub(crate) len: usize,
-}
-
-// Whether the name of a row's device was there already, and how many bytes of names there are now.
-struct Gathered {
-    again: bool,
-    used: usize,
 }
 
 // Reads the list that the first argument names into a buffer.
@@ -105,102 +98,6 @@ fn has_line(row: &[u8], line: &[u8]) -> bool {
     let path = line_of(row);
     let end = next(row, path, true);
     check::same(&row[path..end], line)
-}
-
-// Returns whether two rows lead to one device by two names, and tells the first such one. The system's own names of the devices are
-// gathered, each with a newline before it.
-pub(crate) fn is_met_twice(list: &[u8], report: i32) -> bool {
-    let mut names = io::large_buffer();
-    is_gathered_twice(list, &mut names, report)
-}
-
-// Gathers the names of the devices in a buffer, until one is there already.
-fn is_gathered_twice(list: &[u8], names: &mut [u8], report: i32) -> bool {
-    let mut used = 0;
-    let mut at = 0;
-    while at < list.len() {
-        let end = bytes::scan::find(list, at + 1, list.len(), b'\n');
-        let gathered = gather(&list[at..end], names, used, report);
-        if gathered.again {
-            return true;
-        }
-        used = gathered.used;
-        at = end;
-    }
-    false
-}
-
-// Gathers the name of a row's device, if it has one.
-fn gather(row: &[u8], names: &mut [u8], used: usize, report: i32) -> Gathered {
-    let path = line_of(row);
-    let end = next(row, path, true);
-    let mut name = io::buffer();
-    let n = disk::real(&row[path..end], &mut name);
-    if n == 0 {
-        return Gathered { again: false, used };
-    }
-    let again = is_known(names, used, &name[..n]);
-    if again {
-        tell_alias(report, &row[path..end], &name[..n]);
-    }
-    let begun = added(names, used, b"\n");
-    Gathered {
-        again,
-        used: added(names, begun, &name[..n]),
-    }
-}
-
-// Says that an earlier row has a line by another name, and the system's own name of it.
-fn tell_alias(report: i32, line: &[u8], real: &[u8]) {
-    words::name(
-        report,
-        b"nothing was begun: two rows have one line by two names",
-    );
-    io::write_all(report, line);
-    if !check::same(line, real) {
-        io::write_all(report, b" is ");
-        io::write_all(report, real);
-    }
-    words::end(report);
-}
-
-// Returns whether a name is among those gathered.
-fn is_known(names: &[u8], used: usize, name: &[u8]) -> bool {
-    let n = words::front(used, names);
-    has_name(&names[..n], name)
-}
-
-// Returns whether one of the names is this.
-fn has_name(names: &[u8], name: &[u8]) -> bool {
-    let mut at = 0;
-    while at < names.len() {
-        let end = bytes::scan::find(names, at + 1, names.len(), b'\n');
-        if is_named(&names[at..end], name) {
-            return true;
-        }
-        at = end;
-    }
-    false
-}
-
-// Returns whether this is the name after the newline.
-fn is_named(entry: &[u8], name: &[u8]) -> bool {
-    if entry.len() == 0 {
-        return false;
-    }
-    check::same(&entry[1..], name)
-}
-
-// Adds a name to those gathered, where there is room, and returns how many bytes they have then.
-fn added(names: &mut [u8], used: usize, name: &[u8]) -> usize {
-    if names.len() < used {
-        return used;
-    }
-    if names.len() - used < name.len() {
-        return used;
-    }
-    bytes::copy(name, &mut names[used..]);
-    used + name.len()
 }
 
 // Returns where the serial line of a row begins: at the row's end for one that has none or no file, and for one that is skipped.

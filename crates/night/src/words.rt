@@ -181,8 +181,8 @@ fn usual(n: usize) -> usize {
     if n < 4096 { n } else { 4096 }
 }
 
-// Returns a small number of the system, such as an error's or an open file's, as a count; a negative one is 0.
-pub(crate) fn number_of(n: i32) -> usize {
+// Returns the number of an error as a count; a negative one is 0.
+fn number_of(n: i32) -> usize {
     if n > 0 { usual(n as usize) } else { 0 }
 }
 

@@ -66,13 +66,10 @@ fn begin(report: i32, table: bool) {
     }
 }
 
-// Restores all trailers of the list, and tells the sums. Two rows with the same serial line, be it by two names, would be two restores of one
-// board, so it begins none.
+// Restores all trailers of the list, and tells the sums. Two rows with the same serial line would be two restores of one board, so it begins
+// none. (Two names of one device are the launcher's to compare: it gives both rows one name.)
 fn work(list: &[u8], report: i32, table: bool) {
     if list::is_doubled(list, report) {
-        return;
-    }
-    if list::is_met_twice(list, report) {
         return;
     }
     let mut left = io::large_buffer();
