@@ -19,6 +19,7 @@ use Rattle.stream.specs.Calls.{unfinished}
 use Rattle.stream.specs.declared.Held.{Held}
 use Rattle.stream.specs.declared.Heard.{Heard}
 use Rattle.settings.specs.Columns.{count, idAt}
+use Rattle.tables.specs.Rules.{allowed}
 use Rattle.tables.specs.declared.Table.{Table}
 use Rattle.who.specs.Values.{readOnlyIds, among}
 use Rattle.answers.specs.Answers.{withTable, said}
@@ -31,7 +32,6 @@ use Rattle.board.specs.declared.Answered.{Answered}
 use Rattle.listen.specs.Hearing.{boxHearing}
 use Rattle.reply.specs.Events.{Event, OnStream}
 use Rattle.restore.specs.Order.{dueSets}
-use Rattle.restore.specs.Calls.{bothAllowed}
 use Rattle.follow.specs.Calls as following
 use Rattle.follow.specs.Laws as follow
 use Rattle.follow.specs.Laws.{matched}
@@ -56,7 +56,7 @@ HearsToTheEnd hear =
 -- demand 2's reply count
 abbrev pub Counts : (Table → Table → List Event → ℕ) → Type 0
 Counts confirmed =
-    (from to : Table) (events : List Event) → OnStream events → confirmed from to events ≡ cond (bothAllowed from to) (matched (dueSets from to) events) 0
+    (from to : Table) (events : List Event) → OnStream events → confirmed from to events ≡ cond (allowed from && allowed to) (matched (dueSets from to) events) 0
 
 -- The shams, as the paper means them: all that do so, where a class can be named. What they are asked: a Get or a Set of a setting.
 pub data Asked : List ℕ → Type 0 where

@@ -9,11 +9,12 @@ use lib.ListN.{length, take}
 use lib.Dec.{eqb}
 use Rattle.laws.specs.Lists.{same}
 use Rattle.endian.specs.Numbers.{little}
+use Rattle.tables.specs.Rules.{allowed}
 use Rattle.tables.specs.declared.Table.{Table}
 use Rattle.paper.specs.Numbers.{setCode, notAllowed}
 use Rattle.answers.specs.Answers.{said}
 use Rattle.restore.specs.Order.{dueSets}
-use Rattle.restore.specs.Calls.{bothAllowed, dueAfter}
+use Rattle.restore.specs.Calls.{dueAfter}
 use Rattle.restore.specs.declared.Due.{Due}
 use Rattle.requests.specs.declared.Wanted.{Wanted}
 use Rattle.requests.specs.declared.Request.{Request}
@@ -33,7 +34,7 @@ calls last (e ∷ more) = calls (following (last .follower) e) more
 -- and the events such as a stream can give.
 pub record Reached (f : Follower) : Type 0 where
   pub events : List Event
-  pub begins : bothAllowed (f .from) (f .to) ≡ true
+  pub begins : (allowed (f .from) && allowed (f .to)) ≡ true
   pub stream : OnStream events
   pub arrives : calls (starting (f .from) (f .to)) events .follower ≡ f
 
@@ -82,19 +83,19 @@ isEnded (due ∷ later) (e ∷ more) = cond (matches due e) (isEnded later more)
 abbrev pub CountIsTold : Type 0
 CountIsTold =
     (from to : Table) (events : List Event) → OnStream events
-    → calls (starting from to) events .confirmed ≡ cond (bothAllowed from to) (matched (dueSets from to) events) 0
+    → calls (starting from to) events .confirmed ≡ cond (allowed from && allowed to) (matched (dueSets from to) events) 0
 
 -- 3. How far it is, as the last of a row of calls tells it: 12 exactly where a table is not allowed; equal exactly where there was no Set; done
 -- exactly where there were Sets and all were matched; stopped exactly where an event ended the due one without matching it, and that Set is
 -- named; waiting exactly where a Set is left and none was so ended, and the Set due is named.
 pub data Tells (from to : Table) (events : List Event) : Standing → Type 0 where
-  refused : bothAllowed from to ≡ false → Tells from to events (Standing.Refused notAllowed)
-  equal : bothAllowed from to ≡ true → length (dueSets from to) ≡ 0 → Tells from to events Standing.Equal
-  done : bothAllowed from to ≡ true → 0 < length (dueSets from to) → matched (dueSets from to) events ≡ length (dueSets from to)
+  refused : (allowed from && allowed to) ≡ false → Tells from to events (Standing.Refused notAllowed)
+  equal : (allowed from && allowed to) ≡ true → length (dueSets from to) ≡ 0 → Tells from to events Standing.Equal
+  done : (allowed from && allowed to) ≡ true → 0 < length (dueSets from to) → matched (dueSets from to) events ≡ length (dueSets from to)
       → Tells from to events Standing.Done
-  stopped : {due : Wanted} → bothAllowed from to ≡ true → isEnded (dueSets from to) events ≡ true
+  stopped : {due : Wanted} → (allowed from && allowed to) ≡ true → isEnded (dueSets from to) events ≡ true
       → dueAfter (dueSets from to) (matched (dueSets from to) events) ≡ Due.Set due → Tells from to events (Standing.Stopped due)
-  waiting : {due : Wanted} → bothAllowed from to ≡ true → isEnded (dueSets from to) events ≡ false
+  waiting : {due : Wanted} → (allowed from && allowed to) ≡ true → isEnded (dueSets from to) events ≡ false
       → dueAfter (dueSets from to) (matched (dueSets from to) events) ≡ Due.Set due → Tells from to events (Standing.Waiting (Request.Set due))
 
 abbrev pub StandingExactly : Type 0
@@ -109,7 +110,7 @@ ownReply due = heard setCode (ownData due)
 
 abbrev pub AllConfirmed : Type 0
 AllConfirmed =
-    (from to : Table) → bothAllowed from to ≡ true
+    (from to : Table) → (allowed from && allowed to) ≡ true
     → calls (starting from to) (map ownReply (dueSets from to)) .confirmed ≡ length (dueSets from to)
 
 abbrev pub onNamed : (Wanted → List Wanted) → Standing → List Wanted
@@ -126,13 +127,13 @@ named zero last = []
 named (suc n) last = onNamed (λ due. due ∷ named n (following (last .follower) (ownReply due))) (last .standing)
 
 abbrev pub NamedIsListed : Type 0
-NamedIsListed = (from to : Table) (n : ℕ) → named n (starting from to) ≡ cond (bothAllowed from to) (take n (dueSets from to)) []
+NamedIsListed = (from to : Table) (n : ℕ) → named n (starting from to) ≡ cond (allowed from && allowed to) (take n (dueSets from to)) []
 
 -- 5. The follower that is handed back holds what was told of it, its count and how far it is; and `told` says the same of it again. So the
 -- sums and the sentences, which take a follower whole, speak of what the calls have told.
 abbrev pub HandedIsTold : Type 0
 HandedIsTold =
-    (from to : Table) (events : List Event) → bothAllowed from to ≡ true
+    (from to : Table) (events : List Event) → (allowed from && allowed to) ≡ true
     → let last = calls (starting from to) events in (last .follower .confirmed ≡ last .confirmed) × (standing (last .follower) ≡ last .standing)
 
 abbrev pub ToldIsLast : Type 0
@@ -146,4 +147,4 @@ run f (e ∷ more) = run (advanced f e) more
 abbrev pub CallsFollow : Type 0
 CallsFollow =
     (from to : Table) (events : List Event)
-    → calls (starting from to) events ≡ cond (bothAllowed from to) (answered (run (begun from to) events)) (unanswered (begun from to))
+    → calls (starting from to) events ≡ cond (allowed from && allowed to) (answered (run (begun from to) events)) (unanswered (begun from to))

@@ -18,7 +18,7 @@ use Rattle.tables.specs.Calls.{setTo}
 use Rattle.tables.specs.declared.Table.{Table}
 use Rattle.tables.specs.declared.Answer.{Answer}
 use Rattle.restore.specs.Order.{order, wanted, dueSets}
-use Rattle.restore.specs.Calls.{bothAllowed, framesFor, listing, setsDue, dueIn}
+use Rattle.restore.specs.Calls.{framesFor, listing, setsDue, dueIn}
 use Rattle.requests.specs.declared.Wanted.{Wanted}
 use Rattle.restore.specs.declared.Due.{Due}
 use Rattle.restore.specs.declared.Listed.{Listed}
@@ -141,9 +141,9 @@ ListIsShort = (from to : Table) → length (framesFor (dueSets from to)) ≤ 15 
 
 -- 5. What is due tells how many Sets there are: one is due after fewer than all, namely the next of the order, and none after all.
 pub data Tells (from to : Table) (done : ℕ) : Due → Type 0 where
-  a-set : (k : ℕ) → k ≡ getD (order from to) done 0 → k < count → bothAllowed from to ≡ true → done < length (dueSets from to) → Tells from to done (Due.Set (wanted to k))
-  none-left : bothAllowed from to ≡ true → length (dueSets from to) ≤ done → Tells from to done Due.Nothing
-  not-allowed : bothAllowed from to ≡ false → Tells from to done (Due.Refused 12)
+  a-set : (k : ℕ) → k ≡ getD (order from to) done 0 → k < count → (allowed from && allowed to) ≡ true → done < length (dueSets from to) → Tells from to done (Due.Set (wanted to k))
+  none-left : (allowed from && allowed to) ≡ true → length (dueSets from to) ≤ done → Tells from to done Due.Nothing
+  not-allowed : (allowed from && allowed to) ≡ false → Tells from to done (Due.Refused 12)
 
 abbrev pub DueTells : Type 0
 DueTells = (from to : Table) (done : ℕ) → Tells from to done (dueIn from to done)

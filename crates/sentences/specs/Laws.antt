@@ -3,14 +3,13 @@
 use Prim.Native.Nat.{ℕ, _-_, _≤_, _<_}
 use mathlib.Core.Path.{_≡_}
 use mathlib.Core.Logic.{_↔_}
-use mathlib.Core.Bool.{true, false}
+use mathlib.Core.Bool.{true, false, _&&_}
 use mathlib.Core.List.{List, [], _∷_, _++_}
 use lib.ListN.{length}
 use Rattle.settings.specs.Columns.{count}
 use Rattle.tables.specs.Rules as tables
 use Rattle.tables.specs.declared.Table.{Table}
 use Rattle.restore.specs.Order.{dueSets}
-use Rattle.restore.specs.Calls.{bothAllowed}
 use Rattle.requests.specs.declared.Wanted.{Wanted}
 use Rattle.reply.specs.Events.{Event, OnStream}
 use Rattle.follow.specs.Following.{standing, total, followerAllowed}
@@ -68,7 +67,7 @@ pub record LineSays (from to : Table) (events : List Event) : Type 0 where
   pub progress-is : progressText (followedBy from to events) ≡ ofText [] (matched (dueSets from to) events) (length (dueSets from to)) (chars " confirmed")
 
 abbrev pub LineIsMatched : Type 0
-LineIsMatched = (from to : Table) (events : List Event) → bothAllowed from to ≡ true → OnStream events → LineSays from to events
+LineIsMatched = (from to : Table) (events : List Event) → (tables.allowed from && tables.allowed to) ≡ true → OnStream events → LineSays from to events
 
 -- Every number in them, word by word, for any follower that a start and events give.
 abbrev pub joined : List (List ℕ) → List ℕ
