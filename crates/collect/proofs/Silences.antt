@@ -16,7 +16,7 @@ use Rattle.settings.specs.declared.Setting.{Setting}
 use Rattle.reply.specs.Events.{Event, heard, refusedFrame, noAnswer}
 use Rattle.collect.specs.Collecting.{took, halted, mostTries, counted, silenced, moved, isWaiting, advanced, begun, within}
 use Rattle.collect.specs.Calls.{stageOf, good, starting, collecting}
-use Rattle.collect.specs.Laws.{run, calls, silencesBy, silencesAfter, Silent, SilenceStops}
+use Rattle.collect.specs.Laws.{run, calls, Carried, silencesBy, silencesAfter, Silent, SilenceStops}
 use Rattle.collect.specs.declared.Collector.{Collector}
 use Rattle.collect.specs.declared.Stage.{Stage}
 use Rattle.collect.specs.declared.Collected.{Collected}
@@ -122,14 +122,17 @@ unfolding good
 good-stage c = refl
 
 -- fewer than three silences came where it waits
-few-silences : (c : Collector) (l : List ℕ) → Ends c l → isWaiting c ≡ true → c .silences < mostTries
+few-silences : (c : Collector) (all : Carried) → Ends c all → isWaiting c ≡ true → c .silences < mostTries
 unfolding isWaiting
-few-silences c l e w = by (e .stopped) refl
+few-silences c all e w = by (all .ended) refl
   where
-    by : (t : Bool) → e .stopped ≡ t → c .silences < mostTries
+    l : List ℕ
+    l = all .numbers
+
+    by : (t : Bool) → all .ended ≡ t → c .silences < mostTries
     by true f = absurd (false≢true (rw (e .is, f) at w))
     by false f =
-        let less : length l < count = ltb-true _ _ (and-right (not (e .stopped)) (ltb (length l) count) (rw (e .is) at w)) in
+        let less : length l < count = ltb-true _ _ (and-right (not (all .ended)) (ltb (length l) count) (rw (e .is) at w)) in
         let some : e .silences < mostTries = within-waiting (length l) (e .silences) less (subst (λ (t : Bool). within (length l) (e .silences) t ≡ true) f (e .in-ends)) in
         rw (e .is) some
 
