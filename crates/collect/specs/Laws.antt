@@ -6,7 +6,7 @@ use mathlib.Core.Logic.{_≢_, _↔_}
 use mathlib.Core.Bool.{Bool, true, false, cond, _&&_}
 use mathlib.Core.List.{List, [], _∷_, _++_}
 use lib.ListN.{length, take, drop}
-use lib.Dec.{ltb, eqb}
+use lib.Dec.{ltb}
 use Rattle.laws.specs.Lists.{same}
 use Rattle.endian.specs.Numbers.{little, fromLittle}
 use Rattle.settings.specs.Columns.{count, idAt, widthAt}
@@ -18,7 +18,7 @@ use Rattle.tables.specs.declared.Table.{Table}
 use Rattle.paper.specs.Numbers.{getCode}
 use Rattle.answers.specs.Answers.{said}
 use Rattle.reply.specs.Events.{Event, heard, refusedFrame, noAnswer, OnStream, answers}
-use Rattle.collect.specs.Collecting.{fits, mostTries, advanced, begun, allowed}
+use Rattle.collect.specs.Collecting.{fits, advanced, begun, allowed}
 use Rattle.collect.specs.Calls.{told, starting, collecting}
 use Rattle.collect.specs.declared.Collector.{Collector}
 use Rattle.collect.specs.declared.Stage.{Stage}
@@ -90,7 +90,7 @@ carriedAfter silences so-far (e ∷ more) =
     let stop : Carried = record { numbers = so-far; ended = true } in
     cond (ltb (length so-far) count)
     (following (λ n. carriedAfter 0 (so-far ++ n ∷ []) more) stop (carriedAfter silences so-far more)
-    (cond (ltb (suc silences) mostTries) (carriedAfter (suc silences) so-far more) stop)
+    (cond (ltb (suc silences) 3) (carriedAfter (suc silences) so-far more) stop)
     (carries so-far (length so-far) e))
     (record { numbers = so-far; ended = false })
 
@@ -147,27 +147,3 @@ BoardIsRead =
       answered = count;
       table = t;
     }
-
--- 5. When silence stops. How many times no answer came since the last setting was answered, by what the calls answer.
-abbrev pub silencesBy : Event → ℕ → ℕ
-silencesBy (heard command bytes) n = n
-silencesBy refusedFrame n = n
-silencesBy noAnswer n = suc n
-
-abbrev pub silencesAfter : Collected → ℕ → List Event → ℕ
-silencesAfter last n [] = n
-silencesAfter last n (e ∷ more) =
-    let next = collecting (last .collector) e in
-    silencesAfter next (cond (eqb (next .answered) (last .answered)) (silencesBy e n) 0) more
-
--- A setting is due after any events. One more "no answer" stops the collector there exactly when it is the third in a row, and otherwise
--- the same setting stays due, with nothing else changed in the answer.
-pub record Silent (last next : Collected) (before : ℕ) (s : Setting) : Type 0 where
-  pub stops-when : (next .stage ≡ Stage.Stopped s) ↔ (before ≡ 2)
-  pub else-waits : before ≢ 2 → next .stage ≡ Stage.Waiting s
-  pub answered-same : next .answered ≡ last .answered
-
-abbrev pub SilenceStops : Type 0
-SilenceStops =
-    (events : List Event) (s : Setting) → calls starting events .stage ≡ Stage.Waiting s
-    → Silent (calls starting events) (collecting (calls starting events .collector) noAnswer) (silencesAfter starting 0 events) s
