@@ -8,17 +8,17 @@ use native.Mathlib.Omega.{arith}
 use borrow.Author.Tests.{lt-ltb, le-ltb, ltb-true, ltb-false}
 use lib.ListN.{length, take, replicate}
 use lib.Seq.{take-append-seam}
-use lib.Dec.{ltb}
+use lib.Dec.{ltb, leb}
+use Rattle.laws.proofs.Bools.{and-left}
 use Rattle.settings.specs.Columns.{count}
 use Rattle.settings.specs.Calls.{settingAt}
-use Rattle.settings.specs.declared.Setting.{Setting}
 use Rattle.tables.specs.Rules.{factory}
 use Rattle.tables.specs.Rules as tables
 use Rattle.tables.specs.declared.Table.{Table}
 use Rattle.reply.specs.Events.{Event}
-use Rattle.collect.specs.Collecting.{isWaiting, advanced, begun, allowed}
+use Rattle.collect.specs.Collecting.{mostTries, isWaiting, advanced, begun, within, allowed}
 use Rattle.collect.specs.Calls.{stageOf, tableOf, good, stray, told, starting, collecting}
-use Rattle.collect.specs.Laws.{run, calls, Reached, AllowedIsReached, refusedBy, RefusedIsStray, CallsFollow, namedBy, Holds, TableIsCarried, ToldIsLast, EndedStays, Handed, TableIsAllowed, replies, BoardIsRead}
+use Rattle.collect.specs.Laws.{run, calls, Reached, AllowedIsReached, refusedBy, RefusedIsStray, CallsFollow, Carried, Tells, tells-done, tells-stopped, tells-waiting, Holds, TableIsCarried, ToldIsLast, EndedStays, Handed, TableIsAllowed, replies, BoardIsRead}
 use Rattle.collect.specs.declared.Collector.{Collector}
 use Rattle.collect.specs.declared.Stage.{Stage}
 use Rattle.collect.specs.declared.Collected.{Collected}
@@ -63,6 +63,110 @@ reached-calls c long = (
   λ r. subst (λ (d : Collector). allowed d ≡ true) (sym (calls-run (r .events)) ∙ r .arrives) (ends-allowed (begun-ends (r .events))),
 )
 
+-- how far it is, by how many are answered
+stage-due : (len : ℕ) (stopped : Bool) → len < count → stageOf len stopped ≢ Stage.Done
+stage-due len true h e = let d = rw (lt-ltb len count h) at e in let z : _≡_ {A = ℕ} 0 1 = cc in absurd (omega arith)
+stage-due len false h e = let d = rw (lt-ltb len count h) at e in let z : _≡_ {A = ℕ} 0 1 = cc in absurd (omega arith)
+
+stage-done : (len : ℕ) (stopped : Bool) → count ≤ len → stageOf len stopped ≡ Stage.Done
+stage-done len stopped h = rw (le-ltb len count h)
+
+pub done-all : (len : ℕ) (stopped : Bool) → stageOf len stopped ≡ Stage.Done → count ≤ len
+done-all len stopped e = by (ltb len count) refl
+  where
+    by : (b : Bool) → ltb len count ≡ b → count ≤ len
+    by true t = absurd (stage-due len stopped (ltb-true _ _ t) e)
+    by false t = ltb-false _ _ t
+
+-- a collector holds what was carried
+record Shape (c : Collector) (all : Carried) : Type 0 where
+  len-is : c .len ≡ length (all .numbers)
+  numbers-are : c .numbers ≡ all .numbers ++ zeros (all .numbers)
+  stopped-is : c .stopped ≡ all .ended
+
+shape : {c : Collector} {all : Carried} → Ends c all → Shape c all
+shape e =
+    record {
+      len-is = ap (λ (d : Collector). d .len) (e .is);
+      numbers-are = ap (λ (d : Collector). d .numbers) (e .is);
+      stopped-is = ap (λ (d : Collector). d .stopped) (e .is);
+    }
+
+-- no table is given while a setting is due
+table-due : (len : ℕ) (numbers : List ℕ) → ltb len count ≡ true → tableOf len numbers ≡ factory
+table-due len numbers due = ap (λ (b : Bool). cond b factory (record { numbers = numbers })) due
+
+no-zeros : (l : List ℕ) → length l ≡ count → l ++ zeros l ≡ l
+no-zeros l e =
+    let none : count - length l ≡ 0 = omega arith in
+    ap (λ (m : ℕ). l ++ replicate m 0) none ∙ append-nil l
+
+module _ (c : Collector) (all : Carried) (e : Ends c all) where
+  abbrev l : List ℕ
+  l = all .numbers
+
+  all-held : c .len ≡ count → tableOf (c .len) (c .numbers) ≡ record { numbers = l }
+  all-held full =
+      rw (le-ltb (c .len) count (omega arith))
+      (ap (λ (x : List ℕ). record { numbers = x }) (shape e .numbers-are ∙ no-zeros l (sym (shape e .len-is) ∙ full)))
+
+  done-is : stageOf (c .len) (c .stopped) ≡ Stage.Done → c .len ≡ count
+  done-is d =
+      let most : length l ≤ count = e .few in
+      let len : c .len ≡ length l = shape e .len-is in
+      let least : count ≤ c .len = done-all (c .len) (c .stopped) d in
+      omega arith
+
+  -- how far it is
+  stage-is : good c .stage ≡ stageOf (length l) (all .ended)
+  unfolding good
+  stage-is = ap₂ stageOf (shape e .len-is) (shape e .stopped-is)
+
+  ended-early : all .ended ≡ true → length l < count
+  ended-early is =
+      ltb-true _ _ (and-left (ltb (length l) count) (leb (e .silences) mostTries) (subst (λ (b : Bool). within (length l) (e .silences) b ≡ true) is (e .in-ends)))
+
+  stage-tells : Tells all (stageOf (length l) (all .ended))
+  stage-tells = by (ltb (length l) count) (all .ended) refl refl
+    where
+      by : (a b : Bool) → ltb (length l) count ≡ a → all .ended ≡ b
+          → Tells all (cond a (cond b (Stage.Stopped (settingAt (length l))) (Stage.Waiting (settingAt (length l)))) Stage.Done)
+      by true true t s = tells-stopped s
+      by true false t s = tells-waiting (ltb-true _ _ t) s
+      by false b t s =
+          let past : count ≤ length l = ltb-false _ _ t in
+          let most : length l ≤ count = e .few in
+          tells-done (omega arith)
+
+  stage-told : (s : Stage) → Tells all s → stageOf (length l) (all .ended) ≡ s
+  stage-told s (tells-done is) = stage-done (length l) (all .ended) (omega arith)
+  stage-told s (tells-stopped is) = rw (lt-ltb _ _ (ended-early is), is)
+  stage-told s (tells-waiting h is) = rw (lt-ltb _ _ h, is)
+
+  -- what the last call tells of
+  ends-holds : Holds all (good c)
+  unfolding good
+  ends-holds =
+      record {
+        numbers-are = ap₂ take (shape e .len-is) (shape e .numbers-are) ∙ take-append-seam l (zeros l);
+        answered-are = shape e .len-is;
+        stage-when = λ s. (λ is. subst (Tells all) (sym stage-is ∙ is) stage-tells, λ t. stage-is ∙ stage-told s t);
+        table-is = λ d. all-held (done-is d);
+      }
+
+  -- the table that is given
+  ends-handed : Handed (good c)
+  unfolding good
+  ends-handed =
+      record {
+        done-allowed = λ d. subst (λ (t : Table). tables.allowed t ≡ true) (sym (all-held (done-is d))) (fit-table l (sym (shape e .len-is) ∙ done-is d) (e .fit));
+        else-factory = λ other. by other (ltb (c .len) count) refl;
+      }
+    where
+      by : stageOf (c .len) (c .stopped) ≢ Stage.Done → (b : Bool) → ltb (c .len) count ≡ b → tableOf (c .len) (c .numbers) ≡ factory
+      by other true t = table-due (c .len) (c .numbers) t
+      by other false t = absurd (other (stage-done (c .len) (c .stopped) (ltb-false _ _ t)))
+
 -- an allowed collector is never told as refused
 abbrev isRefused : Stage → Bool
 isRefused (Stage.Waiting due) = false
@@ -98,30 +202,6 @@ stray-refused c long = (
   λ e. refused-when c long (collecting c e) (advanced c e) (collecting-good c e) (collecting-stray c e),
 )
 
--- how far it is, by how many are answered
-stage-due : (len : ℕ) (stopped : Bool) → len < count → stageOf len stopped ≢ Stage.Done
-stage-due len true h e = let d = rw (lt-ltb len count h) at e in let z : _≡_ {A = ℕ} 0 1 = cc in absurd (omega arith)
-stage-due len false h e = let d = rw (lt-ltb len count h) at e in let z : _≡_ {A = ℕ} 0 1 = cc in absurd (omega arith)
-
-stage-done : (len : ℕ) (stopped : Bool) → count ≤ len → stageOf len stopped ≡ Stage.Done
-stage-done len stopped h = rw (le-ltb len count h)
-
-pub done-all : (len : ℕ) (stopped : Bool) → stageOf len stopped ≡ Stage.Done → count ≤ len
-done-all len stopped e = by (ltb len count) refl
-  where
-    by : (b : Bool) → ltb len count ≡ b → count ≤ len
-    by true t = absurd (stage-due len stopped (ltb-true _ _ t) e)
-    by false t = ltb-false _ _ t
-
--- and which setting is named
-stage-names : (len : ℕ) (stopped : Bool) → namedBy (stageOf len stopped) ≡ cond (ltb len count) (settingAt len ∷ []) []
-stage-names len stopped = by (ltb len count) stopped
-  where
-    by : (a b : Bool) → namedBy (cond a (cond b (Stage.Stopped (settingAt len)) (Stage.Waiting (settingAt len))) Stage.Done) ≡ cond a (settingAt len ∷ []) []
-    by true true = refl
-    by true false = refl
-    by false b = refl
-
 -- a collector that waits says so, and another has ended
 stage-waits : (c : Collector) → isWaiting c ≡ true → good c .stage ≡ Stage.Waiting (settingAt (c .len))
 unfolding good isWaiting
@@ -133,78 +213,19 @@ stage-waits c is = by (c .stopped) (ltb (c .len) count) refl refl
     by false false p q = absurd (false≢true (rw (p, q) at is))
 
 pub ended-stays-it : EndedStays
-unfolding starting good begun
-ended-stays-it = (refl, λ events e none. ended events e none)
+ended-stays-it events e none = by (isWaiting (run begun events)) refl
   where
-    ended : (events : List Event) (e : Event) → ((s : Setting) → calls starting events .stage ≢ Stage.Waiting s)
-        → collecting (calls starting events .collector) e ≡ calls starting events
-    ended events e none = by (isWaiting (run begun events)) refl
-      where
-        by : (b : Bool) → isWaiting (run begun events) ≡ b → collecting (calls starting events .collector) e ≡ calls starting events
-        by true is =
-            absurd (none (settingAt (run begun events .len)) (ap (λ (r : Collected). r .stage) (called events) ∙ stage-waits (run begun events) is))
-        by false is =
-            ap (λ (c : Collector). collecting c e) (calls-run events)
-            ∙ sym (collecting-good (run begun events) e (ends-allowed (begun-ends events)))
-            ∙ ap good (sym (ended-stays (run begun events) e is)) ∙ sym (called events)
-
--- a collector holds these numbers
-record Shape (c : Collector) (l : List ℕ) : Type 0 where
-  len-is : c .len ≡ length l
-  numbers-are : c .numbers ≡ l ++ zeros l
-
-shape : {c : Collector} {l : List ℕ} → Ends c l → Shape c l
-shape {c} {l} e = record { len-is = ap (λ (d : Collector). d .len) (e .is); numbers-are = ap (λ (d : Collector). d .numbers) (e .is) }
-
-no-zeros : (l : List ℕ) → length l ≡ count → l ++ zeros l ≡ l
-no-zeros l e =
-    let none : count - length l ≡ 0 = omega arith in
-    ap (λ (m : ℕ). l ++ replicate m 0) none ∙ append-nil l
-
-module _ (c : Collector) (l : List ℕ) (e : Ends c l) where
-  all-held : c .len ≡ count → tableOf (c .len) (c .numbers) ≡ record { numbers = l }
-  all-held all =
-      rw (le-ltb (c .len) count (omega arith))
-      (ap (λ (x : List ℕ). record { numbers = x }) (shape e .numbers-are ∙ no-zeros l (sym (shape e .len-is) ∙ all)))
-
-  done-is : stageOf (c .len) (c .stopped) ≡ Stage.Done → c .len ≡ count
-  done-is d =
-      let most : length l ≤ count = e .few in
-      let len : c .len ≡ length l = shape e .len-is in
-      let all : count ≤ c .len = done-all (c .len) (c .stopped) d in
-      omega arith
-
-  -- the numbers that the last call tells of
-  ends-holds : Holds l (good c)
-  unfolding good
-  ends-holds =
-      record {
-        numbers-are = ap₂ take (shape e .len-is) (shape e .numbers-are) ∙ take-append-seam l (zeros l);
-        answered-are = shape e .len-is;
-        named-is = stage-names (c .len) (c .stopped) ∙ ap (λ (m : ℕ). cond (ltb m count) (settingAt m ∷ []) []) (shape e .len-is);
-        done-when = (
-          λ d. sym (shape e .len-is) ∙ done-is d,
-          λ all. stage-done (c .len) (c .stopped) (let len : c .len ≡ length l = shape e .len-is in omega arith),
-        );
-        table-is = λ d. all-held (done-is d);
-      }
-
-  -- the table that is given
-  ends-handed : Handed (good c)
-  unfolding good
-  ends-handed =
-      record {
-        done-allowed = λ d. subst (λ (t : Table). tables.allowed t ≡ true) (sym (all-held (done-is d))) (fit-table l (sym (shape e .len-is) ∙ done-is d) (e .fit));
-        else-factory = λ other. by other (ltb (c .len) count) refl;
-      }
-    where
-      by : stageOf (c .len) (c .stopped) ≢ Stage.Done → (b : Bool) → ltb (c .len) count ≡ b → tableOf (c .len) (c .numbers) ≡ factory
-      by other true t = rw t
-      by other false t = absurd (other (stage-done (c .len) (c .stopped) (ltb-false _ _ t)))
+    by : (b : Bool) → isWaiting (run begun events) ≡ b → collecting (calls starting events .collector) e ≡ calls starting events
+    by true is =
+        absurd (none (settingAt (run begun events .len)) (ap (λ (r : Collected). r .stage) (called events) ∙ stage-waits (run begun events) is))
+    by false is =
+        ap (λ (c : Collector). collecting c e) (calls-run events)
+        ∙ sym (collecting-good (run begun events) e (ends-allowed (begun-ends events)))
+        ∙ ap good (sym (ended-stays (run begun events) e is)) ∙ sym (called events)
 
 pub table-carried : TableIsCarried
 table-carried events on =
-    subst (λ (l : List ℕ). Holds l (calls starting events)) (taking-carried on 0 [])
+    subst (λ (all : Carried). Holds all (calls starting events)) (taking-carried on 0 [])
     (subst (Holds (taking 0 [] events)) (sym (called events)) (ends-holds _ _ (begun-ends events)))
 
 run-handed : (events : List Event) → Handed (good (run begun events))

@@ -25,10 +25,10 @@ use Rattle.reply.specs.declared.Heeded.{Heeded}
 use Rattle.reply.proofs.Flags.{flag-good, said-answers, none-answers}
 use Rattle.reply.proofs.Theorems.{heed-is-said}
 use Rattle.collect.specs.Collecting.{fits, valued, onHeeded, intakeOf, mostTries}
-use Rattle.collect.specs.Laws.{goodReply, carries, following, carriedAfter}
+use Rattle.collect.specs.Laws.{goodReply, carries, Carried, following, carriedAfter}
 use Rattle.collect.specs.declared.intake.Intake.{Intake}
 use Rattle.collect.proofs.Deciding.{heeded-is}
-use Rattle.collect.proofs.Reaching.{taking, takingOn}
+use Rattle.collect.proofs.Reaching.{so-far, taking, takingOn}
 
 same-as : (xs ys : List ℕ) → xs ≡ ys → same xs ys ≡ true
 same-as xs ys e = ap (same xs) (sym e) ∙ same-self xs
@@ -95,10 +95,10 @@ unfolding intakeOf carries
 silence-carries l k = refl
 
 -- so what is taken of a row of events is what they carry
-abbrev carriedOn : ℕ → List ℕ → List Event → Intake → List ℕ
+abbrev carriedOn : ℕ → List ℕ → List Event → Intake → Carried
 carriedOn silences l more v =
-    following (λ n. carriedAfter 0 (l ++ n ∷ []) more) l (carriedAfter silences l more)
-    (cond (ltb (suc silences) mostTries) (carriedAfter (suc silences) l more) l) v
+    following (λ n. carriedAfter 0 (l ++ n ∷ []) more) (so-far l true) (carriedAfter silences l more)
+    (cond (ltb (suc silences) mostTries) (carriedAfter (suc silences) l more) (so-far l true)) v
 
 next-carried : (silences : ℕ) (l : List ℕ) (e : Event) (more : List Event) → (length l < count → intakeOf l (length l) e ≡ carries l (length l) e)
     → ((n : ℕ) (m : List ℕ) → taking n m more ≡ carriedAfter n m more) → taking silences l (e ∷ more) ≡ carriedAfter silences l (e ∷ more)
@@ -108,9 +108,10 @@ next-carried silences l e more here later = by (ltb (length l) count) refl
     after (Intake.Takes n) = later 0 (l ++ n ∷ [])
     after Intake.Stops = refl
     after Intake.Waits = later silences l
-    after Intake.Silence = ap (λ (x : List ℕ). cond (ltb (suc silences) mostTries) x l) (later (suc silences) l)
+    after Intake.Silence = ap (λ (x : Carried). cond (ltb (suc silences) mostTries) x (so-far l true)) (later (suc silences) l)
 
-    by : (b : Bool) → ltb (length l) count ≡ b → cond b (takingOn silences l more (intakeOf l (length l) e)) l ≡ cond b (carriedOn silences l more (carries l (length l) e)) l
+    by : (b : Bool) → ltb (length l) count ≡ b
+        → cond b (takingOn silences l more (intakeOf l (length l) e)) (so-far l false) ≡ cond b (carriedOn silences l more (carries l (length l) e)) (so-far l false)
     by false t = refl
     by true t = ap (takingOn silences l more) (here (ltb-true _ _ t)) ∙ after (carries l (length l) e)
 

@@ -1,16 +1,16 @@
--- The setting at a place, the numbers that fit it, and what a frame decides. Assumes nothing.
+-- The setting at a place, and what a frame decides. Assumes nothing.
 use mathlib.Core.Path.{_≡_, sym, ap, _∙_}
 use mathlib.Core.Logic.{_≢_}
 use mathlib.Core.Bool.{true, false}
 use mathlib.Core.List.{List}
 use Prim.Native.Nat.{ℕ, _+_, _-_, _≤_, _<_}
 use native.Mathlib.Omega.{arith}
-use borrow.Author.Tests.{lt-ltb, le-ltb, eq-eqb, ne-eqb}
-use lib.ListN.{length, getD, drop, length-drop}
+use borrow.Author.Tests.{eq-eqb, ne-eqb}
+use lib.ListN.{length, drop, length-drop}
 use Rattle.paper.specs.Numbers.{getCode}
 use Rattle.endian.specs.Numbers.{fromLittle}
 use Rattle.settings.specs.Columns.{count, idAt, widthAt, partnerAt}
-use Rattle.settings.specs.Calls.{settingAt, allowing}
+use Rattle.settings.specs.Calls.{settingAt}
 use Rattle.settings.specs.declared.Setting.{Setting}
 use Rattle.settings.proofs.Theorems.{rows-hold}
 use Rattle.reply.specs.Replies.{rest}
@@ -20,24 +20,12 @@ use Rattle.reply.specs.Events.{heard}
 use Rattle.collect.specs.Collecting.{fits, valued, onHeeded, intakeOf}
 use Rattle.collect.specs.declared.intake.Intake.{Intake}
 
--- a number that fits, by the setting that is found
+-- the partner of the setting that is found
+pub partner-is : (k : ℕ) (s : Setting) → s ≡ settingAt k → s .partner ≡ partnerAt k
+partner-is k s is = ap (λ (t : Setting). t .partner) is
+
 pub partner-small : (k : ℕ) (s : Setting) → s ≡ settingAt k → k < count → s .partner < count
-partner-small k s is h = rw (ap (λ (t : Setting). t .partner) is) (rows-hold k h .partner-is)
-
-module _ (numbers : List ℕ) (k n : ℕ) (s : Setting) (is : s ≡ settingAt k) (h : k < count) where
-  pub fits-before : s .partner < k → allowing k n (getD numbers (s .partner) 0) ≡ fits numbers k n
-  unfolding allowing fits
-  fits-before less =
-      let same : s .partner ≡ partnerAt k = ap (λ (t : Setting). t .partner) is in
-      let below : partnerAt k < k = rw (sym same) less in
-      rw (same, lt-ltb k count h, lt-ltb (partnerAt k) k below)
-
-  pub fits-later : k ≤ s .partner → allowing k n n ≡ fits numbers k n
-  unfolding allowing fits
-  fits-later more =
-      let same : s .partner ≡ partnerAt k = ap (λ (t : Setting). t .partner) is in
-      let above : k ≤ partnerAt k = rw (sym same) more in
-      rw (lt-ltb k count h, le-ltb (partnerAt k) k above)
+partner-small k s is h = rw (partner-is k s is) (rows-hold k h .partner-is)
 
 -- a value, by the tests in their order
 module _ (k : ℕ) (s : Setting) (is : s ≡ settingAt k) where

@@ -1,7 +1,7 @@
 -- Numbers that fit one after the other, and the tables that they make. Assumes nothing.
 use mathlib.Core.Path.{_≡_, refl, sym, ap, subst, _∙_}
 use mathlib.Core.Logic.{⊎-elim}
-use mathlib.Core.Bool.{Bool, true, false}
+use mathlib.Core.Bool.{Bool, true, false, cond}
 use mathlib.Core.List.{List, [], _∷_, _++_}
 use Prim.Native.Nat.{ℕ, suc, _+_, _≤_, _<_}
 use native.Mathlib.Nat.{eq-or-lt-of-le, le-of-suc-le-suc}
@@ -25,11 +25,11 @@ use Rattle.collect.specs.Collecting.{fits}
 module _ (l : List ℕ) (k n : ℕ) where
   pub fits-partner : partnerAt k < k → fits l k n ≡ allowedFor k n (getD l (partnerAt k) 0)
   unfolding fits
-  fits-partner h = rw (lt-ltb (partnerAt k) k h)
+  fits-partner h = ap (λ (b : Bool). allowedFor k n (cond b (getD l (partnerAt k) 0) n)) (lt-ltb (partnerAt k) k h)
 
   pub fits-alone : k ≤ partnerAt k → fits l k n ≡ allowedFor k n n
   unfolding fits
-  fits-alone h = rw (le-ltb (partnerAt k) k h)
+  fits-alone h = ap (λ (b : Bool). allowedFor k n (cond b (getD l (partnerAt k) 0) n)) (le-ltb (partnerAt k) k h)
 
 -- what is from place k on does not matter to it
 pub fits-front : (l r : List ℕ) (k n : ℕ) → k ≤ length l → fits (l ++ r) k n ≡ fits l k n

@@ -6,7 +6,6 @@ use Prim.Native.Nat.{ℕ}
 use native.Mathlib.Omega.{arith}
 use lib.ListN.{length}
 use lib.Dec.{eqb}
-use Rattle.laws.proofs.Bools.{pick}
 use Rattle.paper.specs.Numbers.{getCode}
 use Rattle.endian.specs.Numbers.{fromLittle}
 use Rattle.settings.specs.Columns.{idAt, widthAt}
@@ -65,18 +64,3 @@ module _ (l : List ℕ) (k : ℕ) where
   intake-taken (heard command bytes) = heeded-taken (rest bytes) (heeding getCode (idAt k) command bytes)
   intake-taken refusedFrame = taken-waits l k
   intake-taken noAnswer = taken-silence l k
-
--- A frame is no silence: it is taken, stops or is waited on.
-module _ (P : Intake → Type 0) (takes : (n : ℕ) → P (Intake.Takes n)) (stops : P Intake.Stops) (waits : P Intake.Waits) (l : List ℕ) (k : ℕ) where
-  valued-speaks : (v : List ℕ) → P (valued l k v)
-  unfolding valued
-  valued-speaks v = pick P (eqb (length v) (widthAt k)) (pick P (fits l k (fromLittle v)) (takes (fromLittle v)) stops) stops
-
-  heeded-speaks : (v : List ℕ) (h : Heeded) → P (onHeeded l k v h)
-  heeded-speaks v Heeded.Waits = waits
-  heeded-speaks v Heeded.Good = valued-speaks v
-  heeded-speaks v (Heeded.Bad status) = stops
-
-  pub frame-speaks : (command : ℕ) (bytes : List ℕ) → P (intakeOf l k (heard command bytes))
-  unfolding intakeOf
-  frame-speaks command bytes = heeded-speaks (rest bytes) (heeding getCode (idAt k) command bytes)

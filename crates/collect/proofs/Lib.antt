@@ -7,6 +7,5 @@ pub mod Reaching
 pub mod Boards
 pub mod Carrying
 pub mod Calling
-pub mod Silences
 pub mod Theorems
 pub mod Same

@@ -13,7 +13,7 @@ use Rattle.laws.proofs.Lists.{every-replicate, upTo-all}
 use Rattle.settings.specs.Columns.{count}
 use Rattle.reply.specs.Events.{Event}
 use Rattle.collect.specs.Collecting.{fits, intakeOf, took, halted, mostTries, counted, silenced, moved, isWaiting, advanced, begun, within, allFit, noneAfter, allowed}
-use Rattle.collect.specs.Laws.{run, following}
+use Rattle.collect.specs.Laws.{run, Carried, following}
 use Rattle.collect.specs.declared.Collector.{Collector}
 use Rattle.collect.specs.declared.intake.Intake.{Intake}
 use Rattle.collect.proofs.Moving.{waiting-moves, ended-stays}
@@ -88,28 +88,31 @@ stopped-stays : (l : List ℕ) (silences : ℕ) → isWaiting (shaped l silences
 unfolding isWaiting
 stopped-stays l silences = refl
 
--- what events come to: the numbers taken, and a collector that holds them
-pub record Ends (c : Collector) (l : List ℕ) : Type 0 where
-  pub fit : AllFit l
-  pub few : length l ≤ count
+-- what events come to: the numbers taken and whether they ended it, and a collector that holds both
+pub record Ends (c : Collector) (all : Carried) : Type 0 where
+  pub fit : AllFit (all .numbers)
+  pub few : length (all .numbers) ≤ count
   pub silences : ℕ
-  pub stopped : Bool
-  pub is : c ≡ shaped l silences stopped
-  pub in-ends : within (length l) silences stopped ≡ true
+  pub is : c ≡ shaped (all .numbers) silences (all .ended)
+  pub in-ends : within (length (all .numbers)) silences (all .ended) ≡ true
 
-abbrev pub taking : ℕ → List ℕ → List Event → List ℕ
-taking silences l [] = l
+abbrev pub so-far : List ℕ → Bool → Carried
+so-far l ended = record { numbers = l; ended = ended }
+
+abbrev pub taking : ℕ → List ℕ → List Event → Carried
+taking silences l [] = so-far l false
 taking silences l (e ∷ more) =
     cond (ltb (length l) count)
-    (following (λ n. taking 0 (l ++ n ∷ []) more) l (taking silences l more)
-    (cond (ltb (suc silences) mostTries) (taking (suc silences) l more) l)
+    (following (λ n. taking 0 (l ++ n ∷ []) more) (so-far l true) (taking silences l more)
+    (cond (ltb (suc silences) mostTries) (taking (suc silences) l more) (so-far l true))
     (intakeOf l (length l) e))
-    l
+    (so-far l false)
 
 -- what is taken of the events after one that does this
-abbrev pub takingOn : ℕ → List ℕ → List Event → Intake → List ℕ
+abbrev pub takingOn : ℕ → List ℕ → List Event → Intake → Carried
 takingOn silences l more v =
-    following (λ n. taking 0 (l ++ n ∷ []) more) l (taking silences l more) (cond (ltb (suc silences) mostTries) (taking (suc silences) l more) l) v
+    following (λ n. taking 0 (l ++ n ∷ []) more) (so-far l true) (taking silences l more)
+    (cond (ltb (suc silences) mostTries) (taking (suc silences) l more) (so-far l true)) v
 
 -- how many silences there may be
 stopped-within : (len silences : ℕ) → len < count → silences ≤ mostTries → within len silences true ≡ true
@@ -131,13 +134,12 @@ fresh-within len few = by (ltb len count) refl
         rw (eq-eqb len count (omega arith))
 
 module _ (l : List ℕ) (silences : ℕ) (more : List Event) (all : AllFit l) (h : length l < count) (left : silences < mostTries) where
-  ended : (n : ℕ) (c : Collector) → c ≡ shaped l n true → n ≤ mostTries → Ends (run c more) l
+  ended : (n : ℕ) (c : Collector) → c ≡ shaped l n true → n ≤ mostTries → Ends (run c more) (so-far l true)
   ended n c is k =
       record {
         fit = all;
         few = omega arith;
         silences = n;
-        stopped = true;
         is = ap (λ (d : Collector). run d more) is ∙ run-stays (shaped l n true) (stopped-stays l n) more;
         in-ends = stopped-within (length l) n h k;
       }
@@ -152,7 +154,7 @@ module _ (l : List ℕ) (silences : ℕ) (more : List Event) (all : AllFit l) (h
   intake-ends next later again Intake.Waits t = later
   intake-ends next later again Intake.Silence t = by (ltb (suc silences) mostTries) refl
     where
-      by : (b : Bool) → ltb (suc silences) mostTries ≡ b → Ends (run (silenced (held l silences)) more) (cond b (taking (suc silences) l more) l)
+      by : (b : Bool) → ltb (suc silences) mostTries ≡ b → Ends (run (silenced (held l silences)) more) (cond b (taking (suc silences) l more) (so-far l true))
       by true e = let few = ltb-true (suc silences) mostTries e in rw (held-silenced l silences few) (again few)
       by false e =
           let last : mostTries ≤ suc silences = ltb-false (suc silences) mostTries e in
@@ -160,7 +162,7 @@ module _ (l : List ℕ) (silences : ℕ) (more : List Event) (all : AllFit l) (h
 
 pub run-ends : (events : List Event) (l : List ℕ) (silences : ℕ) → AllFit l → length l ≤ count → within (length l) silences false ≡ true
     → Ends (run (held l silences) events) (taking silences l events)
-run-ends [] l silences all few w = record { fit = all; few = few; silences = silences; stopped = false; is = refl; in-ends = w }
+run-ends [] l silences all few w = record { fit = all; few = few; silences = silences; is = refl; in-ends = w }
 run-ends (e ∷ more) l silences all few w =
     choose-ends (ltb (length l) count) refl
     (λ h. subst (λ (c : Collector). Ends (run c more) (takingOn silences l more (intakeOf l (length l) e))) (sym (held-advances l silences h e))
@@ -172,12 +174,12 @@ run-ends (e ∷ more) l silences all few w =
   where
     choose-ends : (b : Bool) → ltb (length l) count ≡ b
         → (length l < count → Ends (run (advanced (held l silences) e) more) (takingOn silences l more (intakeOf l (length l) e)))
-        → Ends (run (advanced (held l silences) e) more) (cond b (takingOn silences l more (intakeOf l (length l) e)) l)
+        → Ends (run (advanced (held l silences) e) more) (cond b (takingOn silences l more (intakeOf l (length l) e)) (so-far l false))
     choose-ends true t waiting = waiting (ltb-true _ _ t)
     choose-ends false t waiting =
         let past : count ≤ length l = ltb-false _ _ t in
         let full : length l ≡ count = omega arith in
-        record { fit = all; few = few; silences = silences; stopped = false; is = run-stays (held l silences) (done-stays l silences full) (e ∷ more); in-ends = w }
+        record { fit = all; few = few; silences = silences; is = run-stays (held l silences) (done-stays l silences full) (e ∷ more); in-ends = w }
 
 -- all such states are allowed
 pub begun-ends : (events : List Event) → Ends (run begun events) (taking 0 [] events)
@@ -199,5 +201,6 @@ module _ (l : List ℕ) (all : AllFit l) where
   unfolding allowed
   shaped-allowed silences stopped w = both (within (length l) silences stopped) _ w (both _ _ held-fit held-none)
 
-pub ends-allowed : {c : Collector} {l : List ℕ} → Ends c l → allowed c ≡ true
-ends-allowed {c} {l} e = subst (λ (d : Collector). allowed d ≡ true) (sym (e .is)) (shaped-allowed l (e .fit) (e .silences) (e .stopped) (e .in-ends))
+pub ends-allowed : {c : Collector} {all : Carried} → Ends c all → allowed c ≡ true
+ends-allowed {c} {all} e =
+    subst (λ (d : Collector). allowed d ≡ true) (sym (e .is)) (shaped-allowed (all .numbers) (e .fit) (e .silences) (all .ended) (e .in-ends))

@@ -1,7 +1,6 @@
 -- The statements of specs/Laws.antt, proved. Assumes nothing.
-use Rattle.collect.specs.Laws.{AllowedIsReached, RefusedIsStray, CallsFollow, TableIsCarried, ToldIsLast, EndedStays, TableIsAllowed, BoardIsRead, SilenceStops}
+use Rattle.collect.specs.Laws.{AllowedIsReached, RefusedIsStray, CallsFollow, TableIsCarried, ToldIsLast, EndedStays, TableIsAllowed, BoardIsRead}
 use Rattle.collect.proofs.Calling.{reached-calls, stray-refused, calls-run, table-carried, told-last, ended-stays-it, table-allowed, board-read}
-use Rattle.collect.proofs.Silences as silences
 
 pub allowed-is-reached : AllowedIsReached
 allowed-is-reached = reached-calls
@@ -26,6 +25,3 @@ table-is-allowed = table-allowed
 
 pub board-is-read : BoardIsRead
 board-is-read = board-read
-
-pub silence-stops : SilenceStops
-silence-stops = silences.silence-stops

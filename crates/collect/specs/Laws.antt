@@ -1,12 +1,12 @@
 -- What is proved of the definitions, as statements to compare with the papers. Each is proved under its name in proofs/Theorems.antt.
 -- (The numbers of a collector and of a table are `count` in every value of the type, which `length` says.) Assumes nothing.
-use Prim.Native.Nat.{ℕ, suc}
+use Prim.Native.Nat.{ℕ, suc, _<_}
 use mathlib.Core.Path.{_≡_}
 use mathlib.Core.Logic.{_≢_, _↔_}
-use mathlib.Core.Bool.{true, false, cond, _&&_}
+use mathlib.Core.Bool.{Bool, true, false, cond, _&&_}
 use mathlib.Core.List.{List, [], _∷_, _++_}
 use lib.ListN.{length, take, drop}
-use lib.Dec.{ltb, eqb}
+use lib.Dec.{ltb}
 use Rattle.laws.specs.Lists.{same}
 use Rattle.endian.specs.Numbers.{little, fromLittle}
 use Rattle.settings.specs.Columns.{count, idAt, widthAt}
@@ -18,7 +18,7 @@ use Rattle.tables.specs.declared.Table.{Table}
 use Rattle.paper.specs.Numbers.{getCode}
 use Rattle.answers.specs.Answers.{said}
 use Rattle.reply.specs.Events.{Event, heard, refusedFrame, noAnswer, OnStream, answers}
-use Rattle.collect.specs.Collecting.{fits, mostTries, advanced, begun, allowed}
+use Rattle.collect.specs.Collecting.{fits, advanced, begun, allowed}
 use Rattle.collect.specs.Calls.{told, starting, collecting}
 use Rattle.collect.specs.declared.Collector.{Collector}
 use Rattle.collect.specs.declared.Stage.{Stage}
@@ -72,53 +72,57 @@ carries so-far k (heard command bytes) =
 carries so-far k refusedFrame = Intake.Waits
 carries so-far k noAnswer = Intake.Silence
 
--- the numbers carried, one after the other, until it ends or every setting has one; with how many silences came since the last
-abbrev pub following : (ℕ → List ℕ) → List ℕ → List ℕ → List ℕ → Intake → List ℕ
-following next so-far later silent (Intake.Takes n) = next n
-following next so-far later silent Intake.Stops = so-far
-following next so-far later silent Intake.Waits = later
-following next so-far later silent Intake.Silence = silent
+-- what a row of events carries: the numbers, one after the other, and whether one of the events ended it before every setting had one
+pub record Carried : Type 0 where
+  pub numbers : List ℕ
+  pub ended : Bool
 
-abbrev pub carriedAfter : ℕ → List ℕ → List Event → List ℕ
-carriedAfter silences so-far [] = so-far
+abbrev pub following : (ℕ → Carried) → Carried → Carried → Carried → Intake → Carried
+following next stop later silent (Intake.Takes n) = next n
+following next stop later silent Intake.Stops = stop
+following next stop later silent Intake.Waits = later
+following next stop later silent Intake.Silence = silent
+
+-- with how many silences came since the last number: the third in a row ends it
+abbrev pub carriedAfter : ℕ → List ℕ → List Event → Carried
+carriedAfter silences so-far [] = record { numbers = so-far; ended = false }
 carriedAfter silences so-far (e ∷ more) =
+    let stop : Carried = record { numbers = so-far; ended = true } in
     cond (ltb (length so-far) count)
-    (following (λ n. carriedAfter 0 (so-far ++ n ∷ []) more) so-far (carriedAfter silences so-far more)
-    (cond (ltb (suc silences) mostTries) (carriedAfter (suc silences) so-far more) so-far)
+    (following (λ n. carriedAfter 0 (so-far ++ n ∷ []) more) stop (carriedAfter silences so-far more)
+    (cond (ltb (suc silences) 3) (carriedAfter (suc silences) so-far more) stop)
     (carries so-far (length so-far) e))
-    so-far
+    (record { numbers = so-far; ended = false })
 
-abbrev pub carried : List ℕ → List Event → List ℕ
-carried so-far events = carriedAfter 0 so-far events
+abbrev pub carried : List Event → Carried
+carried events = carriedAfter 0 [] events
 
--- the setting that is asked for, or was when it stopped
-abbrev pub namedBy : Stage → List Setting
-namedBy (Stage.Waiting s) = s ∷ []
-namedBy (Stage.Stopped s) = s ∷ []
-namedBy Stage.Done = []
-namedBy (Stage.Refused number) = []
+-- How far the reading is, by what was carried: done exactly where every setting has a number; stopped exactly where an event ended it;
+-- waiting exactly where a setting is left and none did. The setting named is the one after those that have a number.
+pub data Tells (all : Carried) : Stage → Type 0 where
+  tells-done : length (all .numbers) ≡ count → Tells all Stage.Done
+  tells-stopped : all .ended ≡ true → Tells all (Stage.Stopped (settingAt (length (all .numbers))))
+  tells-waiting : length (all .numbers) < count → all .ended ≡ false → Tells all (Stage.Waiting (settingAt (length (all .numbers))))
 
--- what the last call answers, by the numbers carried: the setting named is the one after those that have a number
-pub record Holds (numbers : List ℕ) (last : Collected) : Type 0 where
-  pub numbers-are : take (last .collector .len) (last .collector .numbers) ≡ numbers
-  pub answered-are : last .answered ≡ length numbers
-  pub named-is : namedBy (last .stage) ≡ cond (ltb (length numbers) count) (settingAt (length numbers) ∷ []) []
-  pub done-when : (last .stage ≡ Stage.Done) ↔ (length numbers ≡ count)
-  pub table-is : last .stage ≡ Stage.Done → last .table ≡ record { numbers = numbers }
+-- what the last call answers
+pub record Holds (all : Carried) (last : Collected) : Type 0 where
+  pub numbers-are : take (last .collector .len) (last .collector .numbers) ≡ all .numbers
+  pub answered-are : last .answered ≡ length (all .numbers)
+  pub stage-when : (s : Stage) → (last .stage ≡ s) ↔ Tells all s
+  pub table-is : last .stage ≡ Stage.Done → last .table ≡ record { numbers = all .numbers }
 
 abbrev pub TableIsCarried : Type 0
-TableIsCarried = (events : List Event) → OnStream events → Holds (carried [] events) (calls starting events)
+TableIsCarried = (events : List Event) → OnStream events → Holds (carried events) (calls starting events)
 
 -- `told` says of the collector that was handed back what was told of it.
 abbrev pub ToldIsLast : Type 0
 ToldIsLast = (events : List Event) → told (calls starting events .collector) ≡ calls starting events
 
--- The start waits for the first setting; and where no setting is waited for, the collector has ended: whatever comes, the answer stays.
+-- Where no setting is waited for, the collector has ended: whatever comes, the answer stays.
 abbrev pub EndedStays : Type 0
 EndedStays =
-    (starting .stage ≡ Stage.Waiting (settingAt 0))
-    × ((events : List Event) (e : Event) → let last = calls starting events in
-    ((s : Setting) → last .stage ≢ Stage.Waiting s) → collecting (last .collector) e ≡ last)
+    (events : List Event) (e : Event) → let last = calls starting events in
+    ((s : Setting) → last .stage ≢ Stage.Waiting s) → collecting (last .collector) e ≡ last
 
 -- 3. A table that is given as done is allowed; every other is the factory table.
 pub record Handed (last : Collected) : Type 0 where
@@ -143,27 +147,3 @@ BoardIsRead =
       answered = count;
       table = t;
     }
-
--- 5. When silence stops. How many times no answer came since the last setting was answered, by what the calls answer.
-abbrev pub silencesBy : Event → ℕ → ℕ
-silencesBy (heard command bytes) n = n
-silencesBy refusedFrame n = n
-silencesBy noAnswer n = suc n
-
-abbrev pub silencesAfter : Collected → ℕ → List Event → ℕ
-silencesAfter last n [] = n
-silencesAfter last n (e ∷ more) =
-    let next = collecting (last .collector) e in
-    silencesAfter next (cond (eqb (next .answered) (last .answered)) (silencesBy e n) 0) more
-
--- A setting is due after any events. One more "no answer" stops the collector there exactly when it is the third in a row, and otherwise
--- the same setting stays due, with nothing else changed in the answer.
-pub record Silent (last next : Collected) (before : ℕ) (s : Setting) : Type 0 where
-  pub stops-when : (next .stage ≡ Stage.Stopped s) ↔ (before ≡ 2)
-  pub else-waits : before ≢ 2 → next .stage ≡ Stage.Waiting s
-  pub answered-same : next .answered ≡ last .answered
-
-abbrev pub SilenceStops : Type 0
-SilenceStops =
-    (events : List Event) (s : Setting) → calls starting events .stage ≡ Stage.Waiting s
-    → Silent (calls starting events) (collecting (calls starting events .collector) noAnswer) (silencesAfter starting 0 events) s

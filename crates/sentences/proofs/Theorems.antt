@@ -22,7 +22,7 @@ use Rattle.settings.specs.Calls.{settingAt}
 use Rattle.settings.specs.declared.Setting.{Setting}
 use Rattle.collect.specs.Collecting.{allowed, begun as collected-none}
 use Rattle.collect.specs.Calls.{good as collected-as, told}
-use Rattle.collect.specs.Laws.{run as collected-run}
+use Rattle.collect.specs.Laws.{run as collected-run, Carried, Tells, tells-done}
 use Rattle.collect.proofs.Calling.{called}
 use Rattle.collect.proofs.Reaching.{begun-ends, ends-allowed}
 use Rattle.collect.proofs.Theorems.{table-is-carried}
@@ -164,6 +164,9 @@ module _ (events : List Event) where
   unfolding collected-as
   own-word = rw (called events) (own-good (collected-run collected-none events) (ends-allowed (begun-ends events)))
 
+done-carried : (all : Carried) → Tells all collects.Stage.Done → length (all .numbers) ≡ count
+done-carried all (tells-done is) = is
+
 pub line-is-carried : LineIsCarried
 unfolding collectedText
 line-is-carried events r =
@@ -172,8 +175,8 @@ line-is-carried events r =
     let said : told c .stage ≡ collectedBy events .stage = ap (λ (w : Collected). w .stage) (own-word events) in
     record {
       all-when = (
-        λ e. holds .done-when .0 (sym said ∙ read-done c (read-is-read c .0 e)),
-        λ all. read-is-read c .1 (done-read c (ap isDone (said ∙ holds .done-when .1 all))),
+        λ e. done-carried _ (holds .stage-when collects.Stage.Done .0 (sym said ∙ read-done c (read-is-read c .0 e))),
+        λ all. read-is-read c .1 (done-read c (ap isDone (said ∙ holds .stage-when collects.Stage.Done .1 (tells-done all)))),
       );
       numbers-are = ap (λ (w : Collected). readText (w .stage) (w .answered) count) (own-word events)
           ∙ ap (λ (n : ℕ). readText (collectedBy events .stage) n count) (holds .answered-are);

@@ -111,8 +111,8 @@ abbrev pub collectedBy : List Event → Collected
 collectedBy events = collects starting events
 
 pub record CarriedSays (events : List Event) : Type 0 where
-  pub all-when : Says (lineOf (collectedText (collectedBy events .collector))) 0 "all " ↔ (length (carried [] events) ≡ count)
-  pub numbers-are : collectedText (collectedBy events .collector) ≡ readText (collectedBy events .stage) (length (carried [] events)) count
+  pub all-when : Says (lineOf (collectedText (collectedBy events .collector))) 0 "all " ↔ (length (carried events .numbers) ≡ count)
+  pub numbers-are : collectedText (collectedBy events .collector) ≡ readText (collectedBy events .stage) (length (carried events .numbers)) count
 
 abbrev pub LineIsCarried : Type 0
 LineIsCarried = (events : List Event) → OnStream events → CarriedSays events

@@ -1,7 +1,10 @@
 -- `collect::place::is_fit` meets its contract. Assumes nothing.
-use mathlib.Core.Path.{_∙_}
-use Rattle.collect.proofs.Deciding.{partner-small, fits-before, fits-later}
+use mathlib.Core.Path.{sym, _∙_}
 use native.Mathlib.Omega.{arith}
+use borrow.Author.Tests.{lt-ltb, le-ltb}
+use Rattle.settings.specs.Calls.{allowing}
+use Rattle.collect.specs.Collecting.{fits}
+use Rattle.collect.proofs.Deciding.{partner-is, partner-small}
 use borrow.Author.Needs.{needs}
 use Rattle.collect.proofs.place.is_fit.Statement.{statement}
 use Rattle.collect.proofs.place.is_fit.Tie as tie
@@ -13,10 +16,16 @@ array-read-allows : tie.Need-array-read-allows
 array-read-allows c = partner-small _ _ (c .before .setting-at .ensures) (c .before .before .pre)
 
 returns : tie.Need-returns
-returns c = c .allows .ensures ∙ fits-before _ _ _ _ (c .before .before .setting-at .ensures) (c .before .before .before .pre) (c .before .if1 .taken)
+unfolding allowing fits
+returns c =
+    c .allows .ensures
+    ∙ rw (sym (partner-is _ _ (c .before .before .setting-at .ensures)), lt-ltb _ _ (c .before .before .before .pre), lt-ltb _ _ (c .before .if1 .taken))
 
 returns-2 : tie.Need-returns-2
-returns-2 c = c .allows2 .ensures ∙ fits-later _ _ _ _ (c .before .before .setting-at .ensures) (c .before .before .before .pre) (c .before .if1 .left)
+unfolding allowing fits
+returns-2 c =
+    c .allows2 .ensures
+    ∙ rw (sym (partner-is _ _ (c .before .before .setting-at .ensures)), lt-ltb _ _ (c .before .before .before .pre), le-ltb _ _ (c .before .if1 .left))
 
 pub is-fit-spec : {M : Type 1} → statement M
 is-fit-spec =
