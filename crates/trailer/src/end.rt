@@ -1,5 +1,6 @@
 use crate::words;
 use board::Board;
+use tables::Table;
 use wire::Written;
 
 // Writes the board's settings as a backup text to the file that was named, if one was.
@@ -9,11 +10,15 @@ pub(crate) fn store(board: Board) {
     if words::is_left_out(&path[..len]) {
         return;
     }
-    let table = board.core.table;
+    write(&path[..len], board.core.table);
+}
+
+// Writes a table as a backup text to a file.
+fn write(path: &[u8], table: Table) {
     let mut text = [0u8; paper::TEXT_ROOM];
     let written = backup::write(table, &mut text);
     match written {
-        Written::Len(count) => keep(&path[..len], &text, count),
+        Written::Len(count) => keep(path, &text, count),
         Written::Refused(_) => words::say(b"not written: the board's table is not allowed"),
     }
 }

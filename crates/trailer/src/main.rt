@@ -18,23 +18,7 @@ mod words;
 
 fn main() {
     let begun = start::board();
-    if !begun.ready {
-        return;
+    if begun.ready {
+        serve::line(begun.board);
     }
-    let mut path = io::buffer();
-    let len = words::word(words::LINE, &mut path);
-    if words::is_left_out(&path[..len]) {
-        let served = serve::pipe(begun.board);
-        end::store(served);
-        return;
-    }
-    let fd = os::open_update(&path[..len]);
-    if fd < 0 {
-        os::fail(&path[..len]);
-        words::say(b"not started: LINE cannot be opened");
-        return;
-    }
-    let served = serve::device(begun.board, fd);
-    libc::close(fd);
-    end::store(served);
 }

@@ -1,4 +1,5 @@
 ghost use Prim.Native.Nat.{_≤_};
+use crate::end;
 use crate::words;
 use board::Board;
 
@@ -63,7 +64,7 @@ fn turn(board: Board, input: i32, output: i32) -> Turned {
 }
 
 // Serves standard input and output, until the input ends.
-pub(crate) fn pipe(board: Board) -> Board {
+fn pipe(board: Board) -> Board {
     let mut board = board;
     let mut turns = u64::MAX;
     while turns > 0 {
@@ -78,7 +79,7 @@ pub(crate) fn pipe(board: Board) -> Board {
 }
 
 // Serves a device, until it fails or is silent for a day. A read that gives nothing is a second of silence there.
-pub(crate) fn device(board: Board, fd: i32) -> Board {
+fn device(board: Board, fd: i32) -> Board {
     let mut board = board;
     let mut quiet = MOST_QUIET;
     let mut turns = u64::MAX;
@@ -92,4 +93,27 @@ pub(crate) fn device(board: Board, fd: i32) -> Board {
         turns -= 1;
     }
     board
+}
+
+// Serves the serial line that the arguments ask for, and stores the settings at its end.
+pub(crate) fn line(board: Board) {
+    let mut path = io::buffer();
+    let len = words::word(words::LINE, &mut path);
+    if words::is_left_out(&path[..len]) {
+        return end::store(pipe(board));
+    }
+    line_at(board, &path[..len]);
+}
+
+// Serves the device at a path, likewise.
+fn line_at(board: Board, path: &[u8]) {
+    let fd = os::open_update(path);
+    if fd < 0 {
+        os::fail(path);
+        words::say(b"not started: LINE cannot be opened");
+        return;
+    }
+    let served = device(board, fd);
+    libc::close(fd);
+    end::store(served);
 }

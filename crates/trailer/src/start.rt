@@ -102,9 +102,14 @@ fn table() -> Chosen {
             table: Table::factory(),
         };
     }
-    let fd = os::open_read(&path[..len]);
+    table_at(&path[..len])
+}
+
+// Returns the table of the file at a path, or none and says why.
+fn table_at(path: &[u8]) -> Chosen {
+    let fd = os::open_read(path);
     if fd < 0 {
-        os::fail(&path[..len]);
+        os::fail(path);
         words::say(b"not started: START cannot be read");
         return no_table();
     }
