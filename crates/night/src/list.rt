@@ -32,6 +32,11 @@ pub(crate) fn read(into: &mut [u8]) -> List {
         os::fail(&path[..len]);
         return nothing(State::Unread);
     }
+    read_open(fd, into)
+}
+
+// Reads an open list into a buffer, and closes it.
+fn read_open(fd: i32, into: &mut [u8]) -> List {
     let len = io::read_full(fd, into);
     let whole = file::is_read(fd, len, into.len());
     libc::close(fd);

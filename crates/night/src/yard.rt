@@ -156,6 +156,11 @@ fn listed(sheet: Sheet, row: &[u8]) -> Sheet {
     named(sheet, &row[name..])
 }
 
+// Tells and counts a trailer that is not begun, of which no serial is known.
+fn unmet(sheet: Sheet, name: &[u8], why: &[u8]) -> Sheet {
+    not_begun(sheet, name, whose::untold(), Line::start().put(why))
+}
+
 // Restores the trailer of a row that begins with its name.
 fn named(sheet: Sheet, row: &[u8]) -> Sheet {
     let name_end = list::next(row, 0, true);
@@ -163,11 +168,10 @@ fn named(sheet: Sheet, row: &[u8]) -> Sheet {
     let path_end = list::next(row, path, true);
     let kept = list::next(row, path_end, false);
     if row.len() <= kept {
-        return not_begun(
+        return unmet(
             sheet,
             row,
-            whose::untold(),
-            Line::start().put(b"a row has a name, a line and a file, blanks between"),
+            b"a row has a name, a line and a file, blanks between",
         );
     }
     let mark = list::mark_of(row, kept);
@@ -305,27 +309,15 @@ fn not_begun(sheet: Sheet, name: &[u8], serial: Serial, why: Line) -> Sheet {
 
 // Restores one trailer. Its serial line is opened first: where the serial line and the file are swapped, the device is not read as a file.
 fn trailer(sheet: Sheet, name: &[u8], path: &[u8], kept: &[u8], column: &[u8]) -> Sheet {
-    let why = Line::start();
     if check::same(path, b"-") {
-        return not_begun(
-            sheet,
-            name,
-            whose::untold(),
-            why.put(b"in a yard a line is a device"),
-        );
+        return unmet(sheet, name, b"in a yard a line is a device");
     }
     let ends = serial::open(path);
     if ends.file {
-        return not_begun(
-            sheet,
-            name,
-            whose::untold(),
-            why.put(b"its line is a file and no line"),
-        );
+        return unmet(sheet, name, b"its line is a file and no line");
     }
     if !ends.open {
-        let why = words::put_reason(why.put(b"its line cannot be opened: "), ends.error);
-        return not_begun(sheet, name, whose::untold(), why);
+        return unopened(sheet, name, ends.error);
     }
     let len = words::filled(kept);
     let after = begun(sheet, name, ends, &kept[..len], column);
@@ -333,16 +325,17 @@ fn trailer(sheet: Sheet, name: &[u8], path: &[u8], kept: &[u8], column: &[u8]) -
     after
 }
 
+// Tells and counts a trailer that is not begun because its serial line cannot be opened, with the system's reason.
+fn unopened(sheet: Sheet, name: &[u8], error: i32) -> Sheet {
+    let why = Line::start().put(b"its line cannot be opened: ");
+    not_begun(sheet, name, whose::untold(), words::put_reason(why, error))
+}
+
 // Reads the file of a trailer whose serial line is open, and goes on if it is good.
 fn begun(sheet: Sheet, name: &[u8], ends: Ends, kept: &[u8], column: &[u8]) -> Sheet {
     let text = file::read(kept);
     if !text.is {
-        return not_begun(
-            sheet,
-            name,
-            whose::untold(),
-            Line::start().put(b"its file cannot be read"),
-        );
+        return unmet(sheet, name, b"its file cannot be read");
     }
     let backup = text.backup;
     let verdict = backup.verdict;
