@@ -15,12 +15,12 @@ use Rattle.settings.specs.declared.Found.{Found}
 use Rattle.settings.proofs.Theorems.{rows-hold, find-is-found, allowed-has-room}
 use Rattle.tables.proofs.Theorems.{refused-names-nearest}
 use Rattle.tables.proofs.Tables.{set-accepted}
-use Rattle.endian.specs.Numbers.{little, fromLittle}
+use Rattle.endian.specs.Numbers.{little, fromLittle, said}
 use Rattle.paper.specs.Numbers.{setCode}
 use Rattle.who.specs.Values.{readOnly}
 use Rattle.who.specs.Laws.{isSome}
 use Rattle.who.proofs.Theorems.{held-is-read-out}
-use Rattle.answers.specs.Answers.{said, getsOther, setsSetting, frameAnswer}
+use Rattle.answers.specs.Answers.{getsOther, setsSetting, frameAnswer}
 use Rattle.answers.specs.Refusals.{isReadOnly}
 use Rattle.answers.specs.Laws.{GetAnswersHeld, GetAnswersReadOnly, SetStoresIt, SetRefusedNamesNearest}
 use Rattle.answers.specs.declared.Core.{Core}

@@ -17,9 +17,9 @@ use Rattle.settings.specs.declared.Found.{Found}
 use Rattle.tables.specs.declared.Answer.{Answer}
 use Rattle.tables.specs.declared.Change.{Change}
 use Rattle.paper.specs.Numbers.{getCode, setCode, notAllowed}
-use Rattle.answers.specs.Answers.{coreAllowed, withTable, silent, sent, staying, said, malformed, unknownId, notSupported, wrongWidth, getsOther, getsFound, getAnswer, setsOther, stored, setsSetting, setsFound, setAnswer, frameAnswer}
+use Rattle.answers.specs.Answers.{coreAllowed, withTable, silent, sent, staying, malformed, unknownId, notSupported, wrongWidth, getsOther, getsFound, getAnswer, setsOther, stored, setsSetting, setsFound, setAnswer, frameAnswer}
 use Rattle.who.specs.Parts.{identityAllowed}
-use Rattle.endian.specs.Numbers.{fromLittle}
+use Rattle.endian.specs.Numbers.{fromLittle, said}
 use Rattle.who.specs.Calls.{valueOf, noValue, lookedOf}
 use Rattle.answers.specs.Calls.{answering}
 use Rattle.answers.specs.AsHeld.{messageOf, saidOf, replying, decidedOf}

@@ -17,13 +17,13 @@ use Rattle.settings.specs.declared.Setting.{Setting}
 use Rattle.settings.specs.declared.Found.{Found}
 use Rattle.tables.specs.declared.Answer.{Answer}
 use Rattle.who.specs.Parts.{identityAllowed}
-use Rattle.endian.specs.Numbers.{little, fromLittle}
+use Rattle.endian.specs.Numbers.{little, fromLittle, said}
 use Rattle.endian.proofs.Little.{length-little, bytes-little}
 use Rattle.who.specs.Values.{readOnly}
 use Rattle.who.specs.Laws.{Small, small-some}
 use Rattle.who.proofs.Theorems.{values-fit}
 use Rattle.paper.specs.Numbers.{getCode, setCode, pingCode, versionCode, productCode, restartCode, asyncCode}
-use Rattle.answers.specs.Answers.{sent, Decision, said, tells, restarts, getsOther, getsFound, getAnswer, setsOther, stored, setsSetting, setsFound, setAnswer, frameAnswer}
+use Rattle.answers.specs.Answers.{sent, Decision, tells, restarts, getsOther, getsFound, getAnswer, setsOther, stored, setsSetting, setsFound, setAnswer, frameAnswer}
 use Rattle.answers.specs.AsHeld.{Settled}
 use Rattle.answers.specs.Laws.{Fits, nothing, a-frame, an-error, RepliesFit}
 use Rattle.answers.specs.declared.Core.{Core}

@@ -10,7 +10,7 @@ use Rattle.laws.specs.Promise.{overlaid, frontOf}
 use Rattle.laws.proofs.Promise.{copied-at}
 use Rattle.paper.specs.Numbers as paper
 use Rattle.who.specs.Calls.{valueOf}
-use Rattle.answers.specs.Answers.{said}
+use Rattle.endian.specs.Numbers.{said}
 use Rattle.answers.specs.AsHeld.{messageOf, saidOf}
 
 -- three bytes, and 32 that are copied after them

@@ -2,7 +2,7 @@
 -- order, and the two paragraphs below them. Assumes nothing.
 use Prim.Native.Nat.{ℕ}
 use mathlib.Core.Bool.{Bool, cond, _&&_}
-use mathlib.Core.List.{List, [], _∷_, _++_}
+use mathlib.Core.List.{List, [], _∷_}
 use mathlib.Core.Option.{Option, none, some}
 use lib.ListN.{length, take, drop, getD}
 use lib.Dec.{eqb, ltb, leb}
@@ -16,7 +16,7 @@ use Rattle.settings.specs.declared.Setting.{Setting}
 use Rattle.settings.specs.declared.Found.{Found}
 use Rattle.tables.specs.declared.Answer.{Answer}
 use Rattle.who.specs.Parts.{identityAllowed, noReadings}
-use Rattle.endian.specs.Numbers.{little, fromLittle}
+use Rattle.endian.specs.Numbers.{little, fromLittle, said}
 use Rattle.who.specs.Values.{readOnly}
 use Rattle.who.specs.declared.Readings.{Readings}
 use Rattle.answers.specs.declared.Core.{Core}
@@ -44,10 +44,6 @@ pub record Decision : Type 0 where
   pub outcome : Outcome
   pub reply : Sent
   pub core : Core
-
--- an id, a flag and a value
-abbrev pub said : ℕ → ℕ → List ℕ → List ℕ
-said id flag value = little 2 id ++ flag ∷ value
 
 module _ (core : Core) where
   -- "On 1 to 10 the settings and readings stay."

@@ -16,9 +16,9 @@ use Rattle.tables.specs.Rules.{allowed, numberAt, partnerNumber, changed}
 use Rattle.tables.specs.declared.Table.{Table}
 use Rattle.who.specs.Parts.{identityAllowed}
 use Rattle.who.specs.Laws.{Holds}
-use Rattle.endian.specs.Numbers.{little}
+use Rattle.endian.specs.Numbers.{little, said}
 use Rattle.paper.specs.Numbers.{getCode, setCode}
-use Rattle.answers.specs.Answers.{withTable, Sent, silent, sent, error, Decision, staying, said, frameAnswer, makes}
+use Rattle.answers.specs.Answers.{withTable, Sent, silent, sent, error, Decision, staying, frameAnswer, makes}
 use Rattle.answers.specs.Refusals.{rows, numberOf, Told}
 use Rattle.answers.specs.Calls.{answering}
 use Rattle.answers.specs.AsHeld.{decidedOf}

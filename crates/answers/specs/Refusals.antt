@@ -11,11 +11,11 @@ use Rattle.laws.specs.Refusals.{Row, row}
 use Rattle.settings.specs.Columns.{count, ids, idAt, widthAt, placeOf}
 use Rattle.settings.specs.Rules.{allowedFor, Nearest}
 use Rattle.tables.specs.Rules.{numberAt, partnerNumber, changed}
-use Rattle.endian.specs.Numbers.{little, fromLittle}
+use Rattle.endian.specs.Numbers.{little, fromLittle, said}
 use Rattle.who.specs.Parts.{noReadings}
 use Rattle.who.specs.Values.{readOnlyIds, among}
 use Rattle.who.specs.Laws.{Holds}
-use Rattle.answers.specs.Answers.{withTable, withReadings, Sent, silent, sent, error, said}
+use Rattle.answers.specs.Answers.{withTable, withReadings, Sent, silent, sent, error}
 use Rattle.answers.specs.declared.Core.{Core}
 use Rattle.answers.specs.declared.Outcome.{Outcome}
 

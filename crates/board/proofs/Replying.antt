@@ -23,10 +23,10 @@ use Rattle.settings.specs.Columns.{count, idAt, widthAt}
 use Rattle.settings.proofs.Theorems.{rows-hold}
 use Rattle.tables.specs.Rules.{numberAt}
 use Rattle.tables.proofs.Tables.{allowed-at}
-use Rattle.endian.specs.Numbers.{little}
-use Rattle.answers.specs.Requests.{getRequest, setRequest}
+use Rattle.endian.specs.Numbers.{little, said}
+use Rattle.requests.specs.Requests.{getRequest, setRequest}
 use Rattle.paper.specs.Numbers.{getCode, setCode}
-use Rattle.answers.specs.Answers.{coreAllowed, withTable, Sent, silent, sent, error, Decision, said, frameAnswer}
+use Rattle.answers.specs.Answers.{coreAllowed, withTable, Sent, silent, sent, error, Decision, frameAnswer}
 use Rattle.answers.specs.declared.Core.{Core}
 use Rattle.answers.specs.declared.Outcome.{Outcome}
 use Rattle.answers.specs.Laws.{Fits, a-frame, an-error}

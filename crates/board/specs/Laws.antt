@@ -22,10 +22,10 @@ use Rattle.tables.specs.Rules.{factory, allowed, numberAt, partnerNumber, chang
 use Rattle.tables.specs.declared.Table.{Table}
 use Rattle.who.specs.Laws.{isSerial, refusalOf, Holds}
 use Rattle.who.specs.Parts.{serialFits, serialOf, noReadings}
-use Rattle.endian.specs.Numbers.{little}
-use Rattle.answers.specs.Answers.{withTable, withReadings, said, frameAnswer}
+use Rattle.endian.specs.Numbers.{little, said}
+use Rattle.answers.specs.Answers.{withTable, withReadings, frameAnswer}
 use Rattle.answers.specs.declared.Core.{Core}
-use Rattle.answers.specs.Requests.{getRequest, setRequest}
+use Rattle.requests.specs.Requests.{getRequest, setRequest}
 use Rattle.answers.specs.Refusals.{numberOf}
 use Rattle.who.specs.declared.Verdict.{Verdict}
 use Rattle.answers.specs.declared.Outcome.{Outcome}

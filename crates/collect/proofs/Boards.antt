@@ -11,13 +11,12 @@ use lib.Seq.{append-snoc, getD-append-seam, length-take-le}
 use Rattle.laws.specs.Lists.{Bytes}
 use Rattle.laws.proofs.Bools.{and-left, and-right, both}
 use Rattle.laws.proofs.Lists.{every-zero, upTo-at}
-use Rattle.endian.specs.Numbers.{little, fromLittle}
+use Rattle.endian.specs.Numbers.{little, fromLittle, said}
 use Rattle.endian.proofs.Theorems.{little-is-read}
 use Rattle.settings.specs.Columns.{count, idAt, widthAt}
 use Rattle.settings.proofs.Theorems.{rows-hold, allowed-has-room}
 use Rattle.endian.proofs.Little.{length-little, bytes-little}
 use Rattle.paper.specs.Numbers.{getCode}
-use Rattle.answers.specs.Answers.{said}
 use Rattle.reply.specs.declared.Status.{Status}
 use Rattle.reply.specs.declared.Heeded.{Heeded}
 use Rattle.reply.specs.Calls.{heeding}

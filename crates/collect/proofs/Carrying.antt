@@ -10,12 +10,11 @@ use lib.Dec.{ltb, eqb}
 use Rattle.laws.specs.Lists.{every, same, Bytes}
 use Rattle.laws.proofs.Lists.{every-drop, same-back, same-self}
 use Rattle.paper.specs.Numbers.{getCode}
-use Rattle.endian.specs.Numbers.{little, fromLittle}
+use Rattle.endian.specs.Numbers.{little, fromLittle, said}
 use Rattle.endian.proofs.Little.{length-little}
 use Rattle.endian.proofs.Theorems.{read-is-little}
 use Rattle.settings.specs.Columns.{count, idAt, widthAt}
 use Rattle.settings.proofs.Theorems.{rows-hold}
-use Rattle.answers.specs.Answers.{said}
 use Rattle.reply.specs.Replies.{flagOf, rest}
 use Rattle.reply.specs.Calls.{heeding}
 use Rattle.reply.specs.Events.{Event, heard, refusedFrame, noAnswer, OnStream, nothing, a-frame, a-refusal, a-silence}

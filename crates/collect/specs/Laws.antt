@@ -8,7 +8,7 @@ use mathlib.Core.List.{List, [], _∷_, _++_}
 use lib.ListN.{length, take, drop}
 use lib.Dec.{ltb}
 use Rattle.laws.specs.Lists.{same}
-use Rattle.endian.specs.Numbers.{little, fromLittle}
+use Rattle.endian.specs.Numbers.{little, fromLittle, said}
 use Rattle.settings.specs.Columns.{count, idAt, widthAt}
 use Rattle.settings.specs.Calls.{settingAt}
 use Rattle.settings.specs.declared.Setting.{Setting}
@@ -16,7 +16,6 @@ use Rattle.tables.specs.Rules.{factory}
 use Rattle.tables.specs.Rules as tables
 use Rattle.tables.specs.declared.Table.{Table}
 use Rattle.paper.specs.Numbers.{getCode}
-use Rattle.answers.specs.Answers.{said}
 use Rattle.reply.specs.Events.{Event, heard, refusedFrame, noAnswer, OnStream, answers}
 use Rattle.collect.specs.Collecting.{fits, advanced, begun, allowed}
 use Rattle.collect.specs.Calls.{told, starting, collecting}

@@ -25,7 +25,7 @@ use Rattle.stream.proofs.Reached.{unfinished-kept}
 use Rattle.stream.proofs.Theorems.{written-is-heard, heard-from-anywhere}
 use Rattle.settings.specs.Columns.{count}
 use Rattle.tables.specs.declared.Table.{Table}
-use Rattle.answers.specs.Requests.{setData, setRequest}
+use Rattle.requests.specs.Requests.{setData, setRequest}
 use Rattle.answers.specs.declared.Core.{Core}
 use Rattle.board.specs.Parts.{boardAllowed}
 use Rattle.board.specs.Calls.{decidedBy, heardBy, answering}

@@ -24,7 +24,7 @@ use Rattle.tables.proofs.Theorems.{set-keeps-allowed, set-keeps-count}
 use Rattle.tables.proofs.Tables.{set-accepted, set-refused}
 use Rattle.paper.specs.Numbers.{setCode}
 use Rattle.answers.specs.Answers.{withTable, sent, Decision, staying}
-use Rattle.answers.specs.Requests.{setData, setRequest}
+use Rattle.requests.specs.Requests.{setData, setRequest}
 use Rattle.answers.specs.declared.Core.{Core}
 use Rattle.answers.specs.declared.Outcome.{Outcome}
 use Rattle.answers.proofs.Theorems.{set-stores-it}

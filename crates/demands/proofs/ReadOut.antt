@@ -11,8 +11,8 @@ use lib.IntN.{natAbs}
 use Rattle.who.specs.Parts.{serialFits}
 use Rattle.who.specs.Laws.{Holds}
 use Rattle.who.specs.declared.Readings.{Readings}
-use Rattle.answers.specs.Answers.{said}
-use Rattle.answers.specs.Requests.{getRequest}
+use Rattle.endian.specs.Numbers.{said}
+use Rattle.requests.specs.Requests.{getRequest}
 use Rattle.answers.specs.declared.Core.{Core}
 use Rattle.board.specs.Parts.{freshBoard, sampleFits, readingsOf, boardAllowed}
 use Rattle.board.specs.Calls.{starting, storing, answering}

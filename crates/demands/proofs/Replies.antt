@@ -13,7 +13,7 @@ use Rattle.laws.specs.Cutting.{calls}
 use Rattle.laws.specs.Lists.{Bytes}
 use Rattle.laws.proofs.Bools.{or-cases}
 use Rattle.laws.proofs.Lists.{every-take}
-use Rattle.endian.specs.Numbers.{little, fromLittle}
+use Rattle.endian.specs.Numbers.{little, fromLittle, said}
 use Rattle.wire.specs.Parsing.{good}
 use Rattle.wire.proofs.RoundTrip.{said-small}
 use Rattle.wire.proofs.RoundTrip as frames
@@ -24,7 +24,7 @@ use Rattle.listen.specs.Hearing.{boxHears}
 use Rattle.listen.proofs.Hearing.{box-cutting}
 use Rattle.settings.specs.Columns.{idAt}
 use Rattle.settings.proofs.Theorems.{rows-hold}
-use Rattle.answers.specs.Answers.{Sent, sent, said}
+use Rattle.answers.specs.Answers.{Sent, sent}
 use Rattle.answers.specs.Refusals.{isGetOrSet, idIn, Told, a-ping, a-version, a-product, a-restart, an-async, a-get, a-get-read-only, a-set, row-5, row-6, row-7, row-8, row-9, row-10, row-12}
 use Rattle.answers.specs.declared.Core.{Core}
 use Rattle.answers.specs.declared.Outcome.{Outcome}

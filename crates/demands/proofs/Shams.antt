@@ -14,7 +14,7 @@ use Rattle.laws.proofs.Lists.{same-self}
 use Rattle.laws.specs.Promise.{overlaid, frontOf, Given}
 use Rattle.wire.specs.Digits.{digit, nibble}
 use Rattle.wire.specs.Frame.{check, body, frame}
-use Rattle.endian.specs.Numbers.{little}
+use Rattle.endian.specs.Numbers.{little, said}
 use Rattle.wire.specs.Parsing.{Ended, good, refused, bodySays, brokenSays}
 use Rattle.stream.specs.Stream.{Unfinished, outside, inside, firstEnd, taken, framesOf}
 use Rattle.stream.specs.Calls.{noChars, heldOf, unfinished}
@@ -32,8 +32,8 @@ use Rattle.tables.proofs.Tables.{range-at, agrees-at}
 use Rattle.who.specs.Laws as who
 use Rattle.who.specs.Parts.{serialFits, identityOf, serialOf, identityAllowed}
 use Rattle.paper.specs.Numbers.{getCode}
-use Rattle.answers.specs.Answers.{coreAllowed, withTable, said, setsSetting, setAnswer, frameAnswer}
-use Rattle.answers.specs.Requests.{getRequest, setRequest}
+use Rattle.answers.specs.Answers.{coreAllowed, withTable, setsSetting, setAnswer, frameAnswer}
+use Rattle.requests.specs.Requests.{getRequest, setRequest}
 use Rattle.answers.specs.declared.Outcome.{Outcome}
 use Rattle.board.specs.Parts.{boardAllowed, freshBoard}
 use Rattle.board.specs.Calls.{starting, storing, unanswered, deciding, decidedBy, heardBy, answering}

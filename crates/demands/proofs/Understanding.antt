@@ -22,8 +22,8 @@ use Rattle.stream.proofs.Theorems.{written-is-heard, heard-from-anywhere}
 use Rattle.listen.proofs.Hearing.{box-whole}
 use Rattle.settings.specs.Columns.{count, idAt, widthAt, placeOf}
 use Rattle.settings.proofs.Theorems.{rows-hold}
-use Rattle.answers.specs.Answers.{said}
-use Rattle.answers.specs.Requests.{setData, setRequest}
+use Rattle.endian.specs.Numbers.{said}
+use Rattle.requests.specs.Requests.{setData, setRequest}
 use Rattle.requests.specs.Calls.{getWritten, setWritten, writing}
 use Rattle.requests.specs.Laws.{Writes, getFrame}
 use Rattle.requests.specs.declared.Request.{Request}

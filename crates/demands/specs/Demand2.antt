@@ -13,7 +13,7 @@ use Rattle.laws.specs.Cutting as Cutting
 use Rattle.laws.specs.Cutting.{Offer, Step}
 use Rattle.paper.specs.Numbers.{mostNibble, mostData, getCode, setCode, frameRoom}
 use Rattle.wire.specs.Frame.{frame}
-use Rattle.endian.specs.Numbers.{little, fromLittle}
+use Rattle.endian.specs.Numbers.{little, fromLittle, said}
 use Rattle.wire.specs.Parsing.{good, Ended}
 use Rattle.stream.specs.Stream.{framesOf, leftBy, outside}
 use Rattle.stream.specs.Calls.{mostHeld, heldOf, unfinished, allowed}
@@ -31,8 +31,8 @@ use Rattle.tables.specs.declared.Table.{Table}
 use Rattle.who.specs.Parts.{identityOf, noReadings}
 use Rattle.who.specs.Laws.{isSerial, Holds}
 use Rattle.who.specs.declared.Readings.{Readings}
-use Rattle.answers.specs.Answers.{withTable, Sent, silent, sent, error, said}
-use Rattle.answers.specs.Requests.{getRequest, setData, setRequest}
+use Rattle.answers.specs.Answers.{withTable, Sent, silent, sent, error}
+use Rattle.requests.specs.Requests.{getRequest, setData, setRequest}
 use Rattle.board.specs.Calls.{answering, starting, storing}
 use Rattle.listen.specs.Hearing.{boxHearing, boxHears}
 use Rattle.answers.specs.declared.Outcome.{Outcome}

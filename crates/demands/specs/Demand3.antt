@@ -25,7 +25,7 @@ use Rattle.tables.specs.Rules.{allowed, numberAt, partnerNumber}
 use Rattle.tables.specs.declared.Table.{Table}
 use Rattle.who.specs.Parts.{serialFits}
 use Rattle.answers.specs.Answers.{withTable}
-use Rattle.answers.specs.Requests.{setData, setRequest}
+use Rattle.requests.specs.Requests.{setData, setRequest}
 use Rattle.answers.specs.declared.Core.{Core}
 use Rattle.answers.specs.declared.Outcome.{Outcome}
 use Rattle.board.specs.Parts.{boardAllowed}

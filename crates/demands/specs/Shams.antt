@@ -22,8 +22,9 @@ use Rattle.settings.specs.Columns.{count, idAt}
 use Rattle.tables.specs.Rules.{allowed}
 use Rattle.tables.specs.declared.Table.{Table}
 use Rattle.who.specs.Values.{readOnlyIds, among}
-use Rattle.answers.specs.Answers.{withTable, said}
-use Rattle.answers.specs.Requests.{getRequest, setRequest}
+use Rattle.answers.specs.Answers.{withTable}
+use Rattle.endian.specs.Numbers.{said}
+use Rattle.requests.specs.Requests.{getRequest, setRequest}
 use Rattle.answers.specs.declared.Outcome.{Outcome}
 use Rattle.board.specs.Parts.{boardAllowed}
 use Rattle.board.specs.Calls.{storing, answering, unanswered}

@@ -2,7 +2,7 @@
 -- Assumes nothing.
 use Prim.Native.Nat.{ℕ, zero, suc, _+_, _*_, _-_, _/_, _%_, _^_}
 use mathlib.Core.Bool.{cond}
-use mathlib.Core.List.{List, [], _∷_}
+use mathlib.Core.List.{List, [], _∷_, _++_}
 use lib.IntN.{ℤ, pos, negsuc}
 use lib.Dec.{ltb}
 
@@ -14,6 +14,10 @@ little (suc width) n = (n % 256) ∷ little width (n / 256)
 abbrev pub fromLittle : List ℕ → ℕ
 fromLittle [] = 0
 fromLittle (b ∷ bs) = b + 256 * fromLittle bs
+
+-- what a Get, a Set and the replies to them carry: an id, a flag and a value
+abbrev pub said : ℕ → ℕ → List ℕ → List ℕ
+said id flag value = little 2 id ++ flag ∷ value
 
 -- a whole number in two's complement of this many bytes, and the whole number that it means
 abbrev pub complement : ℕ → ℤ → ℕ

@@ -9,11 +9,10 @@ use lib.Dec.{eqb, ltb}
 use Rattle.laws.proofs.Bools.{and-left, and-right, both}
 use Rattle.laws.proofs.Lists.{every-drop, same-back, same-self}
 use Rattle.paper.specs.Numbers.{setCode}
-use Rattle.endian.specs.Numbers.{little, fromLittle}
+use Rattle.endian.specs.Numbers.{little, fromLittle, said}
 use Rattle.laws.specs.Lists.{Bytes}
 use Rattle.endian.proofs.Little.{length-little}
 use Rattle.endian.proofs.Theorems.{little-is-read, read-is-little}
-use Rattle.answers.specs.Answers.{said}
 use Rattle.reply.specs.Replies.{flagOf, rest}
 use Rattle.reply.specs.Calls.{heeding}
 use Rattle.reply.specs.Events.{Event, heard, refusedFrame, noAnswer}

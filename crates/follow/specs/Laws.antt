@@ -8,11 +8,10 @@ use mathlib.Core.List.{List, [], _∷_, map}
 use lib.ListN.{length, take}
 use lib.Dec.{eqb}
 use Rattle.laws.specs.Lists.{same}
-use Rattle.endian.specs.Numbers.{little}
+use Rattle.endian.specs.Numbers.{little, said}
 use Rattle.tables.specs.Rules.{allowed}
 use Rattle.tables.specs.declared.Table.{Table}
 use Rattle.paper.specs.Numbers.{setCode, notAllowed}
-use Rattle.answers.specs.Answers.{said}
 use Rattle.restore.specs.Order.{dueSets}
 use Rattle.restore.specs.Calls.{dueAfter}
 use Rattle.restore.specs.declared.Due.{Due}

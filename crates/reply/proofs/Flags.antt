@@ -11,9 +11,8 @@ use lib.Dec.{eqb, ltb}
 use Rattle.laws.specs.Lists.{same, Bytes}
 use Rattle.laws.proofs.Bools.{and-left, and-right, both}
 use Rattle.laws.proofs.Lists.{same-back, same-self}
-use Rattle.endian.specs.Numbers.{little}
+use Rattle.endian.specs.Numbers.{little, said}
 use Rattle.endian.proofs.Little.{bytes-little}
-use Rattle.answers.specs.Answers.{said}
 use Rattle.reply.specs.Replies.{flagOf, rest}
 use Rattle.reply.specs.Events.{isFlag, answers}
 use Rattle.reply.specs.declared.Status.{Status}

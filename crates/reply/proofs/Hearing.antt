@@ -5,9 +5,8 @@ use Prim.Native.Nat.{ℕ, suc, _≤_, _<_, _^_}
 use native.Mathlib.Omega.{arith}
 use borrow.Author.Tests.{le-ltb}
 use lib.ListN.{length}
-use Rattle.endian.specs.Numbers.{little, fromLittle}
+use Rattle.endian.specs.Numbers.{little, fromLittle, said}
 use Rattle.endian.proofs.Theorems.{little-is-read}
-use Rattle.answers.specs.Answers.{said}
 use Rattle.reply.specs.Replies.{flagOf, fronted, front, telling, naming, numbering}
 use Rattle.reply.specs.Calls.{parsing}
 use Rattle.reply.specs.Laws.{SaidIsRead, DoneIsRead, UnknownIsRead, ErrorIsRead, PingIsRead}

@@ -9,7 +9,7 @@ use borrow.Author.Tests.{eq-eqb, eqb-true}
 use lib.Dec.{eqb}
 use Rattle.laws.specs.Lists.{Bytes}
 use Rattle.laws.proofs.Bools.{or-cases}
-use Rattle.answers.specs.Answers.{said}
+use Rattle.endian.specs.Numbers.{said}
 use Rattle.reply.specs.Replies.{flagOf, rest, flagged, about}
 use Rattle.reply.specs.Calls.{parsing, heeding}
 use Rattle.reply.specs.Laws.{From, a-get, a-set, an-async, hasStatus, Says, says-good, says-bad, says-nothing, HeedIsSaid}

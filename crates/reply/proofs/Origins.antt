@@ -10,8 +10,7 @@ use lib.Dec.{eqb, ltb}
 use Rattle.laws.specs.Lists.{every}
 use Rattle.laws.proofs.Bools.{and-left, and-right}
 use Rattle.reply.proofs.Choices.{choose}
-use Rattle.endian.specs.Numbers.{little, fromLittle}
-use Rattle.answers.specs.Answers.{said}
+use Rattle.endian.specs.Numbers.{little, fromLittle, said}
 use Rattle.reply.specs.Replies.{flagOf, malformed, fronted, front, kinded, telling, naming, numbering}
 use Rattle.reply.specs.Calls.{parsing}
 use Rattle.reply.specs.Laws.{isCode, From, a-done, an-unknown, an-error, a-ping, a-get, a-set, an-async, no-code, no-data, ReadIsFrom, ReadIsSaid}

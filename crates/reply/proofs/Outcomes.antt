@@ -11,7 +11,8 @@ use lib.Dec.{eqb}
 use Rattle.laws.specs.Lists.{Bytes}
 use Rattle.laws.proofs.Bools.{or-cases}
 use Rattle.laws.proofs.Lists.{every-take}
-use Rattle.answers.specs.Answers.{Sent, sent, said}
+use Rattle.answers.specs.Answers.{Sent, sent}
+use Rattle.endian.specs.Numbers.{said}
 use Rattle.answers.specs.Refusals.{idIn, Told, a-ping, a-version, a-product, a-restart, an-async, a-get, a-get-read-only, a-set, row-5, row-6, row-7, row-8, row-9, row-10, row-12}
 use Rattle.answers.specs.declared.Core.{Core}
 use Rattle.answers.specs.declared.Outcome.{Outcome}

@@ -5,7 +5,7 @@ use mathlib.Core.List.{List, [], _∷_}
 use lib.ListN.{getD}
 use lib.Dec.{eqb}
 use Rattle.laws.specs.Lists.{same, Bytes}
-use Rattle.answers.specs.Answers.{said}
+use Rattle.endian.specs.Numbers.{said}
 use Rattle.reply.specs.Replies.{rest}
 
 -- a frame of a command and its data, a frame that the stream refused, or the caller says "no answer"

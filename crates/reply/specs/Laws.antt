@@ -12,9 +12,9 @@ use lib.IntN.{ℤ, pos, negsuc}
 use lib.Signed.{mag}
 use lib.Ieee.{Float, binary64, round}
 use Rattle.paper.specs.Numbers as paper
-use Rattle.endian.specs.Numbers.{little, fromLittle, signed}
+use Rattle.endian.specs.Numbers.{little, fromLittle, signed, said}
 use Rattle.laws.specs.Lists.{Bytes}
-use Rattle.answers.specs.Answers.{sent, said}
+use Rattle.answers.specs.Answers.{sent}
 use Rattle.answers.specs.Refusals.{idIn}
 use Rattle.answers.specs.Calls.{answering}
 use Rattle.answers.specs.declared.Core.{Core}

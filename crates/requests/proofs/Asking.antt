@@ -10,7 +10,7 @@ use lib.Dec.{ltb, eqb}
 use Rattle.laws.specs.Promise.{Gives}
 use Rattle.paper.specs.Numbers.{frameRoom, shortBuffer, notAllowed, getCode, setCode}
 use Rattle.wire.specs.Frame.{frame}
-use Rattle.endian.specs.Numbers.{little}
+use Rattle.endian.specs.Numbers.{little, said}
 use Rattle.wire.specs.Calls.{unwritten, writtenAs, writing}
 use Rattle.wire.specs.declared.Written.{Written}
 use Rattle.settings.specs.Columns.{count, idAt, widthAt}
@@ -18,8 +18,7 @@ use Rattle.settings.specs.Calls.{settingAt, placing}
 use Rattle.settings.specs.declared.Setting.{Setting}
 use Rattle.settings.specs.declared.Found.{Found}
 use Rattle.endian.proofs.Little.{length-little}
-use Rattle.answers.specs.Answers.{said}
-use Rattle.answers.specs.Requests.{getRequest}
+use Rattle.requests.specs.Requests.{getRequest}
 use Rattle.requests.specs.Calls.{getWritten, setOf, setWritten}
 use Rattle.requests.specs.Laws.{getFrame, SetIsRequest}
 

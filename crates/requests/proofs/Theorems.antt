@@ -9,7 +9,7 @@ use Rattle.laws.specs.Refusals.{row}
 use Rattle.wire.specs.Calls.{unwritten, writtenAs}
 use Rattle.wire.specs.declared.Written.{Written}
 use Rattle.settings.specs.Columns.{count, idAt, widthAt}
-use Rattle.answers.specs.Requests.{getRequest, setRequest}
+use Rattle.requests.specs.Requests.{getRequest, setRequest}
 use Rattle.requests.specs.Calls.{getWritten, setOf, setWritten, placeIn, writing}
 use Rattle.requests.specs.Laws.{Refuses, isShort, isFit, GetGivenWhen, SetGivenWhen, WriteGivenWhen, GetIsRequest, RequestIsGet, SetIsRequest, RequestIsSet}
 use Rattle.requests.specs.declared.Request.{Request}

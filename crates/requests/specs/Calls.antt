@@ -5,13 +5,12 @@ use lib.Dec.{ltb, eqb}
 use Rattle.laws.specs.Promise.{Given}
 use Rattle.paper.specs.Numbers.{frameRoom, shortBuffer, notAllowed, setCode}
 use Rattle.wire.specs.Frame.{frame}
-use Rattle.endian.specs.Numbers.{little}
+use Rattle.endian.specs.Numbers.{little, said}
 use Rattle.wire.specs.Calls.{unwritten, writtenAs}
 use Rattle.wire.specs.declared.Written.{Written}
 use Rattle.settings.specs.Columns.{count, idAt, widthAt}
 use Rattle.settings.specs.declared.Setting.{Setting}
-use Rattle.answers.specs.Answers.{said}
-use Rattle.answers.specs.Requests.{getRequest}
+use Rattle.requests.specs.Requests.{getRequest}
 use Rattle.requests.specs.declared.Request.{Request}
 
 -- a Get of an id, whatever it is: 11 under the room of the longest frame, as for every frame
@@ -23,7 +22,7 @@ unfoldable pub setOf : ℕ → ℕ → ℕ → Given Written
 setOf id width n = cond (ltb n (256 ^ width)) (writtenAs (frame setCode (said id 0 (little width n)))) (unwritten notAllowed)
 
 -- a Set of a setting: 11, then 12 where there is no setting at the place or its width does not hold the number; it is the request of
--- specs/Requests of the crate `answers` (the law SetIsRequest)
+-- specs/Requests (the law SetIsRequest)
 unfoldable pub setWritten : ℕ → ℕ → ℕ → Given Written
 setWritten k n room =
     cond (ltb room frameRoom) (unwritten shortBuffer)

@@ -11,7 +11,7 @@ use Rattle.laws.specs.Refusals.{Row, row, firstOf}
 use Rattle.wire.specs.Frame.{frame}
 use Rattle.wire.specs.declared.Written.{Written}
 use Rattle.settings.specs.Columns.{count, idAt, widthAt}
-use Rattle.answers.specs.Requests.{setRequest}
+use Rattle.requests.specs.Requests.{setRequest}
 use Rattle.settings.specs.declared.Setting.{Setting}
 use Rattle.requests.specs.Calls.{getWritten, setWritten, writing}
 use Rattle.requests.specs.declared.Request.{Request}

@@ -23,7 +23,7 @@ use Rattle.tables.specs.declared.Table.{Table}
 use Rattle.settings.proofs.Theorems.{rows-hold, range-has-room}
 use Rattle.tables.proofs.Tables.{range-at}
 use Rattle.paper.specs.Numbers.{setCode}
-use Rattle.answers.specs.Requests.{setData, setRequest}
+use Rattle.requests.specs.Requests.{setData, setRequest}
 use Rattle.requests.specs.Calls.{setWritten}
 use Rattle.endian.proofs.Little.{length-little}
 use Rattle.requests.proofs.Theorems.{set-is-request}

@@ -9,7 +9,7 @@ use Rattle.laws.specs.Promise.{Given}
 use Rattle.settings.specs.Columns.{count}
 use Rattle.tables.specs.Rules.{allowed}
 use Rattle.tables.specs.declared.Table.{Table}
-use Rattle.answers.specs.Requests.{setRequest}
+use Rattle.requests.specs.Requests.{setRequest}
 use Rattle.restore.specs.Order.{dueSets}
 use Rattle.requests.specs.declared.Wanted.{Wanted}
 use Rattle.restore.specs.declared.Due.{Due}

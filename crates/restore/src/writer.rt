@@ -8,7 +8,7 @@ ghost use Rattle.laws.specs.Lists.{every};
 ghost use Rattle.laws.specs.Promise.{overlaid};
 ghost use Rattle.settings.specs.Columns.{count, widthAt};
 ghost use Rattle.tables.specs.Rules.{allowed};
-ghost use Rattle.answers.specs.Requests.{setRequest};
+ghost use Rattle.requests.specs.Requests.{setRequest};
 ghost use Rattle.restore.specs.Calls.{framesFor, listRoom};
 ghost use Rattle.restore.specs.AsHeld.{setsOf};
 use crate::order::Row;

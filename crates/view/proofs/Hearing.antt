@@ -7,7 +7,7 @@ use Prim.Native.Nat.{ℕ, _≤_}
 use native.Mathlib.Omega.{arith}
 use lib.ListN.{length}
 use Rattle.paper.specs.Numbers.{getCode}
-use Rattle.answers.specs.Answers.{said}
+use Rattle.endian.specs.Numbers.{said}
 use Rattle.reply.specs.Replies.{flagOf, rest}
 use Rattle.reply.specs.Calls.{heeding}
 use Rattle.reply.specs.Events.{heard}

@@ -10,7 +10,7 @@ use lib.Dec.{ltb, leb}
 use Rattle.paper.specs.Numbers.{getCode}
 use Rattle.laws.proofs.Lists.{upTo-at}
 use Rattle.who.specs.Parts.{serialFits}
-use Rattle.answers.specs.Answers.{said}
+use Rattle.endian.specs.Numbers.{said}
 use Rattle.reply.specs.Replies.{flagOf, flagged}
 use Rattle.reply.specs.Events.{Event, heard, noAnswer}
 use Rattle.reply.specs.declared.Status.{Status}

@@ -9,7 +9,7 @@ use lib.Dec.{ltb, eqb}
 use Rattle.paper.specs.Numbers as paper
 use Rattle.who.specs.Parts.{serialFits}
 use Rattle.laws.specs.Lists.{Bytes}
-use Rattle.answers.specs.Answers.{said}
+use Rattle.endian.specs.Numbers.{said}
 use Rattle.reply.specs.Replies.{flagOf, rest}
 use Rattle.reply.specs.Events.{Event, heard, refusedFrame, noAnswer}
 use Rattle.reply.specs.declared.Status.{Status}

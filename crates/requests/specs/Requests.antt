@@ -1,12 +1,11 @@
--- What is asked of a board about a setting, as bytes on the serial line: an id, flags that are 0, and the value in the setting's width. Assumes
--- nothing.
+-- What is asked of a board about a setting, as bytes on the serial line: an id, flags that are 0, and the value in the setting's width.
+-- Assumes nothing.
 use Prim.Native.Nat.{ℕ}
 use mathlib.Core.List.{List, []}
 use Rattle.wire.specs.Frame.{frame}
-use Rattle.endian.specs.Numbers.{little}
+use Rattle.endian.specs.Numbers.{little, said}
 use Rattle.settings.specs.Columns.{idAt, widthAt}
 use Rattle.paper.specs.Numbers.{getCode, setCode}
-use Rattle.answers.specs.Answers.{said}
 
 -- a Get of an id
 abbrev pub getRequest : ℕ → List ℕ
