@@ -65,8 +65,8 @@ pub digits-told : DigitsTold
 unfolding wordsText strangeText wordText
 digits-told =
     record {
-      product-told = λ low high l h. rw (four-digits high low h l) refl;
-      version-told = λ low high l h. rw (four-digits high low h l) refl;
+      product-told = λ low high l h. ap (λ (d : List ℕ). chars "product " ++ d) (four-digits high low h l);
+      version-told = λ low high l h. ap (λ (d : List ℕ). chars "version " ++ d) (four-digits high low h l);
       strange-told = λ id value small. ap (λ (d : List ℕ). d ++ chars ": not understood") (four-digits (id / 256) (id % 256) (omega arith) (omega arith));
       nothing-told = λ value. refl;
     }

@@ -107,7 +107,7 @@ abbrev pub NotSavedIsNot : Type 0
 NotSavedIsNot =
     (c : Collector) (kept : Kept) → Says (lineOf (savedText c kept)) 0 "not saved: the file is as it was" ↔ (Complete c × (kept ≡ Kept.Not))
 
--- Its words and numbers, by how far a collector is and how many settings were answered.
+-- The words and numbers of the line of a board that was read, by how far its collector is and how many settings were answered.
 pub record ReadSaid (c : Collector) (stage : Stage) (answered : ℕ) : Type 0 where
   pub all-is : stage ≡ Stage.Done → collectedText c ≡ joined (chars "all " ∷ decimal answered ∷ chars " settings read" ∷ [])
   pub stopped-is : (setting : Setting) → stage ≡ Stage.Stopped setting
@@ -115,7 +115,7 @@ pub record ReadSaid (c : Collector) (stage : Stage) (answered : ℕ) : Type 0 wh
   pub waiting-is : (setting : Setting) → stage ≡ Stage.Waiting setting
       → collectedText c ≡ joined (chars "not ended: " ∷ decimal answered ∷ chars " of " ∷ decimal count ∷ chars " settings read" ∷ [])
 
--- The first of these said of the public calls, with no collector in it: after a row of events the line says "all" exactly where the replies
+-- That line said of the public calls, with no collector in it: after a row of events the line says "all" exactly where the replies
 -- carried a number for every setting, and the number printed is that of the numbers carried.
 abbrev pub collectedBy : List Event → Collected
 collectedBy events = collects starting events
