@@ -54,7 +54,7 @@ pub record NothingDue (f : Follower) : Type 0 where
 abbrev pub EqualIsEqual : Type 0
 EqualIsEqual = (f : Follower) → Says (lineOf (followedText f)) 0 "equal: " ↔ NothingDue f
 
--- Every word and number in them, for any follower that a start and events give.
+-- Every word and number of that line, and of the one of its progress, for any follower that a start and events give.
 abbrev pub joined : List (List ℕ) → List ℕ
 joined [] = []
 joined (part ∷ more) = part ++ joined more
