@@ -1,7 +1,7 @@
 -- What a follower says of itself, and the Sets of its list. Assumes nothing.
 use mathlib.Core.Path.{_≡_, refl, sym, ap, ap₂, _∙_}
 use mathlib.Core.Bool.{Bool, true, false, cond, false≢true}
-use mathlib.Core.List.{List, [], _∷_, _++_, append-assoc}
+use mathlib.Core.List.{List, [], _∷_, _++_, append-assoc, append-nil}
 use Prim.Native.Nat.{ℕ, _-_, _≤_, _<_}
 use native.Mathlib.Omega.{arith}
 use borrow.Author.Tests.{ltb-true, leb-true, eqb-true}
@@ -30,7 +30,7 @@ use Rattle.lines.specs.Lines.{chars, adding}
 use Rattle.lines.specs.Numbers.{decimal}
 use Rattle.lines.specs.declared.Line.{Line}
 use Rattle.sentences.specs.Texts.{betweenText, ofText, refusedText, stoppedText, endText, followedText, progressText}
-use Rattle.sentences.specs.Laws.{followedBy, FollowersSay}
+use Rattle.sentences.specs.Laws.{followedBy, joined, FollowersSay}
 
 -- none is due any more
 abbrev isOver : Standing → Bool
@@ -179,20 +179,27 @@ module _ (from to : Table) (ok : bothAllowed from to ≡ true) where
   pub goes : (events : List Event) → Goes from to (run (begun from to) events)
   goes events = goes-far from to ok (begun from to) events (begins from to ok)
 
--- the numbers that are said
-in-row : (a b c d e : List ℕ) → a ++ b ++ c ++ d ++ e ≡ a ++ (b ++ (c ++ (d ++ e)))
-in-row a b c d e = simp append-assoc
+-- numbers between words, part by part
+pub between-joined : (before after : List ℕ) (n : ℕ) → betweenText before n after ≡ joined (before ∷ decimal n ∷ after ∷ [])
+unfolding betweenText
+between-joined before after n = simp (append-assoc, append-nil)
 
-in-rows : (a b c d e g h : List ℕ) → (a ++ b ++ c ++ d ++ e) ++ (g ++ h) ≡ a ++ (b ++ (c ++ (d ++ (e ++ (g ++ h)))))
-in-rows a b c d e g h = simp append-assoc
+pub of-joined : (before after : List ℕ) (m n : ℕ) → ofText before m n after ≡ joined (before ∷ decimal m ∷ chars " of " ∷ decimal n ∷ after ∷ [])
+unfolding ofText
+of-joined before after m n = simp (append-assoc, append-nil)
+
+stopped-joined : (a b c d e g h : List ℕ) → (a ++ b ++ c ++ d ++ e) ++ (g ++ h) ≡ a ++ (b ++ (c ++ (d ++ (e ++ (g ++ h)))))
+stopped-joined a b c d e g h = simp append-assoc
 
 pub followers-say : FollowersSay
 unfolding followedText progressText stoppedText ofText betweenText
 followers-say f ok =
     record {
-      done-is = λ e. rw (ok, e) (in-row (chars "done: ") (decimal (f .confirmed)) (chars " of ") (decimal (total f)) (chars " settings confirmed"));
-      stopped-is = λ due e.
+      done-is = λ e. rw (ok, e) (of-joined (chars "done: ") (chars " settings confirmed") (f .confirmed) (total f));
+      equal-is = λ e. rw (ok, e) refl;
+      stopped-is = λ wanted e.
           rw (ok, e)
-          (in-rows (chars "stopped: ") (decimal (f .confirmed)) (chars " of ") (decimal (total f)) (chars " settings confirmed, ") (decimal (total f - f .confirmed)) (chars " not confirmed"));
-      progress-is = rw ok (in-row [] (decimal (f .confirmed)) (chars " of ") (decimal (total f)) (chars " confirmed"));
+          (stopped-joined (chars "stopped: ") (decimal (f .confirmed)) (chars " of ") (decimal (total f)) (chars " settings confirmed, ") (decimal (total f - f .confirmed)) (chars " not confirmed"));
+      waiting-is = λ request e. rw (ok, e) (of-joined (chars "not ended: ") (chars " settings confirmed") (f .confirmed) (total f));
+      progress-is = rw ok (of-joined [] (chars " confirmed") (f .confirmed) (total f));
     }

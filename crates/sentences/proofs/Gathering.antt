@@ -1,8 +1,9 @@
 -- What a collector says of itself, and of the file of its settings. Assumes nothing.
 use mathlib.Core.Path.{_≡_, refl, sym, ap, _∙_}
 use mathlib.Core.Bool.{Bool, true, false, false≢true}
-use Prim.Native.Nat.{_≤_}
+use Prim.Native.Nat.{ℕ, _≤_, _<_}
 use native.Mathlib.Omega.{arith}
+use borrow.Author.Tests.{lt-ltb}
 use Rattle.settings.specs.Columns.{count}
 use Rattle.collect.specs.Collecting.{allowed}
 use Rattle.collect.specs.Calls.{stageOf, good, stray, told}
@@ -12,8 +13,10 @@ use Rattle.collect.specs.declared.Stage.{Stage}
 use Rattle.collect.proofs.Moving.{few-answered, allowed-within, told-good, told-stray}
 use Rattle.collect.proofs.Calling.{done-all}
 use Rattle.sentences.specs.Texts.{refusedText, readText, collectedText, keptText, fileText, savedText}
-use Rattle.sentences.specs.Laws.{Complete, CollectorsCount}
+use Rattle.sentences.specs.Laws.{Complete, ReadSaid, CollectorsCount}
 use Rattle.sentences.specs.declared.Kept.{Kept}
+use Rattle.lines.specs.Lines.{chars}
+use Rattle.sentences.proofs.Ending.{between-joined, of-joined}
 
 -- every setting was read
 abbrev pub isDone : Stage → Bool
@@ -75,11 +78,27 @@ module _ (c : Collector) where
       let least : count ≤ c .len = done-all (c .len) (c .stopped) (all .is-done) in
       omega arith
 
+  -- its words, by its stage
+  pub read-said : (o : Stage) (answered : ℕ) → collectedText c ≡ readText o answered count → ReadSaid c o answered
+  read-said o answered is =
+      record {
+        all-is = λ e. is ∙ rw e (between-joined (chars "all ") (chars " settings read") answered);
+        stopped-is = λ setting e. is ∙ rw e (of-joined (chars "stopped: ") (chars " settings read") answered count);
+        waiting-is = λ setting e. is ∙ rw e (of-joined (chars "not ended: ") (chars " settings read") answered count);
+      }
+
+  -- not all were read
+  unread : (stopped : Bool) (kept : Kept) → c .len < count → fileText (stageOf (c .len) stopped) (c .len) kept ≡ chars "not saved: not every setting was read"
+  unread true kept less = rw (lt-ltb (c .len) count less)
+  unread false kept less = rw (lt-ltb (c .len) count less)
+
 -- its own counts are printed
 pub collectors-say : CollectorsCount
-collectors-say c long =
+collectors-say c =
     record {
-      read-is = λ ok. collected-good c ok ∙ ap (readText (stageOf (c .len) (c .stopped)) (c .len)) (sym long);
-      saved-is = saved-done c;
-      all-read = λ all. all-answered c all ∙ sym long;
+      read-is = λ ok. read-said c (stageOf (c .len) (c .stopped)) (c .len) (collected-good c ok);
+      saved-is = λ all. saved-done c Kept.Whole all ∙ between-joined (chars "saved: ") (chars " settings") (c .len);
+      unsure-is = saved-done c Kept.Unsure;
+      unread-is = λ kept ok less. saved-good c kept ok ∙ unread c (c .stopped) kept less;
+      all-read = all-answered c;
     }

@@ -2,9 +2,10 @@
 use mathlib.Core.Path.{_≡_, refl, sym, ap, ap₂, subst, _∙_}
 use mathlib.Core.Logic.{_↔_}
 use mathlib.Core.Bool.{Bool, true, false, cond, false≢true}
-use mathlib.Core.List.{List, [], _∷_, append-assoc}
+use mathlib.Core.List.{List, [], _∷_, _++_, append-assoc, append-nil}
 use Prim.Native.Nat.{ℕ, _≤_}
 use native.Mathlib.Omega.{arith}
+use borrow.Author.Tests.{ne-eqb}
 use lib.ListN.{length, getD, take}
 use lib.Dec.{eqb}
 use Rattle.laws.proofs.Bools.{pick}
@@ -22,7 +23,7 @@ use Rattle.settings.specs.Calls.{settingAt}
 use Rattle.settings.specs.declared.Setting.{Setting}
 use Rattle.collect.specs.Collecting.{allowed, begun as collected-none}
 use Rattle.collect.specs.Calls.{good as collected-as, told}
-use Rattle.collect.specs.Laws.{run as collected-run, Carried, Tells, tells-done}
+use Rattle.collect.specs.Laws.{run as collected-run, Carried, Tells, tells-done, carried}
 use Rattle.collect.proofs.Calling.{called}
 use Rattle.collect.proofs.Reaching.{begun-ends, ends-allowed}
 use Rattle.collect.proofs.Theorems.{table-is-carried}
@@ -45,15 +46,15 @@ use Rattle.endian.specs.Numbers.{signed}
 use Rattle.view.specs.Values.{serialReads, isUnderstood}
 use Rattle.view.specs.Calls.{allowed as allowed-viewer}
 use Rattle.lines.specs.Lines.{chars, lineOf, Says}
-use Rattle.lines.specs.Numbers.{decimalFrom, pointed}
+use Rattle.lines.specs.Numbers.{decimalFrom, decimal, pointed}
 use Rattle.lines.proofs.Adding.{says-text, text-says}
 use Rattle.sentences.specs.Texts.{betweenText, ofText, refusedText, stoppedText, endText, followedText, progressText, readText, collectedText, keptText, fileText, savedText, goodText, refusalText, checkedText, countsText, summedText}
-use Rattle.sentences.specs.Laws.{AllDone, DoneIsDone, NothingDue, EqualIsEqual, followedBy, LineIsMatched, FollowersSay, SumsAreSaid, ReadIsRead, collectedBy, LineIsCarried, SavedIsSaved, NotSavedIsNot, GoodIsGood, IsBackup, GoodIsBackup, WellIsWell, NoneIsNone, StrayFollower, StrayCollector, StrayTally, CollectorsCount, FilesCount, FollowersFit, FilesFit, YardsFit}
+use Rattle.sentences.specs.Laws.{AllDone, DoneIsDone, NothingDue, EqualIsEqual, followedBy, joined, LineIsMatched, FollowersSay, SumsAreSaid, ReadIsRead, collectedBy, LineIsCarried, SavedIsSaved, NotSavedIsNot, GoodIsGood, IsBackup, GoodIsBackup, WellIsWell, NoneIsNone, StrayFollower, StrayCollector, StrayTally, CollectorsCount, FilesCount, RefusalIsTold, FollowersFit, FilesFit, YardsFit}
 use Rattle.sentences.specs.Values.{wordText, strangeText, serialText, amountText, readingText, wordsText, shownText}
 use Rattle.sentences.specs.Worked.{LinesRead}
 use Rattle.sentences.specs.declared.Kept.{Kept}
-use Rattle.sentences.proofs.Ending.{isKnown, followed-good, followed-stray, progress-good, progress-stray, stands-known, within-list, done-list, equal-list, equal-none, arrived, goes, followers-say}
-use Rattle.sentences.proofs.Gathering.{isDone, own-good, done-read, read-done, collected-good, collected-stray, saved-good, saved-stray, saved-done, collectors-say}
+use Rattle.sentences.proofs.Ending.{isKnown, followed-good, followed-stray, progress-good, progress-stray, stands-known, within-list, done-list, equal-list, equal-none, arrived, goes, between-joined, followers-say}
+use Rattle.sentences.proofs.Gathering.{isDone, own-good, done-read, read-done, collected-good, collected-stray, saved-good, saved-stray, saved-done, read-said, collectors-say}
 use Rattle.sentences.proofs.Yard.{first-digit, well-said, none-said-ready, tally-stray, sums-said}
 use Rattle.sentences.proofs.Uncut.{followers-uncut, files-uncut, yards-uncut}
 
@@ -139,9 +140,7 @@ line-is-matched from to events ok r =
           (λ e. equal-is-equal f .0 e .is-equal)
           (λ is. text-says (followedText f) "equal: " (omega arith) (ap (take 7) (by-outcome f follows.Standing.Equal fine is)))
           (equal-is-none from to events ok);
-      numbers-are = subst (λ (g : Follower). followedText g ≡ endText (standing g) (matched (dueSets from to) events) (length (dueSets from to))) (sym (arrived from to ok events))
-          (sym (followed-good f fine) ∙ ap₂ (λ (m n : ℕ). endText (standing f) m n) matches list);
-      progress-is = ap progressText (arrived from to ok events) ∙ (sym (progress-good f fine) ∙ ap₂ (λ (m n : ℕ). ofText [] m n (chars " confirmed")) matches list);
+      numbers-are = rw (arrived from to ok events, ← matches, ← list) (followers-say f fine);
     }
 
 read-end : (o : collects.Stage) (answered due : ℕ) → take 4 (readText o answered due) ≡ chars "all " → isDone o ≡ true
@@ -178,8 +177,9 @@ line-is-carried events r =
         λ e. done-carried _ (holds .stage-when collects.Stage.Done .0 (sym said ∙ read-done c (read-is-read c .0 e))),
         λ all. read-is-read c .1 (done-read c (ap isDone (said ∙ holds .stage-when collects.Stage.Done .1 (tells-done all)))),
       );
-      numbers-are = ap (λ (w : Collected). readText (w .stage) (w .answered) count) (own-word events)
-          ∙ ap (λ (n : ℕ). readText (collectedBy events .stage) n count) (holds .answered-are);
+      numbers-are = read-said c (collectedBy events .stage) (length (carried events .numbers))
+          (ap (λ (w : Collected). readText (w .stage) (w .answered) count) (own-word events)
+          ∙ ap (λ (n : ℕ). readText (collectedBy events .stage) n count) (holds .answered-are));
     }
 
 -- a file, by its first letters
@@ -359,7 +359,20 @@ pub collectors-count : CollectorsCount
 collectors-count = collectors-say
 
 pub files-count : FilesCount
-files-count text table e = ap (λ (b : Backup). checkedText (b .verdict)) e ∙ ap goodText (sym (read-is-written text table e .is-whole))
+unfolding goodText
+files-count text table e =
+    ap (λ (b : Backup). checkedText (b .verdict)) e ∙ ap goodText (sym (read-is-written text table e .is-whole))
+    ∙ between-joined (chars "good: ") (chars " settings, every number in range, every pair agrees") (length (table .numbers))
+
+line-joined : (a b c d : List ℕ) → (a ++ b ++ []) ++ (c ++ d ++ []) ≡ joined (a ∷ b ∷ c ∷ d ∷ [])
+line-joined a b c d = simp (append-assoc, append-nil)
+
+pub refusal-is-told : RefusalIsTold
+unfolding refusalText refusedText betweenText
+refusal-is-told number row = (
+  between-joined (chars "refused ") [] number,
+  λ some. rw (ne-eqb row 0 some) (line-joined (chars "refused ") (decimal number) (chars ", line ") (decimal row)),
+)
 
 pub followers-fit : FollowersFit
 followers-fit = followers-uncut

@@ -89,12 +89,15 @@ file-fits (collects.Stage.Stopped setting) answered kept = omega arith
 file-fits (collects.Stage.Waiting setting) answered kept = omega arith
 file-fits (collects.Stage.Refused number) answered kept = refused-fits _
 
-refusal-fits : (number row : ℕ) → Fits (refusalText number row)
-unfolding refusalText
-refusal-fits number row =
+line-fits : (number row : ℕ) → Fits (refusedText number ++ betweenText (chars ", line ") row [])
+line-fits number row =
     let at : List ℕ = betweenText (chars ", line ") row [] in
     let all : length (refusedText number ++ at) ≤ 55 = joined (refusedText number) at 28 27 (refused-long number) (between-long (chars ", line ") [] row 20 (digits-few 19 row)) in
-    pick Fits (eqb row 0) (refused-fits number) (omega arith)
+    omega arith
+
+refusal-fits : (number row : ℕ) → Fits (refusalText number row)
+unfolding refusalText
+refusal-fits number row = pick Fits (eqb row 0) (refused-fits number) (line-fits number _)
 
 good-fits : (settings : ℕ) → Fits (goodText settings)
 unfolding goodText

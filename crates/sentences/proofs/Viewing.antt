@@ -1,10 +1,12 @@
 -- The words of a board's values: proofs of the statements of specs/ValueLaws.antt. Assumes nothing.
 use mathlib.Core.Path.{_≡_, refl, sym, ap, ap₂, _∙_}
 use mathlib.Core.Bool.{Bool, true, false}
-use mathlib.Core.List.{List, [], _++_}
-use Prim.Native.Nat.{ℕ, _+_, _%_, _≤_}
+use mathlib.Core.List.{List, [], _∷_, _++_}
+use Prim.Native.Nat.{ℕ, _+_, _/_, _%_, _≤_, _<_}
 use native.Mathlib.Omega.{arith}
 use lib.ListN.{getD, take}
+use Rattle.wire.specs.Frame.{digitsOf}
+use Rattle.wire.proofs.Theorems.{digits-are-two}
 use Rattle.reply.specs.Replies.{rest}
 use Rattle.reply.specs.Units.{inVolts, inAmperes, inFineAmperes, inAmpHours, inPercent}
 use Rattle.reply.specs.Calls.{showing}
@@ -22,8 +24,9 @@ use Rattle.lines.specs.Numbers.{lastDigit, decimalFrom, decimal}
 use Rattle.lines.proofs.Adding.{says-text, text-says}
 use Rattle.lines.proofs.Digits.{one-digit}
 use Rattle.sentences.specs.Texts.{betweenText, ofText, refusedText}
-use Rattle.sentences.specs.Values.{serialText, amountText, readingText, wordsText, sightText, seenText, shownText}
-use Rattle.sentences.specs.ValueLaws.{ReadAlike, SerialIsTold, LineIsTold, ShownIsCounted, ShownIsShown, StrayViewer}
+use Rattle.sentences.specs.Values.{wordText, strangeText, serialText, amountText, readingText, wordsText, sightText, seenText, shownText}
+use Rattle.sentences.specs.ValueLaws.{ReadAlike, SerialIsTold, digits, DigitsTold, LineIsTold, ShownIsCounted, ShownIsShown, StrayViewer}
+use Rattle.sentences.proofs.Ending.{of-joined}
 
 -- what is said of a frame, by what it came to
 module _ (v : Viewer) (command : ℕ) (bytes : List ℕ) (viewed : Viewed) (s : Sight) (e : viewed ≡ viewing v (heard command bytes)) (is : viewed .sight ≡ s) where
@@ -54,6 +57,20 @@ pub serial-is-told : SerialIsTold
 unfolding wordsText serialText
 serial-is-told value serial is = ap (λ (l : List ℕ). chars "serial " ++ l) (ap serialIn (is .is-value) ∙ same-serial serial (is .is-fit))
 
+-- two bytes in four digits
+four-digits : (high low : ℕ) → high < 256 → low < 256 → digitsOf (high ∷ low ∷ []) ≡ digits high ++ digits low
+four-digits high low h l = digits-are-two high (low ∷ []) h .0 ∙ ap (λ (d : List ℕ). digits high ++ d) (digits-are-two low [] l .0)
+
+pub digits-told : DigitsTold
+unfolding wordsText strangeText wordText
+digits-told =
+    record {
+      product-told = λ low high l h. ap (λ (d : List ℕ). chars "product " ++ d) (four-digits high low h l);
+      version-told = λ low high l h. ap (λ (d : List ℕ). chars "version " ++ d) (four-digits high low h l);
+      strange-told = λ id value small. ap (λ (d : List ℕ). d ++ chars ": not understood") (four-digits (id / 256) (id % 256) (omega arith) (omega arith));
+      nothing-told = λ value. refl;
+    }
+
 pub line-is-told : LineIsTold
 unfolding seenText viewing sightOf
 line-is-told v command bytes ok =
@@ -65,7 +82,7 @@ line-is-told v command bytes ok =
 
 pub shown-is-counted : ShownIsCounted
 unfolding shownText
-shown-is-counted events = rw (calls-allowed events, counts-are-true events .understood-are)
+shown-is-counted events = rw (calls-allowed events, counts-are-true events .understood-are) (of-joined (chars "shown: ") (chars " values") _ 8)
 
 -- eight is one digit, and no count of a viewer has two
 eight-shown : (u : ℕ) → u ≤ 8 → take 20 (ofText (chars "shown: ") u 8 (chars " values")) ≡ chars "shown: 8 of 8 values" → u ≡ 8

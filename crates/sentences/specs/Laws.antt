@@ -2,15 +2,17 @@
 -- when a start and events give it is AllowedIsReached of `follow` and of `collect`.) Assumes nothing.
 use Prim.Native.Nat.{ℕ, _-_, _≤_, _<_}
 use mathlib.Core.Path.{_≡_}
-use mathlib.Core.Logic.{_↔_}
+use mathlib.Core.Logic.{_≢_, _↔_}
 use mathlib.Core.Bool.{true, false, _&&_}
 use mathlib.Core.List.{List, [], _∷_, _++_}
 use lib.ListN.{length}
 use Rattle.settings.specs.Columns.{count}
+use Rattle.settings.specs.declared.Setting.{Setting}
 use Rattle.tables.specs.Rules as tables
 use Rattle.tables.specs.declared.Table.{Table}
 use Rattle.restore.specs.Order.{dueSets}
 use Rattle.requests.specs.declared.Wanted.{Wanted}
+use Rattle.requests.specs.declared.Request.{Request}
 use Rattle.reply.specs.Events.{Event, OnStream}
 use Rattle.follow.specs.Following.{standing, total, followerAllowed}
 use Rattle.follow.specs.Calls.{starting as following}
@@ -30,7 +32,7 @@ use Rattle.tally.specs.Results.{tallyAllowed}
 use Rattle.tally.specs.declared.Tally.{Tally}
 use Rattle.lines.specs.Lines.{most, chars, lineOf, Says}
 use Rattle.lines.specs.Numbers.{decimal}
-use Rattle.sentences.specs.Texts.{ofText, endText, followedText, progressText, readText, collectedText, keptText, savedText, goodText, checkedText, summedText}
+use Rattle.sentences.specs.Texts.{followedText, progressText, collectedText, savedText, checkedText, summedText}
 use Rattle.sentences.specs.declared.Kept.{Kept}
 
 -- 1. The line of a restore says "done" exactly where a start and events give the follower, it is done, and it has confirmed as many Sets as
@@ -52,6 +54,28 @@ pub record NothingDue (f : Follower) : Type 0 where
 abbrev pub EqualIsEqual : Type 0
 EqualIsEqual = (f : Follower) → Says (lineOf (followedText f)) 0 "equal: " ↔ NothingDue f
 
+-- Every word and number of that line, and of the one of its progress, for any follower that a start and events give.
+abbrev pub joined : List (List ℕ) → List ℕ
+joined [] = []
+joined (part ∷ more) = part ++ joined more
+
+pub record NumbersSaid (f : Follower) (confirmed due : ℕ) : Type 0 where
+  pub done-is : standing f ≡ follows.Standing.Done
+      → followedText f ≡ joined (chars "done: " ∷ decimal confirmed ∷ chars " of " ∷ decimal due ∷ chars " settings confirmed" ∷ [])
+  pub equal-is : standing f ≡ follows.Standing.Equal → followedText f ≡ chars "equal: nothing to set"
+  pub stopped-is : (wanted : Wanted) → standing f ≡ follows.Standing.Stopped wanted
+      → followedText f
+      ≡ joined
+      (chars "stopped: " ∷ decimal confirmed ∷ chars " of " ∷ decimal due ∷ chars " settings confirmed, " ∷ decimal (due - confirmed)
+      ∷ chars " not confirmed"
+      ∷ [])
+  pub waiting-is : (request : Request) → standing f ≡ follows.Standing.Waiting request
+      → followedText f ≡ joined (chars "not ended: " ∷ decimal confirmed ∷ chars " of " ∷ decimal due ∷ chars " settings confirmed" ∷ [])
+  pub progress-is : progressText f ≡ joined (decimal confirmed ∷ chars " of " ∷ decimal due ∷ chars " confirmed" ∷ [])
+
+abbrev pub FollowersSay : Type 0
+FollowersSay = (f : Follower) → followerAllowed f ≡ true → NumbersSaid f (f .confirmed) (total f)
+
 -- 2. The same of the public calls, with no follower in it: between two allowed tables, after a row of events, the line says "done" exactly
 -- where the list has a Set and as many replies matched the Set due when they came as the list has Sets; it says "equal" exactly where the
 -- list is empty; and the numbers printed are that of the replies which matched and that of the list's Sets.
@@ -62,32 +86,10 @@ pub record LineSays (from to : Table) (events : List Event) : Type 0 where
   pub done-when : Says (lineOf (followedText (followedBy from to events))) 0 "done: "
       ↔ ((0 < length (dueSets from to)) × (matched (dueSets from to) events ≡ length (dueSets from to)))
   pub equal-when : Says (lineOf (followedText (followedBy from to events))) 0 "equal: " ↔ (length (dueSets from to) ≡ 0)
-  pub numbers-are : followedText (followedBy from to events)
-      ≡ endText (standing (followedBy from to events)) (matched (dueSets from to) events) (length (dueSets from to))
-  pub progress-is : progressText (followedBy from to events) ≡ ofText [] (matched (dueSets from to) events) (length (dueSets from to)) (chars " confirmed")
+  pub numbers-are : NumbersSaid (followedBy from to events) (matched (dueSets from to) events) (length (dueSets from to))
 
 abbrev pub LineIsMatched : Type 0
 LineIsMatched = (from to : Table) (events : List Event) → (tables.allowed from && tables.allowed to) ≡ true → OnStream events → LineSays from to events
-
--- Every number in them, word by word, for any follower that a start and events give.
-abbrev pub joined : List (List ℕ) → List ℕ
-joined [] = []
-joined (part ∷ more) = part ++ joined more
-
-pub record NumbersSaid (f : Follower) : Type 0 where
-  pub done-is : standing f ≡ follows.Standing.Done
-      → followedText f ≡ joined (chars "done: " ∷ decimal (f .confirmed) ∷ chars " of " ∷ decimal (total f) ∷ chars " settings confirmed" ∷ [])
-  pub stopped-is : (due : Wanted) → standing f ≡ follows.Standing.Stopped due
-      → followedText f
-      ≡ joined
-      (chars "stopped: " ∷ decimal (f .confirmed) ∷ chars " of " ∷ decimal (total f) ∷ chars " settings confirmed, "
-      ∷ decimal (total f - f .confirmed)
-      ∷ chars " not confirmed"
-      ∷ [])
-  pub progress-is : progressText f ≡ joined (decimal (f .confirmed) ∷ chars " of " ∷ decimal (total f) ∷ chars " confirmed" ∷ [])
-
-abbrev pub FollowersSay : Type 0
-FollowersSay = (f : Follower) → followerAllowed f ≡ true → NumbersSaid f
 
 -- 3. The line of a board that was read says "all" exactly where a start and events give the collector and it is done. A file is said to be saved exactly
 -- where, besides, the caller says that it is on the disk; and to be as it was exactly where, besides, the caller says that.
@@ -105,14 +107,22 @@ abbrev pub NotSavedIsNot : Type 0
 NotSavedIsNot =
     (c : Collector) (kept : Kept) → Says (lineOf (savedText c kept)) 0 "not saved: the file is as it was" ↔ (Complete c × (kept ≡ Kept.Not))
 
--- The first of these said of the public calls, with no collector in it: after a row of events the line says "all" exactly where the replies
+-- The words and numbers of the line of a board that was read, by how far its collector is and how many settings were answered.
+pub record ReadSaid (c : Collector) (stage : Stage) (answered : ℕ) : Type 0 where
+  pub all-is : stage ≡ Stage.Done → collectedText c ≡ joined (chars "all " ∷ decimal answered ∷ chars " settings read" ∷ [])
+  pub stopped-is : (setting : Setting) → stage ≡ Stage.Stopped setting
+      → collectedText c ≡ joined (chars "stopped: " ∷ decimal answered ∷ chars " of " ∷ decimal count ∷ chars " settings read" ∷ [])
+  pub waiting-is : (setting : Setting) → stage ≡ Stage.Waiting setting
+      → collectedText c ≡ joined (chars "not ended: " ∷ decimal answered ∷ chars " of " ∷ decimal count ∷ chars " settings read" ∷ [])
+
+-- That line said of the public calls, with no collector in it: after a row of events the line says "all" exactly where the replies
 -- carried a number for every setting, and the number printed is that of the numbers carried.
 abbrev pub collectedBy : List Event → Collected
 collectedBy events = collects starting events
 
 pub record CarriedSays (events : List Event) : Type 0 where
   pub all-when : Says (lineOf (collectedText (collectedBy events .collector))) 0 "all " ↔ (length (carried events .numbers) ≡ count)
-  pub numbers-are : collectedText (collectedBy events .collector) ≡ readText (collectedBy events .stage) (length (carried events .numbers)) count
+  pub numbers-are : ReadSaid (collectedBy events .collector) (collectedBy events .stage) (length (carried events .numbers))
 
 abbrev pub LineIsCarried : Type 0
 LineIsCarried = (events : List Event) → OnStream events → CarriedSays events
@@ -183,19 +193,30 @@ StrayCollector =
 abbrev pub StrayTally : Type 0
 StrayTally = (t : Tally) → Says (lineOf (summedText t)) 0 "refused 12" ↔ (tallyAllowed t ≡ false)
 
--- 7. The number of settings printed is the collector's own, which is all of them where all are read (the numbers of a collector are
--- as many as the settings in every value of the type, which `length` says);
+-- 7. The number of settings printed is the collector's own, which is all of them where all are read;
 pub record CollectorSays (c : Collector) : Type 0 where
-  pub read-is : allowed c ≡ true → collectedText c ≡ readText (stageOf (c .len) (c .stopped)) (c .len) (length (c .numbers))
-  pub saved-is : (kept : Kept) → Complete c → savedText c kept ≡ keptText kept (c .len)
-  pub all-read : Complete c → c .len ≡ length (c .numbers)
+  pub read-is : allowed c ≡ true → ReadSaid c (stageOf (c .len) (c .stopped)) (c .len)
+  pub saved-is : Complete c → savedText c Kept.Whole ≡ joined (chars "saved: " ∷ decimal (c .len) ∷ chars " settings" ∷ [])
+  pub unsure-is : Complete c → savedText c Kept.Unsure ≡ chars "not sure: a power cut may bring the old file back"
+  pub unread-is : (kept : Kept) → allowed c ≡ true → c .len < count → savedText c kept ≡ chars "not saved: not every setting was read"
+  pub all-read : Complete c → c .len ≡ count
 
 abbrev pub CollectorsCount : Type 0
-CollectorsCount = (c : Collector) → length (c .numbers) ≡ count → CollectorSays c
+CollectorsCount = (c : Collector) → CollectorSays c
 
 -- and that of a good file is the number of settings in the table that it holds.
 abbrev pub FilesCount : Type 0
-FilesCount = (text : List ℕ) (table : Table) → parsing text ≡ readAs (good table) → checkedText (parsing text .verdict) ≡ goodText (length (table .numbers))
+FilesCount =
+    (text : List ℕ) (table : Table) → parsing text ≡ readAs (good table)
+    → checkedText (parsing text .verdict)
+    ≡ joined (chars "good: " ∷ decimal (length (table .numbers)) ∷ chars " settings, every number in range, every pair agrees" ∷ [])
+
+-- A refused one is told by the number of its refusal, and by its line where it has one.
+abbrev pub RefusalIsTold : Type 0
+RefusalIsTold =
+    (number row : ℕ)
+    → (checkedText (Checked.Refused number 0) ≡ joined (chars "refused " ∷ decimal number ∷ []))
+    × (row ≢ 0 → checkedText (Checked.Refused number row) ≡ joined (chars "refused " ∷ decimal number ∷ chars ", line " ∷ decimal row ∷ []))
 
 -- 8. No sentence is cut: each fits a line, with any counts.
 abbrev pub Fits : List ℕ → Type 0

@@ -1,19 +1,20 @@
--- What is proved of the definitions. Each is proved under its name in proofs/, in Serials, Reaching, Counting and Hearing. Assumes nothing.
+-- What is proved of the definitions. Each is proved under its name in proofs/, in Serials, Widths, Reaching, Counting and Hearing. Assumes nothing.
 use Prim.Native.Nat.{ℕ, zero, suc, _+_, _^_, _<_}
 use mathlib.Core.Path.{_≡_}
 use mathlib.Core.Logic.{_≢_, _↔_}
 use mathlib.Core.Bool.{true, false, cond}
 use mathlib.Core.List.{List, [], _∷_, _++_}
-use lib.ListN.{length, drop}
+use lib.ListN.{length, getD, drop}
 use lib.Dec.{ltb, eqb}
 use Rattle.paper.specs.Numbers as paper
 use Rattle.who.specs.Parts.{serialFits}
+use Rattle.who.specs.Values.{readOnlyIds}
 use Rattle.laws.specs.Lists.{Bytes}
 use Rattle.endian.specs.Numbers.{said}
 use Rattle.reply.specs.Replies.{flagOf, rest}
 use Rattle.reply.specs.Events.{Event, heard, refusedFrame, noAnswer}
 use Rattle.reply.specs.declared.Status.{Status}
-use Rattle.view.specs.Values.{ids, count, idAt, isUnderstood}
+use Rattle.view.specs.Values.{isUnderstood}
 use Rattle.view.specs.Calls.{sightAt, answers, shows, allowed, starting, viewing}
 use Rattle.view.specs.declared.Viewer.{Viewer}
 use Rattle.view.specs.declared.Next.{Next}
@@ -28,6 +29,13 @@ pub record IsSerial (value serial : List ℕ) : Type 0 where
 
 abbrev pub SerialIsRead : Type 0
 SerialIsRead = (value : List ℕ) → (isUnderstood paper.serialId value ≡ true) ↔ ((serial : List ℕ) × IsSerial value serial)
+
+-- A product exactly where it is "four bytes 00, product low, product high, FF"; a version exactly where it has "2 bytes".
+abbrev pub ProductIsRead : Type 0
+ProductIsRead = (value : List ℕ) → (isUnderstood paper.productId value ≡ true) ↔ ((low : ℕ) × (high : ℕ) × (value ≡ 0x00 ∷ low ∷ high ∷ 0xFF ∷ []))
+
+abbrev pub VersionIsRead : Type 0
+VersionIsRead = (value : List ℕ) → (isUnderstood paper.versionId value ≡ true) ↔ (length value ≡ 2)
 
 -- 2. While an id is due, a frame says nothing of it exactly where it is no Get reply whose data are that id, the flag of a status and a value;
 -- and its value is understood exactly where the flag is 00 and it is a value of that id.
@@ -88,18 +96,18 @@ silencesIn due n (refusedFrame ∷ more) = silencesIn due n more
 silencesIn due n (noAnswer ∷ more) = cond (ltb (oneMore due n) 3) (silencesIn due (oneMore due n) more) 3
 
 -- After a row of calls it is done exactly where all ids were answered, and silent exactly where three silences in a row came to the Get of
--- one id, which is the first that was not answered; otherwise that id is due.
-pub record Counts (events : List Event) (last : Viewed) : Type 0 where
+-- one id, which is the first that was not answered; otherwise that id is due. The ids are the eight of `who`, in its order.
+pub record Counts (ids : List ℕ) (events : List Event) (last : Viewed) : Type 0 where
   pub asked-are : last .viewer .answered ≡ counted answers ids 0 events
   pub understood-are : last .viewer .understood ≡ counted shows ids 0 events
-  pub done-when : (last .next ≡ Next.Done) ↔ (counted answers ids 0 events ≡ count)
-  pub silent-when : (id : ℕ) → (last .next ≡ Next.Silent id) ↔ ((silencesIn ids 0 events ≡ 3) × (id ≡ idAt (counted answers ids 0 events)))
+  pub done-when : (last .next ≡ Next.Done) ↔ (counted answers ids 0 events ≡ length ids)
+  pub silent-when : (id : ℕ) → (last .next ≡ Next.Silent id) ↔ ((silencesIn ids 0 events ≡ 3) × (id ≡ getD ids (counted answers ids 0 events) 0))
   pub waits-when :
       (id : ℕ)
-      → (last .next ≡ Next.Waiting id) ↔ (((silencesIn ids 0 events < 3) × (counted answers ids 0 events < count)) × (id ≡ idAt (counted answers ids 0 events)))
+      → (last .next ≡ Next.Waiting id) ↔ (((silencesIn ids 0 events < 3) × (counted answers ids 0 events < length ids)) × (id ≡ getD ids (counted answers ids 0 events) 0))
 
 abbrev pub CountsAreTrue : Type 0
-CountsAreTrue = (events : List Event) → Counts events (calls starting events)
+CountsAreTrue = (events : List Event) → Counts readOnlyIds events (calls starting events)
 
 -- 5. A viewer to which no id is due stays as it was, whatever comes.
 abbrev pub EndedStays : Type 0
