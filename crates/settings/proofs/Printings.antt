@@ -1,8 +1,8 @@
 -- What is allowed, and the refusals of the nearest number, by the ids, ranges and pairs that are printed. Assumes nothing.
 use mathlib.Core.Path.{_≡_, refl, sym, ap, ap₂, _∙_}
 use mathlib.Core.Bool.{Bool, true, false, cond, not, _&&_, false≢true}
-use mathlib.Core.List.{List, [], _∷_, map}
-use mathlib.Core.Option.{none, some}
+use mathlib.Core.List.{List, [], _∷_, _++_, map}
+use mathlib.Core.Option.{Option, none, some}
 use Prim.Native.Nat.{ℕ, suc, _<_}
 use native.Mathlib.Omega.{arith}
 use borrow.Author.Tests.{eq-eqb, ne-eqb, eqb-true, eqb-false, lt-ltb, le-ltb, ltb-true}
@@ -11,13 +11,13 @@ use lib.Dec.{ltb, eqb}
 use Rattle.laws.specs.Lists.{before}
 use Rattle.laws.proofs.Bools.{same-test}
 use Rattle.laws.proofs.Lists.{upTo-at, upTo-all}
-use Rattle.settings.specs.Columns.{count, ids, idAt, widthAt, placeOf, partnerAt, roleAt}
-use Rattle.settings.specs.Printed.{lines, among, printedIds, within, widthIn, partnerWithin, printedAgrees}
+use Rattle.settings.specs.Columns.{count, ids, idAt, widths, widthAt, partnerIds, placeOf, partnerAt, roleAt}
+use Rattle.settings.specs.Printed.{lines, lowPairs, highPairs, among, printedIds, within, widthIn, otherIn, partnerWithin, printedAgrees}
 use Rattle.settings.specs.Rules.{inRange, lowAgrees, highAgrees, agrees, allowedFor, allAllowed, nearestOf}
 use Rattle.settings.specs.Calls.{placing, ranging, allowing, partnerFits, nearing}
-use Rattle.settings.specs.Laws.{refusalOf, NearestGivenWhen, AllowedIsPrinted, PrintedIsTold, WidthIsPrinted, PastIsNothing, AllAllowedWhen}
+use Rattle.settings.specs.Laws.{refusalOf, NearestGivenWhen, AllowedIsPrinted, PrintedIsTold, WidthIsPrinted, PartnerIsPrinted, PastIsNothing, AllAllowedWhen}
 use Rattle.settings.specs.declared.Number.{Number}
-use Rattle.settings.proofs.Rows.{placed}
+use Rattle.settings.proofs.Rows.{placed, getD-past}
 
 -- two functions with the same answers, id by id
 answers-same : {A : Type 0} (f g : ℕ → A) (l : List ℕ) → map f l ≡ map g l → (id : ℕ) → among id l ≡ true → f id ≡ g id
@@ -84,9 +84,19 @@ width-printed k h =
     answers-same (λ x. widthIn lines x) (λ x. some (widthAt (placeOf x))) ids refl (idAt k) (id-among k h)
     ∙ ap (λ (i : ℕ). some (widthAt i)) (placed k h)
 
+pub partner-printed : PartnerIsPrinted
+unfolding partnerAt placeOf
+partner-printed k h =
+    answers-same (otherIn (lowPairs ++ highPairs)) (λ x. other (placeOf x)) ids refl (idAt k) (id-among k h) ∙ ap other (placed k h)
+  where
+    other : ℕ → Option ℕ
+    other i = cond (eqb (partnerAt i) i) none (some (idAt (partnerAt i)))
+
 pub past-nothing : PastIsNothing
-unfolding placing ranging allowing
-past-nothing k n partner h = let past : ltb k count ≡ false = le-ltb k count h in (rw past, rw past, rw past)
+unfolding placing ranging allowing partnerAt placeOf
+past-nothing k n partner h =
+    let past : ltb k count ≡ false = le-ltb k count h in
+    (rw past, rw (getD-past ids k 0 h, getD-past widths k 0 h, getD-past partnerIds k 0 h), rw past, rw past)
 
 pub all-printed : AllAllowedWhen
 unfolding allAllowed

@@ -1,9 +1,9 @@
 -- The statements of specs/Laws.antt, proved. Assumes nothing.
 use mathlib.Core.Path.{refl}
-use Rattle.settings.specs.Laws.{NearestIsFound, NearestIsOne, NearestIsAnswered, NearestGivenWhen, TableIsPrinted, AllowedIsPrinted, PrintedIsTold, WidthIsPrinted, PastIsNothing, AllAllowedWhen, RangeHasRoom, AllowedHasRoom, RowsHold, IdsAreCount, PlaceIsFound, FindIsFound, FoundHasId}
+use Rattle.settings.specs.Laws.{NearestIsFound, NearestIsOne, NearestIsAnswered, NearestGivenWhen, TableIsPrinted, AllowedIsPrinted, PrintedIsTold, WidthIsPrinted, PartnerIsPrinted, PastIsNothing, AllAllowedWhen, RangeHasRoom, AllowedHasRoom, RowsHold, IdsAreCount, PlaceIsFound, FindIsFound, FoundHasId}
 use Rattle.settings.proofs.Nearness.{nearest-one}
 use Rattle.settings.proofs.Windows.{nearest-found, nearest-answered, range-room, allowed-room}
-use Rattle.settings.proofs.Printings.{nearest-given, allowed-printed, printed-told, width-printed, past-nothing, all-printed}
+use Rattle.settings.proofs.Printings.{nearest-given, allowed-printed, printed-told, width-printed, partner-printed, past-nothing, all-printed}
 use Rattle.settings.proofs.Rows.{row-holds, place-found, find-found, found-id}
 
 pub nearest-is-found : NearestIsFound
@@ -29,6 +29,9 @@ printed-is-told = printed-told
 
 pub width-is-printed : WidthIsPrinted
 width-is-printed = width-printed
+
+pub partner-is-printed : PartnerIsPrinted
+partner-is-printed = partner-printed
 
 pub past-is-nothing : PastIsNothing
 past-is-nothing = past-nothing

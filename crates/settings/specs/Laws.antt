@@ -3,13 +3,14 @@
 use Prim.Native.Nat.{ℕ, suc, _^_, _≤_, _<_}
 use mathlib.Core.Path.{_≡_}
 use mathlib.Core.Logic.{_↔_}
-use mathlib.Core.Bool.{true, false, not, _&&_}
-use mathlib.Core.List.{List, [], _∷_, map}
+use mathlib.Core.Bool.{true, false, cond, not, _&&_}
+use mathlib.Core.List.{List, [], _∷_, _++_, map}
 use mathlib.Core.Option.{Option, none, some}
 use lib.ListN.{length, getD}
+use lib.Dec.{eqb}
 use Rattle.laws.specs.Refusals.{row, firstOf}
 use Rattle.settings.specs.Columns.{count, entries, ids, idAt, widthAt, lowAt, highAt, factoryAt, partnerAt, roleAt}
-use Rattle.settings.specs.Printed.{lines, among, printedIds, within, widthIn, partnerWithin, printedAgrees, printed}
+use Rattle.settings.specs.Printed.{lines, lowPairs, highPairs, among, printedIds, within, widthIn, otherIn, partnerWithin, printedAgrees, printed}
 use Rattle.settings.specs.Rules.{inRange, agrees, allowedFor, allAllowed, Nearest, nearestOf}
 use Rattle.settings.specs.Calls.{settingAt, placing, finding, ranging, allowing, partnerFits, nearing}
 use Rattle.settings.specs.declared.columns.Role.{Role}
@@ -61,9 +62,18 @@ PrintedIsTold = (k n partner : ℕ) → k < count → Told k n partner
 abbrev pub WidthIsPrinted : Type 0
 WidthIsPrinted = (k : ℕ) → k < count → widthIn lines (idAt k) ≡ some (settingAt k .width)
 
--- past the table there is no setting, and no number is in range or allowed
+-- the partner that a look-up answers: the other one of the printed pair, and the setting itself where no pair has its id
+abbrev pub PartnerIsPrinted : Type 0
+PartnerIsPrinted =
+    (k : ℕ) → k < count
+    → otherIn (lowPairs ++ highPairs) (idAt k) ≡ cond (eqb (settingAt k .partner) k) none (some (idAt (settingAt k .partner)))
+
+-- past the table there is no setting, the look-up that tests nothing has neither id nor width nor partner, and no number is in range or allowed
 abbrev pub PastIsNothing : Type 0
-PastIsNothing = (k n partner : ℕ) → count ≤ k → (placing k ≡ Found.Nothing) × (ranging k n ≡ false) × (allowing k n partner ≡ false)
+PastIsNothing =
+    (k n partner : ℕ) → count ≤ k
+    → (placing k ≡ Found.Nothing) × (settingAt k ≡ record { index = k; id = 0; width = 0; partner = count })
+    × (ranging k n ≡ false) × (allowing k n partner ≡ false)
 
 -- all numbers at once are allowed exactly when each is so beside its partner's
 abbrev pub AllAllowedWhen : Type 0

@@ -1,7 +1,7 @@
 -- Laws of an allowed table: what it holds, and what a Set makes of it. Assumes nothing.
 use mathlib.Core.Path.{_≡_, refl, sym, ap, _∙_}
 use mathlib.Core.Logic.{_≢_}
-use mathlib.Core.Bool.{Bool, true, false, cond, not, _&&_, _||_}
+use mathlib.Core.Bool.{Bool, true, false, cond, not, _&&_, _||_, false≢true}
 use mathlib.Core.List.{List}
 use mathlib.Core.Option.{none, some}
 use Prim.Native.Nat.{ℕ, _≤_, _<_}
@@ -46,6 +46,23 @@ pub partner-fits : (t : Table) → allowed t ≡ true → (k : ℕ) → k < coun
 unfolding partnerFits
 partner-fits t ok k h = or-second (eqb (partnerAt k) k) _ (range-at t ok (partnerAt k) (partner-below k h))
 
+-- which refusal a Set gives
+pub set-given : SetGivenWhen
+unfolding setTo
+set-given t k n = by (allowed t) (ltb k count) (allowedFor k n (partnerNumber t k)) _ _ _
+  where
+    stray : Change
+    stray = record { answer = Answer.Refused 12 0; table = t }
+
+    by : (fit in-table ok : Bool) (nearest : ℕ) (stored kept : Table)
+        → let given : Change = cond (fit && in-table) (cond ok (record { answer = Answer.Accepted; table = stored }) (record { answer = Answer.Refused 10 nearest; table = kept })) stray in
+        (refusalOf (given .answer) ≡ cond (not fit || not in-table) (some 12) (cond (not ok) (some 10) none))
+        × ((not fit || not in-table) ≡ true → given ≡ stray)
+    by false in-table ok nearest stored kept = (refl, λ e. refl)
+    by true false ok nearest stored kept = (refl, λ e. refl)
+    by true true false nearest stored kept = (refl, λ e. absurd (false≢true e))
+    by true true true nearest stored kept = (refl, λ e. absurd (false≢true e))
+
 -- a Set, case by case
 pub set-stray : (t : Table) (k n : ℕ) → allowed t ≡ false → setTo t k n ≡ record { answer = Answer.Refused notAllowed 0; table = t }
 unfolding setTo
@@ -59,7 +76,9 @@ module _ (t : Table) (k n : ℕ) (ok : allowed t ≡ true) where
   pub set-refused : k < count → allowedFor k n (partnerNumber t k) ≡ false
       → setTo t k n ≡ record { answer = Answer.Refused numberNotAllowed (nearestOf k n (partnerNumber t k)); table = t }
   unfolding setTo
-  set-refused h e = rw (ok, lt-ltb k count h, e)
+  set-refused h e =
+      rw (ok, lt-ltb k count h, e)
+      (ap (λ (l : List ℕ). record { answer = Answer.Refused numberNotAllowed (nearestOf k n (partnerNumber t k)); table = record { numbers = l } }) (set-getD (t .numbers) k 0))
 
   pub set-accepted : k < count → allowedFor k n (partnerNumber t k) ≡ true → setTo t k n ≡ record { answer = Answer.Accepted; table = changed t k n }
   unfolding setTo
@@ -142,20 +161,6 @@ set-one t k n j apart = by (allowed t) (ltb k count) (allowedFor k n (partnerNum
     by true false r o p q = rw (set-past t k n o (ltb-false k count p))
 
 -- a number that is allowed is stored, and one that is not is answered with the nearest
-pub set-given : SetGivenWhen
-unfolding setTo
-set-given t k n = by (allowed t) (ltb k count) (allowedFor k n (partnerNumber t k))
-  where
-    by : (fit in-table ok : Bool)
-        → refusalOf (cond {A = Change} (fit && in-table)
-        (cond ok (record { answer = Answer.Accepted; table = changed t k n }) (record { answer = Answer.Refused 10 (nearestOf k n (partnerNumber t k)); table = t }))
-        (record { answer = Answer.Refused 12 0; table = t }) .answer)
-        ≡ cond (not fit || not in-table) (some 12) (cond (not ok) (some 10) none)
-    by false in-table ok = refl
-    by true false ok = refl
-    by true true false = refl
-    by true true true = refl
-
 pub set-stores : SetStores
 set-stores t k n long ok h fits =
     rw (set-accepted t k n ok h fits) (refl, here t k n ok h long fits)

@@ -19,6 +19,7 @@ use Rattle.tables.specs.declared.Table.{Table}
 use Rattle.tables.specs.declared.Answer.{Answer}
 
 -- 1. A Set's refusals: 12 "a handed-in number, state or table is not allowed", here a table or a place past it; then 10 "number not allowed".
+-- With 12 the nearest number is 0 and the table is as it was.
 abbrev pub refusalOf : Answer → Option ℕ
 refusalOf Answer.Accepted = none
 refusalOf (Answer.Refused number nearest) = some number
@@ -26,8 +27,9 @@ refusalOf (Answer.Refused number nearest) = some number
 abbrev pub SetGivenWhen : Type 0
 SetGivenWhen =
     (t : Table) (k n : ℕ)
-    → refusalOf (setTo t k n .answer)
-    ≡ firstOf (row 12 (not (allowed t) || not (ltb k count)) ∷ row 10 (not (allowedFor k n (partnerNumber t k))) ∷ [])
+    → (refusalOf (setTo t k n .answer)
+    ≡ firstOf (row 12 (not (allowed t) || not (ltb k count)) ∷ row 10 (not (allowedFor k n (partnerNumber t k))) ∷ []))
+    × ((not (allowed t) || not (ltb k count)) ≡ true → setTo t k n ≡ record { answer = Answer.Refused 12 0; table = t })
 
 -- A Set of an allowed number is accepted and stores it; any other is refused with the nearest allowed number. Either way the table stays
 -- allowed and no other setting changes. (A table has its numbers in every value of the type, which `length` says.)

@@ -2,10 +2,13 @@
 // answer (specs/Calls.antt).
 ghost use mathlib.Core.Path.{_≡_};
 ghost use mathlib.Core.Bool.{true};
+ghost use Prim.Native.Nat.{_<_};
+ghost use Rattle.paper.specs.Numbers.{notAllowed};
+ghost use Rattle.settings.specs.Columns.{count};
 ghost use Rattle.settings.specs.Rules.{nearestOf};
 ghost use Rattle.settings.specs.Calls.{placing, partnerFits};
 ghost use Rattle.settings.specs.declared.Found.{Found};
-ghost use Rattle.tables.specs.Rules.{factory, allowed};
+ghost use Rattle.tables.specs.Rules.{factory, allowed, changed};
 ghost use Rattle.tables.specs.Calls.{setTo};
 ghost use Rattle.tables.specs.declared.Answer.{Answer};
 use settings::COUNT;
@@ -53,35 +56,46 @@ impl Table {
         ensures { λ r. ⌜ r ≡ setTo self index number ⌝ }
     {
         if !self.is_allowed() {
-            return refused(self, paper::NOT_ALLOWED, 0);
+            return refused(self);
         }
         let found = settings::at(index);
         match found {
             Found::At(setting) => set_found(self, setting, number),
-            Found::Nothing => refused(self, paper::NOT_ALLOWED, 0),
+            Found::Nothing => refused(self),
         }
     }
 }
 
-// Sets a setting of an allowed table.
+// Sets a setting of an allowed table. Where the number is not allowed, the setting holds the one that it held.
 fn set_found(table: Table, setting: Setting, number: u16) -> Change
     requires { ⌜ (allowed table ≡ true) × (placing (setting .index) ≡ Found.At setting) ⌝ }
     ensures { λ r. ⌜ r ≡ setTo table (setting .index) number ⌝ }
 {
-    let mut numbers = table.numbers;
+    let numbers = table.numbers;
     let index = setting.index;
     let other = setting.partner;
+    let held = numbers[index];
     let partner = numbers[other];
-    numbers[index] = number;
     if !settings::allows(index, number, partner) {
-        return refused(
-            table,
-            paper::NUMBER_NOT_ALLOWED,
-            nearest_of(setting, number, partner),
-        );
+        let nearest = nearest_of(setting, number, partner);
+        let answer = Answer::Refused {
+            number: paper::NUMBER_NOT_ALLOWED,
+            nearest,
+        };
+        return holding(table, index, held, answer);
     }
+    holding(table, index, number, Answer::Accepted)
+}
+
+// Returns an answer, and the table with the number that a setting of it then holds.
+fn holding(table: Table, index: usize, number: u16, answer: Answer) -> Change
+    requires { ⌜ index < count ⌝ }
+    ensures { λ r. ⌜ r ≡ record { answer = answer; table = changed table index number } ⌝ }
+{
+    let mut numbers = table.numbers;
+    numbers[index] = number;
     Change {
-        answer: Answer::Accepted,
+        answer,
         table: Table { numbers },
     }
 }
@@ -98,12 +112,13 @@ fn nearest_of(setting: Setting, wished: u16, partner: u16) -> u16
     }
 }
 
-// Refuses a Set, with the table as it was.
-fn refused(table: Table, number: u8, nearest: u16) -> Change
-    ensures { λ r. ⌜ r ≡ record { answer = Answer.Refused number nearest; table = table } ⌝ }
+// Refuses 12, with the table as it was.
+fn refused(table: Table) -> Change
+    ensures { λ r. ⌜ r ≡ record { answer = Answer.Refused notAllowed 0; table = table } ⌝ }
 {
-    Change {
-        answer: Answer::Refused { number, nearest },
-        table,
-    }
+    let answer = Answer::Refused {
+        number: paper::NOT_ALLOWED,
+        nearest: 0,
+    };
+    Change { answer, table }
 }

@@ -1,7 +1,7 @@
 -- A digit and its nibble are each other's: every nibble's digit is read as that nibble, and a character that is read as a nibble is
 -- that nibble's digit. Assumes nothing.
-use mathlib.Core.Path.{_≡_, refl, sym, _∙_}
-use mathlib.Core.Bool.{Bool, true, false, false≢true, not, _&&_, _||_}
+use mathlib.Core.Path.{_≡_, refl, sym, ap, _∙_}
+use mathlib.Core.Bool.{Bool, true, false, false≢true, cond, not, _&&_, _||_}
 use Prim.Native.Nat.{ℕ, _+_, _*_, _/_, _%_, _≤_, _<_, _-_}
 use native.Mathlib.Omega.{arith}
 use borrow.Author.Tests.{lt-ltb, le-ltb, lt-leb, le-leb, leb-true, ltb-true, ltb-false, ne-eqb}
@@ -17,11 +17,11 @@ use Rattle.paper.specs.Numbers.{colon, newline}
 -- the two rows of digits, each way
 digit-low : (n : ℕ) → n < 10 → digit n ≡ 48 + n
 unfolding digit
-digit-low n h = simp (lt-ltb n 10 h)
+digit-low n h = ap (λ (t : Bool). cond t (48 + n) (55 + n)) (lt-ltb n 10 h)
 
 digit-high : (n : ℕ) → 10 ≤ n → digit n ≡ 55 + n
 unfolding digit
-digit-high n h = simp (le-ltb n 10 h)
+digit-high n h = ap (λ (t : Bool). cond t (48 + n) (55 + n)) (le-ltb n 10 h)
 
 nibble-low : (c : ℕ) → 48 ≤ c → c ≤ 57 → nibble c ≡ c - 48
 unfolding nibble

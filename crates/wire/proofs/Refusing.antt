@@ -1,49 +1,52 @@
 -- The sum of a frame, and refusals 1 to 4 by their rows. Assumes nothing.
-use mathlib.Core.Path.{_≡_, refl, ap, subst, _∙_}
-use mathlib.Core.Bool.{Bool, true, false, not, _&&_, _||_, cond}
+use mathlib.Core.Path.{_≡_, refl, sym, ap, subst, _∙_}
+use mathlib.Core.Bool.{Bool, true, false, not, _&&_, _||_, cond, false≢true}
 use mathlib.Core.List.{List, [], _∷_}
 use mathlib.Core.Option.{Option, none, some}
-use Prim.Native.Nat.{ℕ, _-_}
+use Prim.Native.Nat.{ℕ, _+_, _-_, _≤_, _<_}
 use native.Mathlib.Omega.{arith}
-use borrow.Author.Tests.{leb-true, lt-leb, le-leb, ltb-true, ltb-false}
-use lib.ListN.{length, getD}
+use borrow.Author.Tests.{leb-true, lt-leb, le-leb, ltb-true, ltb-false, eqb-true}
+use lib.ListN.{length, drop, getD}
 use lib.Dec.{ltb, leb, eqb}
 use Rattle.laws.specs.Promise.{Given}
-use Rattle.laws.proofs.Bools.{pick}
-use Rattle.laws.specs.Lists.{every}
+use Rattle.laws.proofs.Bools.{pick, nor-left}
+use Rattle.laws.specs.Lists.{every, sumOf}
+use Rattle.laws.proofs.Lists.{every-at, before-first, upTo-at}
 use Rattle.paper.specs.Numbers.{colon, newline}
-use Rattle.wire.specs.Digits.{isDigit}
+use Rattle.wire.specs.Digits.{digit, nibble, isDigit}
 use Rattle.wire.specs.Frame.{check, body, frame}
-use Rattle.wire.specs.Parsing.{Ended, good, refused, commandOf, dataOf, badCount, sumsUp, bodySays, brokenSays}
+use Rattle.wire.specs.Parsing.{Ended, good, refused, bytesOf, commandOf, payloadOf, dataOf, badCount, sumsUp, bodySays, brokenSays}
 use Rattle.laws.specs.Refusals.{firstOf}
-use Rattle.wire.specs.Refusals.{isHex, faults, faultOf, refusalOf, writeRefusalOf}
+use Rattle.wire.specs.Refusals.{sixteen, value, pairsTotal, total, isHex, faults, faultOf, refusalOf, writeRefusalOf}
 use Rattle.wire.specs.Calls.{writing, writtenAs, unwritten, wholeSays, wellEnclosed, between, parsing, readAs, parsingChars}
 use Rattle.wire.specs.Laws.{Sums, WrittenSums, ReadSums, FaultGivenWhen, ReadGivenWhen, CharsGivenWhen, WriteGivenWhen, RefusedWritesNothing}
 use Rattle.wire.specs.declared.Written.{Written}
 use Rattle.wire.specs.declared.Read.{Read}
-use Rattle.wire.proofs.Nibbles.{digit-test}
+use Rattle.wire.proofs.Nibbles.{digit-test, none-is-16, digit-nibble}
 use Rattle.wire.proofs.Frames.{check-sums, check-byte}
-use Rattle.wire.proofs.RoundTrip.{slice-written}
+use Rattle.wire.proofs.RoundTrip.{slice-written, digit-hex}
 
-frame-sums : (command : ℕ) (bytes : List ℕ) → Sums (frame command bytes) command bytes
+frame-sums : (command : ℕ) (bytes : List ℕ) → command < 16 → Sums (frame command bytes) command bytes
 unfolding frame body
-frame-sums command bytes =
-    record { check = check command bytes; is-byte = check-byte command bytes; slice-is = refl; sums = check-sums command bytes }
+frame-sums command bytes nib =
+    record { check = check command bytes; is-byte = check-byte command bytes; slice-is = rw (digit-hex command nib); sums = check-sums command bytes }
 
 pub written-sums : WrittenSums
 unfolding writing
-written-sums command bytes room slice e = by (ltb room 75) (ltb 15 command || ltb 35 (length bytes)) e
+written-sums command bytes room slice e = by (ltb room 75) (ltb 15 command || ltb 35 (length bytes)) refl e
   where
     never : (number : ℕ) → unwritten number ≡ writtenAs slice → Sums slice command bytes
     never number w =
         let a : Written.Refused number ≡ Written.Len (length slice) = ap (λ (g : Given Written). g .answer) w in
         let z : _≡_ {A = ℕ} 0 1 = cc in absurd (omega arith)
 
-    by : (short over : Bool) → cond short (unwritten 11) (cond over (unwritten 12) (writtenAs (frame command bytes))) ≡ writtenAs slice
-        → Sums slice command bytes
-    by true over w = never 11 w
-    by false true w = never 12 w
-    by false false w = subst (λ (l : List ℕ). Sums l command bytes) (ap (λ (g : Given Written). g .written) w) (frame-sums command bytes)
+    by : (short over : Bool) → (ltb 15 command || ltb 35 (length bytes)) ≡ over
+        → cond short (unwritten 11) (cond over (unwritten 12) (writtenAs (frame command bytes))) ≡ writtenAs slice → Sums slice command bytes
+    by true over p w = never 11 w
+    by false true p w = never 12 w
+    by false false p w =
+        let nib : command ≤ 15 = ltb-false 15 command (nor-left (ltb 15 command) _ p) in
+        subst (λ (l : List ℕ). Sums l command bytes) (ap (λ (g : Given Written). g .written) w) (frame-sums command bytes (omega arith))
 
 pub read-sums : ReadSums
 read-sums slice room command bytes e = written-sums command bytes 75 slice (slice-written slice room command bytes e 75 (leb-true 75 75 refl))
@@ -52,6 +55,33 @@ read-sums slice room command bytes e = written-sums command bytes 75 slice (slic
 hex-digits : (chars : List ℕ) → every isHex chars ≡ every isDigit chars
 hex-digits [] = refl
 hex-digits (c ∷ chars) = rw (digit-test c, hex-digits chars)
+
+-- what a character means is its nibble
+value-nibble : (c : ℕ) → value c ≡ nibble c
+unfolding value digit nibble
+value-nibble c = by (isDigit c) (ltb (value c) 16) refl refl
+  where
+    by : (s t : Bool) → isDigit c ≡ s → ltb (value c) 16 ≡ t → value c ≡ nibble c
+    by true t p q =
+        let small : nibble c < 16 = ltb-true (nibble c) 16 p in
+        ap value (sym (digit-nibble c small)) ∙ eqb-true _ _ (upTo-at 16 (λ n. eqb (value (digit n)) n) refl (nibble c) small)
+    by false true p q =
+        let here : value c < 16 = ltb-true (value c) 16 q in
+        let is : getD sixteen (value c) 0 ≡ c = eqb-true _ c (before-first (λ x. eqb x c) sixteen .some here) in
+        absurd (false≢true (sym p ∙ rw is at (every-at isDigit sixteen refl (value c) here)))
+    by false false p q =
+        let past : 16 ≤ value c = ltb-false (value c) 16 q in
+        let most : value c ≤ 16 = before-first (λ x. eqb x c) sixteen .inside in
+        let none : nibble c ≡ 16 = none-is-16 c p in
+        omega arith
+
+pairs-total : (chars : List ℕ) → pairsTotal chars ≡ sumOf (bytesOf chars)
+pairs-total [] = refl
+pairs-total (x ∷ []) = refl
+pairs-total (x ∷ y ∷ rest) = rw (value-nibble x, value-nibble y, pairs-total rest)
+
+total-is : (chars : List ℕ) → total chars ≡ commandOf chars + sumOf (payloadOf chars)
+total-is chars = rw (value-nibble (getD chars 0 0), pairs-total (drop 1 chars))
 
 -- the rows and the definition ask the same tests in the same order
 body-rows : (long digits odd sums : Bool) (command : ℕ) (bytes : List ℕ)
@@ -72,7 +102,7 @@ broken-rows false true rest = refl
 pub fault-given : FaultGivenWhen
 unfolding bodySays brokenSays
 fault-given chars = (
-  rw hex-digits (body-rows (ltb 73 (length chars)) (every isDigit chars) (badCount (length chars)) (sumsUp chars) (commandOf chars) (dataOf chars)),
+  rw (hex-digits, total-is chars) (body-rows (ltb 73 (length chars)) (every isDigit chars) (badCount (length chars)) (sumsUp chars) (commandOf chars) (dataOf chars)),
   broken-rows (ltb 73 (length chars)) (every isHex chars) _,
 )
 

@@ -9,11 +9,10 @@ use lib.Dec.{ltb, eqb}
 use Rattle.laws.specs.Lists.{Bytes, sumOf}
 use Rattle.laws.specs.Promise.{Given}
 use Rattle.paper.specs.Numbers.{colon, newline, mostNibble, mostData, frameRoom}
-use Rattle.wire.specs.Digits.{digit}
 use Rattle.wire.specs.Frame.{digitsOf, frame}
 use Rattle.wire.specs.Parsing.{bodySays, brokenSays}
 use Rattle.laws.specs.Refusals.{row, firstOf}
-use Rattle.wire.specs.Refusals.{faults, faultOf, refusalOf, writeRefusalOf}
+use Rattle.wire.specs.Refusals.{sixteen, faults, faultOf, refusalOf, writeRefusalOf}
 use Rattle.wire.specs.Calls.{pairOf, writing, parsing, parsingChars}
 use Rattle.wire.specs.declared.Written.{Written}
 use Rattle.wire.specs.declared.Read.{Read}
@@ -43,11 +42,15 @@ pub record Writable (command : ℕ) (bytes : List ℕ) : Type 0 where
   pub few : length bytes ≤ mostData
   pub small : Bytes bytes
 
+-- the digit of a nibble, of the sixteen written out
+abbrev pub hex : ℕ → ℕ
+hex n = getD sixteen n 0
+
 -- 3. "Command, data bytes and check sum to 0x55 modulo 256": in every frame that the writer makes, and in every frame read whole.
 pub record Sums (slice : List ℕ) (command : ℕ) (bytes : List ℕ) : Type 0 where
   pub check : ℕ
   pub is-byte : check < 256
-  pub slice-is : slice ≡ colon ∷ digit command ∷ digitsOf (bytes ++ check ∷ []) ++ newline ∷ []
+  pub slice-is : slice ≡ colon ∷ hex command ∷ digitsOf (bytes ++ check ∷ []) ++ newline ∷ []
   pub sums : (command + sumOf bytes + check) % 256 ≡ 0x55
 
 abbrev pub WrittenSums : Type 0
@@ -77,17 +80,13 @@ ReadGivenWhen =
 abbrev pub CharsGivenWhen : Type 0
 CharsGivenWhen = (chars : List ℕ) (room : ℕ) → refusalOf (parsingChars chars room .answer) ≡ firstOf (row 11 (ltb room 35) ∷ faults chars newline)
 
--- "data bytes as two digits each", the high nibble first, with the sixteen digits written out: in a frame, and as the public call gives them.
-abbrev pub hex : ℕ → ℕ
-hex n = getD (48 ∷ 49 ∷ 50 ∷ 51 ∷ 52 ∷ 53 ∷ 54 ∷ 55 ∷ 56 ∷ 57 ∷ 65 ∷ 66 ∷ 67 ∷ 68 ∷ 69 ∷ 70 ∷ []) n 0
-
+-- "data bytes as two digits each", the high nibble first: in a frame, and as the public call gives them.
 abbrev pub DigitsAreTwo : Type 0
 DigitsAreTwo =
     (b : ℕ) (bytes : List ℕ) → b < 256
     → (digitsOf (b ∷ bytes) ≡ hex (b / 16) ∷ hex (b % 16) ∷ digitsOf bytes) × (pairOf b ≡ record { high = hex (b / 16); low = hex (b % 16) })
 
--- "The stream is read by the same frame rule": of the characters alone the whole answer, with the data in the buffer, is that of the slice in
--- which a colon comes before them and a newline after.
+-- The characters alone are read as a slice with a colon before them and a newline after: the same answer, and the same data in the buffer.
 abbrev pub CharsAreWhole : Type 0
 CharsAreWhole = (chars : List ℕ) (room : ℕ) → parsingChars chars room ≡ parsing (colon ∷ chars ++ newline ∷ []) room
 
