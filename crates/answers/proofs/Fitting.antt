@@ -76,15 +76,15 @@ module _ (core : Core) where
   fits-restarts bytes = pick Replies (eqb (length bytes) 0) nothing an-error
 
   fits-gets-other : (id : ℕ) (o : Option (List ℕ)) → Small o → Replies (getsOther core id o)
-  fits-gets-other id none small = fits-none getCode id 1 seven (leb-true 2 256 refl)
-  fits-gets-other id (some v) (small-some few small) = fits-said getCode id 0 v seven (leb-true 1 256 refl) few small
+  fits-gets-other id none small = fits-none getCode id _ seven (leb-true _ 256 refl)
+  fits-gets-other id (some v) (small-some few small) = fits-said getCode id _ v seven (leb-true _ 256 refl) few small
 
   fits-sets-other : (id : ℕ) (o : Option (List ℕ)) → Replies (setsOther core id o)
-  fits-sets-other id none = fits-none setCode id 1 eight (leb-true 2 256 refl)
-  fits-sets-other id (some v) = fits-none setCode id 2 eight (leb-true 3 256 refl)
+  fits-sets-other id none = fits-none setCode id _ eight (leb-true _ 256 refl)
+  fits-sets-other id (some v) = fits-none setCode id _ eight (leb-true _ 256 refl)
 
   fits-gets-found : identityAllowed (core .identity) ≡ true → (id : ℕ) (f : Found) → finding id ≡ f → Replies (getsFound core id f)
-  fits-gets-found ok id (Found.At s) e = fits-number getCode s 0 _ (found-settled id s e) seven (leb-true 1 256 refl)
+  fits-gets-found ok id (Found.At s) e = fits-number getCode s _ _ (found-settled id s e) seven (leb-true _ 256 refl)
   fits-gets-found ok id Found.Nothing e = fits-gets-other id (readOnly (core .identity) (core .readings) id) (values-fit (core .identity) (core .readings) id ok)
 
   fits-gets : identityAllowed (core .identity) ≡ true → (bytes : List ℕ) → Replies (getAnswer core bytes)
@@ -93,15 +93,15 @@ module _ (core : Core) where
       pick Replies (eqb (length bytes) 3) (pick Replies (eqb (getD bytes 2 0) 0) (fits-gets-found ok _ (finding (fromLittle (take 2 bytes))) refl) an-error) an-error
 
 fits-stored : (core : Core) (s : Setting) (n : ℕ) (a : Answer) → Settled s → Replies (stored core s n a)
-fits-stored core s n Answer.Accepted settled = fits-number setCode s 0 n settled eight (leb-true 1 256 refl)
-fits-stored core s n (Answer.Refused number nearest) settled = fits-number setCode s 4 nearest settled eight (leb-true 5 256 refl)
+fits-stored core s n Answer.Accepted settled = fits-number setCode s _ n settled eight (leb-true _ 256 refl)
+fits-stored core s n (Answer.Refused number nearest) settled = fits-number setCode s _ nearest settled eight (leb-true _ 256 refl)
 
 module _ (core : Core) where
   fits-sets-setting : (s : Setting) (value : List ℕ) → Settled s → Replies (setsSetting core s value)
   unfolding setsSetting
   fits-sets-setting s value settled =
       pick Replies (eqb (length value) (s .width)) (fits-stored _ s _ (setTo (core .table) (s .index) (fromLittle value) .answer) settled)
-      (fits-number setCode s 4 _ settled eight (leb-true 5 256 refl))
+      (fits-number setCode s _ _ settled eight (leb-true _ 256 refl))
 
   fits-sets-found : (id : ℕ) (value : List ℕ) (f : Found) → finding id ≡ f → Replies (setsFound core id value f)
   fits-sets-found id value (Found.At s) e = fits-sets-setting s value (found-settled id s e)

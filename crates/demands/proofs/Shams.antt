@@ -1,13 +1,13 @@
 -- No sham passes, and the board and the follower do. The shams fall by computation on a board that was started with the factory table: each
 -- definition that a sham passes through is opened and run.
 use mathlib.Core.Path.{_≡_, refl, sym, ap, _∙_}
-use mathlib.Core.Bool.{Bool, true, false, false≢true, cond}
+use mathlib.Core.Bool.{Bool, true, false, false≢true}
 use mathlib.Core.List.{List, [], _∷_, _++_}
-use Prim.Native.Nat.{ℕ, suc, _+_, _≤_, _<_, min}
+use Prim.Native.Nat.{ℕ, _+_, _<_}
 use native.Mathlib.Omega.{arith}
-use borrow.Author.Tests.{leb-true, ltb-true, ltb-false}
-use lib.ListN.{length, take, replicate}
-use lib.Dec.{eqb, ltb}
+use borrow.Author.Tests.{leb-true, ltb-true}
+use lib.ListN.{take, replicate}
+use lib.Dec.{eqb}
 use Rattle.laws.specs.Lists.{same}
 use Rattle.laws.specs.Cutting.{Step}
 use Rattle.laws.proofs.Lists.{same-self}
@@ -16,10 +16,9 @@ use Rattle.wire.specs.Digits.{digit, nibble}
 use Rattle.wire.specs.Frame.{check, body, frame}
 use Rattle.endian.specs.Numbers.{little, said}
 use Rattle.wire.specs.Parsing.{Ended, good, refused, bodySays, brokenSays}
-use Rattle.stream.specs.Stream.{Unfinished, outside, inside, firstEnd, taken, framesOf}
+use Rattle.stream.specs.Stream.{inside, taken, framesOf}
 use Rattle.stream.specs.Calls.{noChars, heldOf, unfinished}
 use Rattle.stream.specs.declared.Held.{Held}
-use Rattle.stream.specs.declared.Heard.{Heard}
 use Rattle.stream.specs.Calls as stream
 use Rattle.settings.specs.Columns.{count, idAt, widthAt, partnerAt, placeOf}
 use Rattle.tables.specs.Rules.{factory, allowed, numberAt, partnerNumber, changed}
@@ -43,7 +42,13 @@ use Rattle.board.specs.declared.Answered.{Answered}
 use Rattle.board.proofs.Pieces.{answering-heard}
 use Rattle.board.proofs.Theorems.{start-is-allowed, start-holds-it, get-answers-held, get-answers-read-only, set-stores-it}
 use Rattle.listen.specs.Hearing.{boxHearing}
-use Rattle.listen.proofs.Hearing.{box-heard}
+use Rattle.listen.specs.Calls.{isOver}
+use Rattle.listen.specs.Calls as listen
+use Rattle.listen.specs.Laws.{ReadsToTheEnd}
+use Rattle.listen.specs.declared.Listener.{Listener}
+use Rattle.listen.specs.declared.Listened.{Listened}
+use Rattle.listen.proofs.Leaning.{taken-is}
+use Rattle.listen.proofs.Theorems.{read-takes-to-the-end}
 use Rattle.reply.specs.Events.{heard, refusedFrame, nothing, a-frame, a-refusal}
 use Rattle.restore.specs.Order.{differs, higherFirst, exchanged, placed, turnsFrom, order}
 use Rattle.follow.specs.Laws.{matched}
@@ -52,7 +57,7 @@ use Rattle.demands.specs.Sets.{anySetting, isComplete, isValid, makes, m
 use Rattle.demands.specs.Talk.{Deed, stores, calls, Talk, Way, plainly, talkBy}
 use Rattle.demands.specs.Demand2.{HearsWritten, GetsHeld, ReadOnlyHeld, SetsStored}
 use Rattle.demands.specs.Demand3.{Decides}
-use Rattle.demands.specs.Shams.{toTheEnd, TakesToTheEnd, HearsToTheEnd, Counts, Asked, a-get, a-set, RefusesAll, AnswersAlike, ReadsByHeart, KeepsItsTable, firstSetAlone, TakesUnseen, HearsUnseen, unheard, leavesDigits, ShamsFall, RefusingDecides, RealPass}
+use Rattle.demands.specs.Shams.{TakesToTheEnd, Counts, Asked, a-get, a-set, RefusesAll, AnswersAlike, ReadsByHeart, KeepsItsTable, firstSetAlone, TakesUnseen, ReadsUnseen, unheard, leavesDigits, ShamsFall, RefusingDecides, RealPass}
 use Rattle.demands.proofs.Deciding.{stores-keeps, board-decides}
 use Rattle.demands.proofs.Understanding.{heard-written}
 
@@ -263,12 +268,12 @@ takes-unseen answer counted u h =
     (sym (u (startedWith factory) twoSets 75) ∙ h (startedWith factory) twoSets 75 (is-allowed factory factory-is-allowed) (leb-true 75 75 refl))
     (sym (u (startedWith factory) noise 75) ∙ h (startedWith factory) noise 75 (is-allowed factory factory-is-allowed) (leb-true 75 75 refl))
 
-hears-unseen : (hear : Held → List ℕ → ℕ → Given Heard) (counted : Held → ℕ → ℕ → ℕ) → HearsUnseen hear counted → HearsToTheEnd hear → ⊥
-unfolding partnerAt placeOf stream.allowed heldOf noChars unfinished taken frame body check digit
-hears-unseen hear counted u h =
-    not-both (counted (heldOf outside) 30 35)
-    (sym (u (heldOf outside) twoSets 35) ∙ h (heldOf outside) twoSets 35 refl (leb-true 35 35 refl))
-    (sym (u (heldOf outside) noise 35) ∙ h (heldOf outside) noise 35 refl (leb-true 35 35 refl))
+reads-unseen : (read : Listener → List ℕ → ℕ → ℕ → Given Listened) (counted : Listener → ℕ → ℕ → ℕ → ℕ) → ReadsUnseen read counted → ReadsToTheEnd read → ⊥
+unfolding partnerAt placeOf stream.allowed heldOf noChars unfinished taken isOver frame body check digit
+reads-unseen read counted u h =
+    not-both (counted (listen.starting 0) 30 0 35)
+    (sym (u (listen.starting 0) twoSets 0 35) ∙ h (listen.starting 0) twoSets 0 35 (leb-true 35 35 refl) refl refl)
+    (sym (u (listen.starting 0) noise 0 35) ∙ h (listen.starting 0) noise 0 35 (leb-true 35 35 refl) refl refl)
 
 -- one event is the reply to the one Set that is due, and another is a frame that was refused
 counts-unheard : (counted : Table → Table → ℕ → ℕ) → Counts (unheard counted) → ⊥
@@ -342,26 +347,14 @@ shams-fall =
       stores-nothing-falls = λ answer r. (keeps-unstored answer r, keeps-undecided answer r);
       first-set-alone-falls = first-set-alone;
       takes-unseen-falls = takes-unseen;
-      hears-unseen-falls = hears-unseen;
+      reads-unseen-falls = reads-unseen;
       counts-unheard-falls = counts-unheard;
       digits-left-falls = digits-left;
     }
 
--- the place of the first frame end, plus one, or the whole length
-taken-is : (u : Unfinished) (piece : List ℕ) → taken u piece ≡ toTheEnd u piece
-unfolding taken
-taken-is u piece = by (ltb (firstEnd u piece) (length piece)) refl
-  where
-    by : (t : Bool) → ltb (firstEnd u piece) (length piece) ≡ t → min (suc (firstEnd u piece)) (length piece) ≡ cond t (firstEnd u piece + 1) (length piece)
-    by true e = let less : firstEnd u piece < length piece = ltb-true _ _ e in omega arith
-    by false e = let past : length piece ≤ firstEnd u piece = ltb-false _ _ e in omega arith
-
 takes-real : TakesToTheEnd answering
 unfolding heardBy decidedBy
 takes-real board piece room ok h = ap (λ (g : Given Answered). g .answer .taken) (answering-heard board piece room h ok) ∙ taken-is (unfinished (board .held)) piece
-
-hears-real : HearsToTheEnd boxHearing
-hears-real held piece room ok h = ap (λ (g : Given Heard). g .answer .taken) (box-heard held piece room h ok) ∙ taken-is (unfinished held) piece
 
 pub real-pass : RealPass
 real-pass =
@@ -371,7 +364,7 @@ real-pass =
       board-sets = set-stores-it;
       board-decides = board-decides;
       board-takes = takes-real;
-      box-takes = hears-real;
+      box-takes = read-takes-to-the-end;
       box-hears = heard-written;
       follower-counts = count-is-told;
     }

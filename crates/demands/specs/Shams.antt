@@ -3,18 +3,16 @@
 -- fakes the rest (demand 3, [..]). A box that invents its confirmed or taken count falls to demand 2's reply count and the frame-end rule. A
 -- never-changing table would keep ranges and pairs, so demand 3 always includes the Sets." What is asked, said of any way of answering; the
 -- shams; and that none of them meets it, while the board and the follower do. Assumes nothing.
-use Prim.Native.Nat.{ℕ, _+_, _≤_, _<_}
+use Prim.Native.Nat.{ℕ, _≤_, _<_}
 use mathlib.Core.Path.{_≡_}
 use mathlib.Core.Bool.{Bool, true, false, cond, _&&_, _||_}
 use mathlib.Core.List.{List, [], _∷_}
 use lib.ListN.{length, take}
-use lib.Dec.{eqb, ltb}
+use lib.Dec.{eqb}
 use Rattle.laws.specs.Promise.{Given}
-use Rattle.paper.specs.Numbers.{mostData, frameRoom, getCode, setCode, colon}
+use Rattle.paper.specs.Numbers.{frameRoom, getCode, setCode, colon}
 use Rattle.wire.specs.Frame.{frame}
 use Rattle.wire.specs.Parsing.{Ended, good, refused}
-use Rattle.stream.specs.Stream.{Unfinished, firstEnd}
-use Rattle.stream.specs.Calls as stream
 use Rattle.stream.specs.Calls.{unfinished}
 use Rattle.stream.specs.declared.Held.{Held}
 use Rattle.stream.specs.declared.Heard.{Heard}
@@ -31,6 +29,10 @@ use Rattle.board.specs.Calls.{storing, answering, unanswered}
 use Rattle.board.specs.declared.Board.{Board}
 use Rattle.board.specs.declared.Answered.{Answered}
 use Rattle.listen.specs.Hearing.{boxHearing}
+use Rattle.listen.specs.Calls.{listening}
+use Rattle.listen.specs.Laws.{toTheEnd, ReadsToTheEnd}
+use Rattle.listen.specs.declared.Listener.{Listener}
+use Rattle.listen.specs.declared.Listened.{Listened}
 use Rattle.reply.specs.Events.{Event, OnStream}
 use Rattle.restore.specs.Order.{dueSets}
 use Rattle.follow.specs.Calls as following
@@ -40,19 +42,11 @@ use Rattle.demands.specs.Talk.{Way, plainly, framesAt}
 use Rattle.demands.specs.Demand2.{HearsWritten, GetsHeld, ReadOnlyHeld, SetsStored}
 use Rattle.demands.specs.Demand3.{Decides}
 
--- the frame-end rule: "The number of bytes taken equals the place of the first frame end, plus one, or the whole length."
-abbrev pub toTheEnd : Unfinished → List ℕ → ℕ
-toTheEnd u piece = cond (ltb (firstEnd u piece) (length piece)) (firstEnd u piece + 1) (length piece)
-
+-- the frame-end rule, as the box's call has it (`ReadsToTheEnd` of `listen`), of the board's
 abbrev pub TakesToTheEnd : (Board → List ℕ → ℕ → Given Answered) → Type 0
 TakesToTheEnd answer =
     (board : Board) (piece : List ℕ) (room : ℕ) → boardAllowed board ≡ true → frameRoom ≤ room
     → answer board piece room .answer .taken ≡ toTheEnd (unfinished (board .held)) piece
-
--- the same of the box's call on its stream
-abbrev pub HearsToTheEnd : (Held → List ℕ → ℕ → Given Heard) → Type 0
-HearsToTheEnd hear =
-    (held : Held) (piece : List ℕ) (room : ℕ) → stream.allowed held ≡ true → mostData ≤ room → hear held piece room .answer .taken ≡ toTheEnd (unfinished held) piece
 
 -- demand 2's reply count
 abbrev pub Counts : (Table → Table → List Event → ℕ) → Type 0
@@ -125,8 +119,8 @@ firstSetAlone =
 abbrev pub TakesUnseen : (Board → List ℕ → ℕ → Given Answered) → (Board → ℕ → ℕ → ℕ) → Type 0
 TakesUnseen answer count = (board : Board) (piece : List ℕ) (room : ℕ) → answer board piece room .answer .taken ≡ count board (length piece) room
 
-abbrev pub HearsUnseen : (Held → List ℕ → ℕ → Given Heard) → (Held → ℕ → ℕ → ℕ) → Type 0
-HearsUnseen hear count = (held : Held) (piece : List ℕ) (room : ℕ) → hear held piece room .answer .taken ≡ count held (length piece) room
+abbrev pub ReadsUnseen : (Listener → List ℕ → ℕ → ℕ → Given Listened) → (Listener → ℕ → ℕ → ℕ → ℕ) → Type 0
+ReadsUnseen read count = (l : Listener) (piece : List ℕ) (time room : ℕ) → read l piece time room .answer .taken ≡ count l (length piece) time room
 
 -- "invents its confirmed [..] count": any count that does not look at what the replies are, but at how many events there were; the Sets that
 -- were sent, for one
@@ -155,7 +149,7 @@ pub record ShamsFall : Type 0 where
       → (SetsStored answer → ⊥) × (TakesToTheEnd answer → Decides (plainly answer) → ⊥)
   pub first-set-alone-falls : Decides firstSetAlone → ⊥
   pub takes-unseen-falls : (answer : Board → List ℕ → ℕ → Given Answered) (count : Board → ℕ → ℕ → ℕ) → TakesUnseen answer count → TakesToTheEnd answer → ⊥
-  pub hears-unseen-falls : (hear : Held → List ℕ → ℕ → Given Heard) (count : Held → ℕ → ℕ → ℕ) → HearsUnseen hear count → HearsToTheEnd hear → ⊥
+  pub reads-unseen-falls : (read : Listener → List ℕ → ℕ → ℕ → Given Listened) (count : Listener → ℕ → ℕ → ℕ → ℕ) → ReadsUnseen read count → ReadsToTheEnd read → ⊥
   pub counts-unheard-falls : (count : Table → Table → ℕ → ℕ) → Counts (unheard count) → ⊥
   pub digits-left-falls : HearsWritten leavesDigits → ⊥
 
@@ -170,6 +164,6 @@ pub record RealPass : Type 0 where
   pub board-sets : SetsStored answering
   pub board-decides : Decides (plainly answering)
   pub board-takes : TakesToTheEnd answering
-  pub box-takes : HearsToTheEnd boxHearing
+  pub box-takes : ReadsToTheEnd listening
   pub box-hears : HearsWritten boxHearing
   pub follower-counts : Counts (λ from to events. follow.calls (following.starting from to) events .confirmed)

@@ -2,7 +2,7 @@
 use mathlib.Core.Path.{_≡_, refl, sym, ap, subst, _∙_}
 use mathlib.Core.Bool.{Bool, true, false, cond, not, _||_}
 use mathlib.Core.List.{List}
-use Prim.Native.Nat.{ℕ, zero, suc, _+_, _*_, _/_, _%_, _^_, _≤_, _<_}
+use Prim.Native.Nat.{ℕ, zero, suc, _/_, _%_, _^_, _≤_, _<_}
 use native.Mathlib.Omega.{arith}
 use borrow.Author.Tests.{ne-eqb, ltb-true, ltb-false, leb-true}
 use lib.ListN.{length}
@@ -25,7 +25,7 @@ use Rattle.settings.specs.Calls.{partnerFits, nearing}
 use Rattle.settings.specs.declared.Number.{Number}
 use Rattle.settings.proofs.Theorems.{nearest-is-found, allowed-has-room, rows-hold}
 use Rattle.firmware.specs.Calls.{half, refusalPacked, writtenPacked, readPacked, numberPacked, packed}
-use Rattle.firmware.specs.Laws.{writtenFrom, readFrom, numberFrom, WrittenComesBack, ReadComesBack, NumberComesBack}
+use Rattle.firmware.specs.Laws.{high, low, writtenFrom, readFrom, numberFrom, WrittenComesBack, ReadComesBack, NumberComesBack}
 
 -- an answer mapped under a promise
 pub packs : {A : Type 0} (f : A → ℕ) {g : Given A} {buffer : List ℕ} (r : A) (n : ℕ) (l : List ℕ) → n ≡ f r → Gives A g buffer r l → Gives ℕ (packed f g) buffer n l
@@ -129,48 +129,47 @@ number-fits id wished partner h = by (ltb (placeOf id) count) (partnerFits (plac
         let room = allowed-has-room (placeOf id) (nearestOf (placeOf id) wished partner) partner here (nearest-is-found (placeOf id) wished partner here q h .is-allowed) in
         below (widthAt (placeOf id)) (rows-hold _ here .width-most) room
 
--- an integer below a half has nothing in its high half; a refusal has its number there
-low : (n : ℕ) → n < half → n / half ≡ 0
-low n h = omega arith
-
-rest : (n : ℕ) → n < half → n % half ≡ n
-rest n h = omega arith
-
-high : (number : ℕ) → refusalPacked number / half ≡ number
-high number = omega arith
-
--- the command is above the count
-above : (command len : ℕ) → len < 256 → (256 * command + len) / 256 ≡ command
-above command len h = omega arith
-
-beneath : (command len : ℕ) → len < 256 → (256 * command + len) % 256 ≡ len
-beneath command len h = omega arith
-
 some : (number : ℕ) → 1 ≤ number → eqb number 0 ≡ false
 some number h = ne-eqb number 0 (λ e. let z : number ≡ 0 = e in absurd (omega arith))
+
+-- a refusal has its number in the high half
+high-is : (number : ℕ) → high (refusalPacked number) ≡ number
+high-is number = omega arith
 
 -- taken apart, each answer is the one that was packed
 written-from : (w : Written) → WrittenFits w → writtenFrom (writtenPacked w) ≡ w
 unfolding writtenPacked
-written-from (Written.Len len) fits = rw (low len (omega arith), rest len (omega arith))
-written-from (Written.Refused number) fits = rw (high number, some number fits)
+written-from (Written.Len len) fits =
+    let none : high len ≡ 0 = omega arith in
+    let all : low len ≡ len = omega arith in
+    rw (none, all)
+written-from (Written.Refused number) fits = rw (high-is number, some number fits)
 
 pub written-back : WrittenComesBack
-written-back command bytes room = written-from (writing command bytes room .answer) (written-fits command bytes room)
+written-back command bytes room =
+    ap (λ (w : Written). record { answer = w; written = writing command bytes room .written }) (written-from (writing command bytes room .answer) (written-fits command bytes room))
 
 read-from : (r : Read) → ReadFits r → readFrom (readPacked r) ≡ r
 unfolding readPacked
 read-from (Read.Frame command len) fits =
-    rw (low (256 * command + len) (omega arith), rest (256 * command + len) (omega arith), above command len (omega arith), beneath command len (omega arith))
-read-from (Read.Refused number) fits = rw (high number, some number fits)
+    let n = readPacked (Read.Frame command len) in
+    let none : high n ≡ 0 = omega arith in
+    let above : low n / 256 ≡ command = omega arith in
+    let beneath : low n % 256 ≡ len = omega arith in
+    rw (none, above, beneath)
+read-from (Read.Refused number) fits = rw (high-is number, some number fits)
 
 pub read-back : ReadComesBack
-read-back slice room = read-from (parsing slice room .answer) (read-fits slice room)
+read-back slice room =
+    ap (λ (r : Read). record { answer = r; written = parsing slice room .written }) (read-from (parsing slice room .answer) (read-fits slice room))
 
 number-from : (n : Number) → NumberFits n → numberFrom (numberPacked n) ≡ n
 unfolding numberPacked
-number-from (Number.Is n) fits = rw (low n fits, rest n fits)
-number-from (Number.Refused number) fits = rw (high number, some number fits)
+number-from (Number.Is n) fits =
+    let none : high n ≡ 0 = omega arith in
+    let all : low n ≡ n = omega arith in
+    rw (none, all)
+number-from (Number.Refused number) fits = rw (high-is number, some number fits)
 
 pub number-back : NumberComesBack
 number-back id wished partner h = number-from (nearing id wished partner) (number-fits id wished partner h)

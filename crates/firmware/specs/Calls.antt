@@ -1,9 +1,12 @@
 -- Answers as one integer. Document 01: "Whole-frame reading, frame writing and the nearest allowed number can be called from the board's C
 -- firmware, on numbers and byte slices." A refusal's number is in the high half and an answer in the low half. Assumes nothing.
 use Prim.Native.Nat.{ℕ, _+_, _*_}
+use mathlib.Core.List.{List}
 use Rattle.laws.specs.Promise.{Given}
+use Rattle.wire.specs.Calls.{writing, parsing}
 use Rattle.wire.specs.declared.Written.{Written}
 use Rattle.wire.specs.declared.Read.{Read}
+use Rattle.settings.specs.Calls.{nearing}
 use Rattle.settings.specs.declared.Number.{Number}
 
 abbrev pub half : ℕ
@@ -30,3 +33,13 @@ numberPacked (Number.Refused number) = refusalPacked number
 -- what a call gives, with its answer packed: the bytes written stay the same
 abbrev pub packed : {A : Type 0} → (A → ℕ) → Given A → Given ℕ
 packed f given = record { answer = f (given .answer); written = given .written }
+
+-- The three calls.
+abbrev pub writingPacked : ℕ → List ℕ → ℕ → Given ℕ
+writingPacked command bytes room = packed writtenPacked (writing command bytes room)
+
+abbrev pub parsingPacked : List ℕ → ℕ → Given ℕ
+parsingPacked slice room = packed readPacked (parsing slice room)
+
+abbrev pub nearingPacked : ℕ → ℕ → ℕ → ℕ
+nearingPacked id wished partner = numberPacked (nearing id wished partner)

@@ -4,29 +4,39 @@ use mathlib.Core.Path.{_≡_}
 use mathlib.Core.Bool.{cond}
 use mathlib.Core.List.{List}
 use lib.Dec.{eqb}
+use Rattle.laws.specs.Promise.{Given}
 use Rattle.wire.specs.Calls.{writing, parsing}
 use Rattle.wire.specs.declared.Written.{Written}
 use Rattle.wire.specs.declared.Read.{Read}
 use Rattle.settings.specs.Calls.{nearing}
 use Rattle.settings.specs.declared.Number.{Number}
-use Rattle.firmware.specs.Calls.{half, writtenPacked, readPacked, numberPacked}
+use Rattle.firmware.specs.Calls.{writingPacked, parsingPacked, nearingPacked}
 
 -- An integer taken apart, as the C header does it: no refusal where the high half is 0.
+abbrev pub high : ℕ → ℕ
+high n = n / 65536
+
+abbrev pub low : ℕ → ℕ
+low n = n % 65536
+
 abbrev pub writtenFrom : ℕ → Written
-writtenFrom n = cond (eqb (n / half) 0) (Written.Len (n % half)) (Written.Refused (n / half))
+writtenFrom n = cond (eqb (high n) 0) (Written.Len (low n)) (Written.Refused (high n))
 
 abbrev pub readFrom : ℕ → Read
-readFrom n = cond (eqb (n / half) 0) (Read.Frame (n % half / 256) (n % 256)) (Read.Refused (n / half))
+readFrom n = cond (eqb (high n) 0) (Read.Frame (low n / 256) (low n % 256)) (Read.Refused (high n))
 
 abbrev pub numberFrom : ℕ → Number
-numberFrom n = cond (eqb (n / half) 0) (Number.Is (n % half)) (Number.Refused (n / half))
+numberFrom n = cond (eqb (high n) 0) (Number.Is (low n)) (Number.Refused (high n))
 
--- Nothing is lost: what a call answered can be taken from its integer.
+abbrev pub unpacked : {A : Type 0} → (ℕ → A) → Given ℕ → Given A
+unpacked f given = record { answer = f (given .answer); written = given .written }
+
+-- Nothing is lost: with its integer taken apart, each call gives what the call of `wire` or `settings` gives, its answer and its bytes.
 abbrev pub WrittenComesBack : Type 0
-WrittenComesBack = (command : ℕ) (bytes : List ℕ) (room : ℕ) → writtenFrom (writtenPacked (writing command bytes room .answer)) ≡ writing command bytes room .answer
+WrittenComesBack = (command : ℕ) (bytes : List ℕ) (room : ℕ) → unpacked writtenFrom (writingPacked command bytes room) ≡ writing command bytes room
 
 abbrev pub ReadComesBack : Type 0
-ReadComesBack = (slice : List ℕ) (room : ℕ) → readFrom (readPacked (parsing slice room .answer)) ≡ parsing slice room .answer
+ReadComesBack = (slice : List ℕ) (room : ℕ) → unpacked readFrom (parsingPacked slice room) ≡ parsing slice room
 
 abbrev pub NumberComesBack : Type 0
-NumberComesBack = (id wished partner : ℕ) → wished < 2 ^ 16 → numberFrom (numberPacked (nearing id wished partner)) ≡ nearing id wished partner
+NumberComesBack = (id wished partner : ℕ) → wished < 2 ^ 16 → numberFrom (nearingPacked id wished partner) ≡ nearing id wished partner

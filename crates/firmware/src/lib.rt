@@ -4,9 +4,7 @@ ghost use mathlib.Core.Path.{_≡_};
 ghost use Prim.Native.Nat.{ℕ};
 ghost use lib.ListN.{length};
 ghost use Rattle.laws.specs.Promise.{Gives};
-ghost use Rattle.wire.specs.Calls.{writing, parsing};
-ghost use Rattle.settings.specs.Calls.{nearing};
-ghost use Rattle.firmware.specs.Calls.{refusalPacked, writtenPacked, readPacked, numberPacked, packed};
+ghost use Rattle.firmware.specs.Calls.{refusalPacked, writingPacked, parsingPacked, nearingPacked};
 use settings::Number;
 use wire::Read;
 use wire::Written;
@@ -21,7 +19,7 @@ const COMMAND: u32 = 256;
 // 12 for a command over 15 or over 35 data bytes; then nothing is written.
 #[no_mangle]
 pub extern "C" fn reedsatchel_write_frame(command: u8, bytes: &[u8], out: &mut [u8]) -> u32
-    ensures { λ r. ⌜ Gives ℕ (packed writtenPacked (writing command (now (bytes .entry)) (length (now (out .entry))))) (now (out .entry)) r (now (out .exit)) ⌝ }
+    ensures { λ r. ⌜ Gives ℕ (writingPacked command (now (bytes .entry)) (length (now (out .entry)))) (now (out .entry)) r (now (out .exit)) ⌝ }
 {
     let written = wire::write_frame(command, bytes, out);
     match written {
@@ -35,7 +33,7 @@ pub extern "C" fn reedsatchel_write_frame(command: u8, bytes: &[u8], out: &mut [
 // characters between.
 #[no_mangle]
 pub extern "C" fn reedsatchel_read_frame(frame: &[u8], into: &mut [u8]) -> u32
-    ensures { λ r. ⌜ Gives ℕ (packed readPacked (parsing (now (frame .entry)) (length (now (into .entry))))) (now (into .entry)) r (now (into .exit)) ⌝ }
+    ensures { λ r. ⌜ Gives ℕ (parsingPacked (now (frame .entry)) (length (now (into .entry)))) (now (into .entry)) r (now (into .exit)) ⌝ }
 {
     let read = wire::read_frame(frame, into);
     match read {
@@ -48,7 +46,7 @@ pub extern "C" fn reedsatchel_read_frame(frame: &[u8], into: &mut [u8]) -> u32
 // setting, then 12 for a partner's number outside its own range.
 #[no_mangle]
 pub extern "C" fn reedsatchel_nearest(id: u16, wished: u16, partner: u16) -> u32
-    ensures { λ r. ⌜ r ≡ numberPacked (nearing id wished partner) ⌝ }
+    ensures { λ r. ⌜ r ≡ nearingPacked id wished partner ⌝ }
 {
     let nearest = settings::nearest(id, wished, partner);
     match nearest {

@@ -1,5 +1,5 @@
 -- The statements of specs/Laws.antt, proved. Assumes nothing.
-use Rattle.listen.specs.Laws.{AnyCutting, WholeIsTold, AllIsTaken, PatienceEnds, RequestEnds, LateTakesNothing, CallIsRefused, TakenIsWithin, FrameIsWhole, EventsAreOnStream}
+use Rattle.listen.specs.Laws.{AnyCutting, WholeIsTold, AllIsTaken, ReadTakesToTheEnd, PatienceEnds, RequestEnds, LateTakesNothing, CallIsRefused, TakenIsWithin, FrameIsWhole, EventsAreOnStream}
 use Rattle.listen.proofs.Merging as merging
 use Rattle.listen.proofs.Patience as patience
 use Rattle.listen.proofs.Leaning as leaning
@@ -12,6 +12,9 @@ whole-is-told = merging.telling
 
 pub all-is-taken : AllIsTaken
 all-is-taken = merging.taking
+
+pub read-takes-to-the-end : ReadTakesToTheEnd
+read-takes-to-the-end = leaning.takes-to-the-end
 
 pub patience-ends : PatienceEnds
 patience-ends = patience.ends

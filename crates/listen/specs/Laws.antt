@@ -6,13 +6,13 @@ use mathlib.Core.Logic.{_↔_}
 use mathlib.Core.Bool.{Bool, true, false, cond, _&&_, not}
 use mathlib.Core.List.{List, [], _∷_, _++_}
 use lib.ListN.{length, take}
-use lib.Dec.{leb, eqb}
+use lib.Dec.{ltb, leb, eqb}
 use Rattle.laws.specs.Promise.{Given}
 use Rattle.laws.specs.Cutting.{Step, Offer, calls, ready}
 use Rattle.paper.specs.Numbers.{mostData}
 use Rattle.wire.specs.Parsing.{Ended, good, refused}
-use Rattle.stream.specs.Stream.{framesFrom, leftBy}
-use Rattle.stream.specs.Calls.{allowed, heldOf}
+use Rattle.stream.specs.Stream.{Unfinished, framesFrom, leftBy, firstEnd}
+use Rattle.stream.specs.Calls.{allowed, unfinished, heldOf}
 use Rattle.wire.specs.Laws.{Writable}
 use Rattle.reply.specs.Events.{Event, heard, refusedFrame, noAnswer, OnStream}
 use Rattle.listen.specs.Calls.{requestTime, trailerTime, isOver, starting, asking, listening}
@@ -88,6 +88,19 @@ AllIsTaken =
     (earlier bytes : List ℕ) (begun asked : ℕ) (offers : List (Offer Turn)) → inTime begun asked offers ≡ true
     → ready (λ turn. leb mostData (turn .room)) offers ≡ true → length bytes ≤ length offers
     → calls listens (listenerAt earlier begun asked) bytes offers .taken ≡ length bytes
+
+-- Each takes to the first frame end: "The number of bytes taken equals the place of the first frame end, plus one, or the whole length."
+abbrev pub toTheEnd : Unfinished → List ℕ → ℕ
+toTheEnd u piece = cond (ltb (firstEnd u piece) (length piece)) (firstEnd u piece + 1) (length piece)
+
+-- of any way to read
+abbrev pub ReadsToTheEnd : (Listener → List ℕ → ℕ → ℕ → Given Listened) → Type 0
+ReadsToTheEnd read =
+    (l : Listener) (piece : List ℕ) (time room : ℕ) → mostData ≤ room → allowed (l .held) ≡ true → isOver (l .begun) (l .asked) time ≡ false
+    → read l piece time room .answer .taken ≡ toTheEnd (unfinished (l .held)) piece
+
+abbrev pub ReadTakesToTheEnd : Type 0
+ReadTakesToTheEnd = ReadsToTheEnd listening
 
 -- 2. Patience. When the last request before a row's end was sent, which is the start where none was.
 abbrev pub lastAsked : ℕ → List (Offer Turn) → ℕ
