@@ -47,7 +47,7 @@ use Rattle.listen.specs.Calls as listen
 use Rattle.listen.specs.Laws.{ReadsToTheEnd}
 use Rattle.listen.specs.declared.Listener.{Listener}
 use Rattle.listen.specs.declared.Listened.{Listened}
-use Rattle.listen.proofs.Leaning.{taken-is}
+use Rattle.stream.proofs.Cuts.{taken-is}
 use Rattle.listen.proofs.Theorems.{read-takes-to-the-end}
 use Rattle.reply.specs.Events.{heard, refusedFrame, nothing, a-frame, a-refusal}
 use Rattle.restore.specs.Order.{differs, higherFirst, exchanged, placed, turnsFrom, order}

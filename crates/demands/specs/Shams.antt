@@ -30,7 +30,8 @@ use Rattle.board.specs.declared.Board.{Board}
 use Rattle.board.specs.declared.Answered.{Answered}
 use Rattle.listen.specs.Hearing.{boxHearing}
 use Rattle.listen.specs.Calls.{listening}
-use Rattle.listen.specs.Laws.{toTheEnd, ReadsToTheEnd}
+use Rattle.stream.specs.Laws.{toTheEnd}
+use Rattle.listen.specs.Laws.{ReadsToTheEnd}
 use Rattle.listen.specs.declared.Listener.{Listener}
 use Rattle.listen.specs.declared.Listened.{Listened}
 use Rattle.reply.specs.Events.{Event, OnStream}

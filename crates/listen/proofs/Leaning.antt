@@ -1,16 +1,15 @@
 -- What the caller of one read may lean on. Assumes nothing.
 use mathlib.Core.Path.{_≡_, refl, sym, ap, subst, _∙_}
-use mathlib.Core.Bool.{Bool, true, false, cond}
+use mathlib.Core.Bool.{true}
 use mathlib.Core.List.{List, [], _∷_}
-use Prim.Native.Nat.{ℕ, suc, _+_, _≤_, _<_, min}
+use Prim.Native.Nat.{ℕ, _≤_}
 use native.Mathlib.Omega.{arith}
-use borrow.Author.Tests.{lt-ltb, le-ltb, ltb-true, ltb-false}
+use borrow.Author.Tests.{lt-ltb, le-ltb}
 use lib.ListN.{length, take}
 use lib.Seq.{take-all}
-use lib.Dec.{ltb}
 use Rattle.laws.specs.Promise.{Given}
 use Rattle.wire.specs.Parsing.{Ended, good, refused}
-use Rattle.stream.specs.Stream.{Unfinished, framesFrom, firstEnd, taken}
+use Rattle.stream.specs.Stream.{framesFrom, taken}
 use Rattle.stream.specs.Calls.{allowed, unfinished, eventOf, dataOfFirst}
 use Rattle.wire.specs.Laws.{Writable}
 use Rattle.stream.specs.Laws.{Writables, whole}
@@ -18,12 +17,13 @@ use Rattle.stream.specs.declared.Event.{Event}
 use Rattle.stream.specs.declared.Heard.{Heard}
 use Rattle.stream.proofs.Theorems.{heard-is-writable}
 use Rattle.stream.proofs.Streams.{taken-within}
+use Rattle.stream.proofs.Cuts.{taken-is}
 use Rattle.reply.specs.Events.{OnStream, nothing, a-frame, a-refusal, a-silence}
 use Rattle.listen.specs.declared.Told.{Told}
 use Rattle.listen.specs.declared.Listened.{Listened}
 use Rattle.listen.specs.Hearing.{boxHearing}
 use Rattle.listen.specs.Calls.{toldBy, listening}
-use Rattle.listen.specs.Laws.{toTheEnd, eventsIn, Whole, ReadTakesToTheEnd, CallIsRefused, TakenIsWithin, FrameIsWhole, EventsAreOnStream}
+use Rattle.listen.specs.Laws.{eventsIn, Whole, ReadTakesToTheEnd, CallIsRefused, TakenIsWithin, FrameIsWhole, EventsAreOnStream}
 use Rattle.listen.proofs.Hearing.{box-heard}
 use Rattle.listen.proofs.Settling.{listening-heard, cases}
 
@@ -36,15 +36,6 @@ pub taken-fits : TakenIsWithin
 taken-fits l piece time room =
     cases l piece time room (λ g. g .answer .taken ≤ length piece) (λ n. omega arith) (λ enough ok over. omega arith)
     (λ enough ok early. subst (λ (g : Given Heard). g .answer .taken ≤ length piece) (sym (box-heard (l .held) piece room enough ok)) (taken-within (unfinished (l .held)) piece))
-
--- the place of the first frame end, plus one, or the whole length
-pub taken-is : (u : Unfinished) (piece : List ℕ) → taken u piece ≡ toTheEnd u piece
-unfolding taken
-taken-is u piece = by (ltb (firstEnd u piece) (length piece)) refl
-  where
-    by : (t : Bool) → ltb (firstEnd u piece) (length piece) ≡ t → min (suc (firstEnd u piece)) (length piece) ≡ cond t (firstEnd u piece + 1) (length piece)
-    by true e = let less : firstEnd u piece < length piece = ltb-true _ _ e in omega arith
-    by false e = let past : length piece ≤ firstEnd u piece = ltb-false _ _ e in omega arith
 
 pub takes-to-the-end : ReadTakesToTheEnd
 takes-to-the-end l piece time room enough ok early =

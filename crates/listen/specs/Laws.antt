@@ -6,14 +6,15 @@ use mathlib.Core.Logic.{_↔_}
 use mathlib.Core.Bool.{Bool, true, false, cond, _&&_, not}
 use mathlib.Core.List.{List, [], _∷_, _++_}
 use lib.ListN.{length, take}
-use lib.Dec.{ltb, leb, eqb}
+use lib.Dec.{leb, eqb}
 use Rattle.laws.specs.Promise.{Given}
 use Rattle.laws.specs.Cutting.{Step, Offer, calls, ready}
 use Rattle.paper.specs.Numbers.{mostData}
 use Rattle.wire.specs.Parsing.{Ended, good, refused}
-use Rattle.stream.specs.Stream.{Unfinished, framesFrom, leftBy, firstEnd}
+use Rattle.stream.specs.Stream.{framesFrom, leftBy}
 use Rattle.stream.specs.Calls.{allowed, unfinished, heldOf}
 use Rattle.wire.specs.Laws.{Writable}
+use Rattle.stream.specs.Laws.{toTheEnd}
 use Rattle.reply.specs.Events.{Event, heard, refusedFrame, noAnswer, OnStream}
 use Rattle.listen.specs.Calls.{requestTime, trailerTime, isOver, starting, asking, listening}
 use Rattle.listen.specs.declared.Listener.{Listener}
@@ -89,11 +90,7 @@ AllIsTaken =
     → ready (λ turn. leb mostData (turn .room)) offers ≡ true → length bytes ≤ length offers
     → calls listens (listenerAt earlier begun asked) bytes offers .taken ≡ length bytes
 
--- Each takes to the first frame end: "The number of bytes taken equals the place of the first frame end, plus one, or the whole length."
-abbrev pub toTheEnd : Unfinished → List ℕ → ℕ
-toTheEnd u piece = cond (ltb (firstEnd u piece) (length piece)) (firstEnd u piece + 1) (length piece)
-
--- of any way to read
+-- Each takes to the first frame end, as the stream's own call does. Said of any way to read:
 abbrev pub ReadsToTheEnd : (Listener → List ℕ → ℕ → ℕ → Given Listened) → Type 0
 ReadsToTheEnd read =
     (l : Listener) (piece : List ℕ) (time room : ℕ) → mostData ≤ room → allowed (l .held) ≡ true → isOver (l .begun) (l .asked) time ≡ false

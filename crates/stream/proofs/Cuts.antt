@@ -1,8 +1,8 @@
 -- The stream in any cutting, and the first frame end. Assumes nothing.
 use mathlib.Core.Path.{_≡_, refl, sym, ap, _∙_}
-use mathlib.Core.Bool.{Bool, true, false, false≢true}
+use mathlib.Core.Bool.{Bool, true, false, cond, false≢true}
 use mathlib.Core.List.{List, [], _∷_, _++_, append-assoc, append-nil}
-use Prim.Native.Nat.{ℕ, suc, _≤_, min}
+use Prim.Native.Nat.{ℕ, suc, _+_, _≤_, _<_, min}
 use native.Mathlib.Nat.{not-suc-le-zero, le-of-suc-le-suc}
 use native.Mathlib.Omega.{arith}
 use borrow.Author.Tests.{ltb-true, ltb-false, leb-true, eq-eqb}
@@ -10,6 +10,7 @@ use lib.ListN.{length, take}
 use lib.Seq.{take-nil}
 use lib.Dec.{ltb, leb, eqb}
 use Rattle.laws.specs.Lists.{every}
+use Rattle.laws.specs.Promise.{Given}
 use Rattle.laws.specs.Cutting.{Step, Offer, calls}
 use Rattle.laws.proofs.Cutting as cutting
 use Rattle.wire.specs.Digits.{isDigit}
@@ -17,11 +18,12 @@ use Rattle.paper.specs.Numbers.{colon, newline}
 use Rattle.wire.specs.Parsing.{Ended, good, refused, dataOf, badCount, sumsUp, bodySays, brokenSays}
 use Rattle.wire.specs.Calls.{readAs}
 use Rattle.wire.proofs.Answers.{body-long, body-strange, body-count, body-sum, body-good, broken-long, broken-short}
-use Rattle.stream.specs.Stream.{Unfinished, outside, inside, next, endedBy, ends, taken, framesFrom, leftFrom, leftBy}
+use Rattle.stream.specs.Stream.{Unfinished, outside, inside, next, endedBy, ends, firstEnd, taken, framesFrom, leftFrom, leftBy}
 use Rattle.stream.specs.Calls.{heldOf, unfinished, allowed, heardOf, eventOf, eventFrom, dataOfFirst}
-use Rattle.stream.specs.Laws.{frameIn, stepOf, hears, AnyCutting, FirstAt, FirstEndIsFirst, AllIsTaken, EmptyChangesNothing, RefusedIsSmall}
+use Rattle.stream.specs.Laws.{frameIn, stepOf, hears, AnyCutting, FirstAt, FirstEndIsFirst, toTheEnd, HearsToTheEnd, AllIsTaken, EmptyChangesNothing, RefusedIsSmall}
 use Rattle.stream.specs.declared.Held.{Held}
 use Rattle.stream.specs.declared.Event.{Event}
+use Rattle.stream.specs.declared.Heard.{Heard}
 use Rattle.stream.proofs.Streams.{left-append, frames-append, none-ends, taken-within}
 use Rattle.stream.proofs.Answers.{hearing-short, hearing-stray, hearing-heard}
 use Rattle.stream.proofs.Helds.{held-same}
@@ -202,3 +204,16 @@ module _ (held : Held) (long : length (held .chars) ≡ 74) where
 pub empty-nothing : EmptyChangesNothing
 unfolding taken
 empty-nothing held room long ok h = hearing-heard held [] room h ok ∙ rw (held-same held ok long)
+
+-- the place of the first frame end, plus one, or the whole length
+pub taken-is : (u : Unfinished) (piece : List ℕ) → taken u piece ≡ toTheEnd u piece
+unfolding taken
+taken-is u piece = by (ltb (firstEnd u piece) (length piece)) refl
+  where
+    by : (t : Bool) → ltb (firstEnd u piece) (length piece) ≡ t → min (suc (firstEnd u piece)) (length piece) ≡ cond t (firstEnd u piece + 1) (length piece)
+    by true e = let less : firstEnd u piece < length piece = ltb-true _ _ e in omega arith
+    by false e = let past : length piece ≤ firstEnd u piece = ltb-false _ _ e in omega arith
+
+pub hears-to-the-end : HearsToTheEnd
+hears-to-the-end held piece room ok enough =
+    ap (λ (g : Given Heard). g .answer .taken) (hearing-heard held piece room enough ok) ∙ taken-is (unfinished held) piece

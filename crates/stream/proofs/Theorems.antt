@@ -1,5 +1,5 @@
 -- The statements of specs/Laws.antt, proved. Assumes nothing.
-use Rattle.stream.specs.Laws.{WrittenIsHeard, HeardFromAnywhere, HeardIsWritable, InsideIsSince, ByteEndsFrame, HeardIsWritten, NoColonIsSkipped, AnyCutting, WholeIsHeard, AllIsTaken, CuttingChangesNothing, EmptyChangesNothing, RefusedIsSmall, CallIsRefused, OnlyAFrameIsWritten, FirstEndIsFirst, AllowedIsLeft}
+use Rattle.stream.specs.Laws.{WrittenIsHeard, HeardFromAnywhere, HeardIsWritable, InsideIsSince, ByteEndsFrame, HeardIsWritten, NoColonIsSkipped, AnyCutting, WholeIsHeard, AllIsTaken, CuttingChangesNothing, EmptyChangesNothing, RefusedIsSmall, CallIsRefused, OnlyAFrameIsWritten, FirstEndIsFirst, HearsToTheEnd, AllowedIsLeft}
 use Rattle.stream.proofs.RoundTrip.{frame-heard, heard-anywhere, heard-writable}
 use Rattle.stream.proofs.Answers.{call-refused, only-frame}
 use Rattle.stream.proofs.Cuts
@@ -53,6 +53,9 @@ only-a-frame-is-written = only-frame
 
 pub first-end-is-first : FirstEndIsFirst
 first-end-is-first = Cuts.first-end
+
+pub hears-to-the-end : HearsToTheEnd
+hears-to-the-end = Cuts.hears-to-the-end
 
 pub allowed-is-left : AllowedIsLeft
 allowed-is-left = Reached.allowed-left

@@ -1,6 +1,6 @@
 -- What is proved of the definitions, as statements to compare with the papers. Each is proved under its name in proofs/Theorems.antt.
 -- Assumes nothing.
-use Prim.Native.Nat.{ℕ, suc, _≤_, _<_}
+use Prim.Native.Nat.{ℕ, suc, _+_, _≤_, _<_}
 use mathlib.Core.Path.{_≡_}
 use mathlib.Core.Bool.{Bool, true, false, not, cond, _||_}
 use mathlib.Core.Logic.{_↔_, _≢_}
@@ -170,6 +170,15 @@ pub record FirstAt (u : Unfinished) (piece : List ℕ) : Type 0 where
 
 abbrev pub FirstEndIsFirst : Type 0
 FirstEndIsFirst = (u : Unfinished) (piece : List ℕ) → FirstAt u piece
+
+-- "The number of bytes taken equals the place of the first frame end, plus one, or the whole length."
+abbrev pub toTheEnd : Unfinished → List ℕ → ℕ
+toTheEnd u piece = cond (ltb (firstEnd u piece) (length piece)) (firstEnd u piece + 1) (length piece)
+
+abbrev pub HearsToTheEnd : Type 0
+HearsToTheEnd =
+    (held : Held) (piece : List ℕ) (room : ℕ) → allowed held ≡ true → mostData ≤ room
+    → hearing held piece room .answer .taken ≡ toTheEnd (unfinished held) piece
 
 -- 3. "A state handed in is allowed when [..] its held frame is one that bytes could have left". (Its array has 74 entries in every value of
 -- the type.)
