@@ -16,7 +16,7 @@ use Rattle.stream.specs.Calls.{allowed, unfinished, heldOf}
 use Rattle.wire.specs.Laws.{Writable}
 use Rattle.stream.specs.Laws.{toTheEnd}
 use Rattle.reply.specs.Events.{Event, heard, refusedFrame, noAnswer, OnStream}
-use Rattle.listen.specs.Calls.{requestTime, trailerTime, isOver, starting, asking, listening}
+use Rattle.listen.specs.Calls.{isOver, starting, asking, listening}
 use Rattle.listen.specs.declared.Listener.{Listener}
 use Rattle.listen.specs.declared.Told.{Told}
 use Rattle.listen.specs.declared.Listened.{Listened}
@@ -104,10 +104,10 @@ abbrev pub lastAsked : ℕ → List (Offer Turn) → ℕ
 lastAsked asked [] = asked
 lastAsked asked (o ∷ more) = lastAsked (askedBy asked (o .with)) more
 
--- two seconds since the request, or a minute since the trailer was begun
+-- two seconds since the request, or a minute since the trailer was begun, in milliseconds
 pub data Over (begun asked time : ℕ) : Type 0 where
-  request-over : asked + requestTime ≤ time → Over begun asked time
-  trailer-over : begun + trailerTime ≤ time → Over begun asked time
+  request-over : asked + 2000 ≤ time → Over begun asked time
+  trailer-over : begun + 60000 ≤ time → Over begun asked time
 
 -- Whatever bytes came, in any cutting and at any times, a read tells "no answer" exactly when the time that it is handed is two seconds or
 -- more after the last request, or a minute or more after the start.
@@ -125,7 +125,7 @@ unasked (o ∷ more) = not (o .with .asks) && unasked more
 abbrev pub RequestEnds : Type 0
 RequestEnds =
     (earlier bytes : List ℕ) (begun asked sent : ℕ) (offers : List (Offer Turn)) → unasked offers ≡ true
-    → (piece : List ℕ) (time room : ℕ) → mostData ≤ room → sent + requestTime ≤ time
+    → (piece : List ℕ) (time room : ℕ) → mostData ≤ room → sent + 2000 ≤ time
     → listening (calls listens (asking (listenerAt earlier begun asked) sent) bytes offers .state) piece time room .answer .told ≡ Told.NoAnswer
 
 -- And it takes and writes nothing.
