@@ -25,7 +25,7 @@ use Rattle.settings.specs.Calls.{partnerFits, nearing}
 use Rattle.settings.specs.declared.Number.{Number}
 use Rattle.settings.proofs.Theorems.{nearest-is-found, allowed-has-room, rows-hold}
 use Rattle.firmware.specs.Calls.{half, refusalPacked, writtenPacked, readPacked, numberPacked, packed}
-use Rattle.firmware.specs.Laws.{high, low, writtenFrom, readFrom, numberFrom, WrittenComesBack, ReadComesBack, NumberComesBack}
+use Rattle.firmware.specs.Laws.{high, low, writtenFrom, readFrom, numberFrom, WrittenComesBack, ReadComesBack, NumberComesBack, RefusedIsAlone}
 
 -- an answer mapped under a promise
 pub packs : {A : Type 0} (f : A → ℕ) {g : Given A} {buffer : List ℕ} (r : A) (n : ℕ) (l : List ℕ) → n ≡ f r → Gives A g buffer r l → Gives ℕ (packed f g) buffer n l
@@ -173,3 +173,7 @@ number-from (Number.Refused number) fits = rw (high-is number, some number fits)
 
 pub number-back : NumberComesBack
 number-back id wished partner h = number-from (nearing id wished partner) (number-fits id wished partner h)
+
+pub refused-alone : RefusedIsAlone
+unfolding writtenPacked readPacked numberPacked
+refused-alone number = (λ command bytes room e. rw e (omega arith), λ slice room e. rw e (omega arith), λ id wished partner e. rw e (omega arith))

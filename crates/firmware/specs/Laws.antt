@@ -40,3 +40,11 @@ ReadComesBack = (slice : List ℕ) (room : ℕ) → unpacked readFrom (parsingPa
 
 abbrev pub NumberComesBack : Type 0
 NumberComesBack = (id wished partner : ℕ) → wished < 2 ^ 16 → numberFrom (nearingPacked id wished partner) ≡ nearing id wished partner
+
+-- "its low half is the answer, 0 under a refusal", as the C header says.
+abbrev pub RefusedIsAlone : Type 0
+RefusedIsAlone =
+    (number : ℕ)
+    → ((command : ℕ) (bytes : List ℕ) (room : ℕ) → writing command bytes room .answer ≡ Written.Refused number → low (writingPacked command bytes room .answer) ≡ 0)
+    × ((slice : List ℕ) (room : ℕ) → parsing slice room .answer ≡ Read.Refused number → low (parsingPacked slice room .answer) ≡ 0)
+    × ((id wished partner : ℕ) → nearing id wished partner ≡ Number.Refused number → low (nearingPacked id wished partner) ≡ 0)
