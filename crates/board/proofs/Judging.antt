@@ -24,15 +24,15 @@ use Rattle.stream.specs.Calls.{unfinished}
 use Rattle.stream.specs.declared.Held.{Held}
 use Rattle.stream.proofs.Streams.{frames-append}
 use Rattle.stream.proofs.Theorems.{first-end-is-first}
-use Rattle.answers.specs.Answers.{coreAllowed, silent}
+use Rattle.answers.specs.Answers.{coreAllowed, Sent, silent, sent, error}
 use Rattle.answers.specs.Refusals.{rows, numberOf}
 use Rattle.answers.specs.declared.Core.{Core}
 use Rattle.answers.proofs.Deciding.{table-allowed}
 use Rattle.answers.proofs.Refusing.{frame-rows}
 use Rattle.answers.proofs.Telling.{frame-told}
 use Rattle.board.specs.Parts.{boardAllowed}
-use Rattle.board.specs.Calls.{endedIn, deciding, decidedBy, heardBy}
-use Rattle.board.specs.Refusals.{hasEnd, since, charsOf, endingOf, callRows, Says, row-11, row-12, no-frame, rows-1-to-4, a-frame, Readable, Replied}
+use Rattle.board.specs.Calls.{replyBytes, endedIn, deciding, decidedBy, heardBy}
+use Rattle.board.specs.Refusals.{hasEnd, since, charsOf, endingOf, callRows, Says, row-11, row-12, no-frame, rows-1-to-4, a-frame, bytesMeant, Readable, Replied}
 use Rattle.board.specs.Laws.{RefusalGivenWhen, OutcomeAndReply}
 use Rattle.board.specs.declared.Board.{Board}
 use Rattle.board.specs.declared.Answered.{Answered}
@@ -188,6 +188,11 @@ module _ (board : Board) (piece : List ℕ) (ok : boardAllowed board ≡ true) w
 none-read : Readable silent []
 none-read = record { short = leb-true 0 75 refl; frames-are = refl; none-left = refl }
 
+reply-meant : (s : Sent) → replyBytes s ≡ bytesMeant s
+reply-meant silent = refl
+reply-meant (sent command bytes) = refl
+reply-meant error = refl
+
 pub outcome-reply : OutcomeAndReply
 unfolding heardBy decidedBy
 outcome-reply board piece room =
@@ -196,4 +201,4 @@ outcome-reply board piece room =
     (λ h e. rw (answering-stray board piece room h e) (record { reply = silent; says = row-12; written-is = refl; len-is = refl; readable = none-read }))
     (λ h e.
     rw (answering-heard board piece room h e)
-    (record { reply = _; says = ends-says board piece e (endedIn (board .held) piece) (ended (board .held) piece); written-is = refl; len-is = refl; readable = heard-readable board piece e }))
+    (record { reply = _; says = ends-says board piece e (endedIn (board .held) piece) (ended (board .held) piece); written-is = reply-meant (deciding (board .core) (endedIn (board .held) piece) .reply); len-is = refl; readable = heard-readable board piece e }))

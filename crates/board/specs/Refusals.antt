@@ -8,6 +8,7 @@ use lib.Dec.{ltb}
 use Rattle.laws.specs.Promise.{Given}
 use Rattle.paper.specs.Numbers as paper
 use Rattle.paper.specs.Numbers.{newline, frameRoom}
+use Rattle.wire.specs.Frame.{frame}
 use Rattle.wire.specs.Parsing.{Ended, good, commandOf, dataOf, bodySays}
 use Rattle.laws.specs.Refusals.{Row, row}
 use Rattle.wire.specs.Refusals.{faults}
@@ -19,7 +20,6 @@ use Rattle.answers.specs.Refusals.{rows, Told}
 use Rattle.answers.specs.declared.Core.{Core}
 use Rattle.answers.specs.declared.Outcome.{Outcome}
 use Rattle.board.specs.Parts.{boardAllowed}
-use Rattle.board.specs.Calls.{replyBytes}
 use Rattle.board.specs.declared.Board.{Board}
 use Rattle.board.specs.declared.Answered.{Answered}
 
@@ -64,7 +64,13 @@ meant silent = []
 meant (sent command bytes) = good command bytes ∷ []
 meant error = good paper.errorCode (0xAA ∷ 0xAA ∷ []) ∷ []
 
--- its bytes: at most 75, that frame and no other, and none begun
+-- and its bytes: none, the frame, or "the fixed nine bytes `:4AAAAFD` and newline"
+abbrev pub bytesMeant : Sent → List ℕ
+bytesMeant silent = []
+bytesMeant (sent command bytes) = frame command bytes
+bytesMeant error = 0x3A ∷ 0x34 ∷ 0x41 ∷ 0x41 ∷ 0x41 ∷ 0x41 ∷ 0x46 ∷ 0x44 ∷ 0x0A ∷ []
+
+-- read at the other end: at most 75, that frame and no other, and none begun
 pub record Readable (reply : Sent) (bytes : List ℕ) : Type 0 where
   pub short : length bytes ≤ frameRoom
   pub frames-are : framesOf bytes ≡ meant reply
@@ -73,6 +79,6 @@ pub record Readable (reply : Sent) (bytes : List ℕ) : Type 0 where
 pub record Replied (board : Board) (piece : List ℕ) (given : Given Answered) : Type 0 where
   pub reply : Sent
   pub says : Says board piece (given .answer .outcome) reply (given .answer .board .core)
-  pub written-is : given .written ≡ replyBytes reply
-  pub len-is : given .answer .len ≡ length (replyBytes reply)
+  pub written-is : given .written ≡ bytesMeant reply
+  pub len-is : given .answer .len ≡ length (given .written)
   pub readable : Readable reply (given .written)

@@ -1,36 +1,68 @@
 -- What the caller of one read may lean on. Assumes nothing.
 use mathlib.Core.Path.{_≡_, refl, sym, ap, subst, _∙_}
-use mathlib.Core.Bool.{true}
+use mathlib.Core.Bool.{Bool, true, false, not}
 use mathlib.Core.List.{List, [], _∷_}
+use mathlib.Core.Option.{none}
 use Prim.Native.Nat.{ℕ, _≤_}
 use native.Mathlib.Omega.{arith}
-use borrow.Author.Tests.{lt-ltb, le-ltb}
+use borrow.Author.Tests.{lt-ltb, le-ltb, ltb-true, ltb-false}
 use lib.ListN.{length, take}
 use lib.Seq.{take-all}
+use lib.Dec.{ltb}
 use Rattle.laws.specs.Promise.{Given}
+use Rattle.laws.specs.Refusals.{row, firstOf}
 use Rattle.wire.specs.Parsing.{Ended, good, refused}
 use Rattle.stream.specs.Stream.{framesFrom, taken}
 use Rattle.stream.specs.Calls.{allowed, unfinished, eventOf, dataOfFirst}
 use Rattle.wire.specs.Laws.{Writable}
 use Rattle.stream.specs.Laws.{Writables, whole}
+use Rattle.stream.specs.Laws as stream
 use Rattle.stream.specs.declared.Event.{Event}
 use Rattle.stream.specs.declared.Heard.{Heard}
-use Rattle.stream.proofs.Theorems.{heard-is-writable}
+use Rattle.stream.proofs.Theorems.{heard-is-writable, only-a-frame-is-written}
 use Rattle.stream.proofs.Streams.{taken-within}
 use Rattle.stream.proofs.Cuts.{taken-is}
 use Rattle.reply.specs.Events.{OnStream, nothing, a-frame, a-refusal, a-silence}
 use Rattle.listen.specs.declared.Told.{Told}
 use Rattle.listen.specs.declared.Listened.{Listened}
 use Rattle.listen.specs.Hearing.{boxHearing}
-use Rattle.listen.specs.Calls.{toldBy, listening}
-use Rattle.listen.specs.Laws.{eventsIn, Whole, ReadTakesToTheEnd, CallIsRefused, TakenIsWithin, FrameIsWhole, EventsAreOnStream}
+use Rattle.listen.specs.Calls.{isOver, toldBy, listening}
+use Rattle.listen.specs.Laws.{eventsIn, Whole, ReadTakesToTheEnd, refusalOf, ReadGivenWhen, CallIsRefused, TakenIsWithin, FrameIsWhole, isFrame, OnlyAFrameIsWritten, EventsAreOnStream}
 use Rattle.listen.proofs.Hearing.{box-heard}
-use Rattle.listen.proofs.Settling.{listening-heard, cases}
+use Rattle.listen.proofs.Settling.{listening-short, listening-stray, listening-late, listening-heard, cases}
 
 pub call-refused : CallIsRefused
 unfolding listening
 call-refused =
     record { short = λ l piece time room h. rw (lt-ltb room 35 h); stray = λ l piece time room h e. rw (le-ltb room 35 h, e) }
+
+-- what the stream hears is no refusal of the call
+heard-none : (e : Event) → refusalOf (toldBy e) ≡ none
+heard-none Event.Nothing = refl
+heard-none (Event.Frame command len) = refl
+heard-none (Event.Refused number) = refl
+
+pub given-when : ReadGivenWhen
+given-when l piece time room = by _ _ _ refl refl refl
+  where
+    by : (a b c : Bool) → ltb room 35 ≡ a → allowed (l .held) ≡ b → isOver (l .begun) (l .asked) time ≡ c
+        → refusalOf (listening l piece time room .answer .told) ≡ firstOf (row 11 (ltb room 35) ∷ row 12 (not (allowed (l .held))) ∷ [])
+    by true b c p q r = rw (listening-short l piece time room (ltb-true room 35 p), p)
+    by false false c p q r = rw (listening-stray l piece time room (ltb-false room 35 p) q, p, q)
+    by false true true p q r = rw (listening-late l piece time room (ltb-false room 35 p) q r, p, q)
+    by false true false p q r = rw (listening-heard l piece time room (ltb-false room 35 p) q r, p, q) (heard-none (boxHearing (l .held) piece room .answer .event))
+
+-- a frame is told exactly where the stream heard one
+frame-told : (e : Event) → isFrame (toldBy e) ≡ stream.isFrame e
+frame-told Event.Nothing = refl
+frame-told (Event.Frame command len) = refl
+frame-told (Event.Refused number) = refl
+
+pub only-frame : OnlyAFrameIsWritten
+unfolding boxHearing
+only-frame l piece time room =
+    cases l piece time room (λ g. isFrame (g .answer .told) ≡ false → g .written ≡ []) (λ n h. refl) (λ enough ok over h. refl)
+    (λ enough ok early h. only-a-frame-is-written (l .held) piece room (sym (frame-told (boxHearing (l .held) piece room .answer .event)) ∙ h))
 
 pub taken-fits : TakenIsWithin
 taken-fits l piece time room =

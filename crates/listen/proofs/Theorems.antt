@@ -1,5 +1,5 @@
 -- The statements of specs/Laws.antt, proved. Assumes nothing.
-use Rattle.listen.specs.Laws.{AnyCutting, WholeIsTold, AllIsTaken, ReadTakesToTheEnd, PatienceEnds, RequestEnds, LateTakesNothing, CallIsRefused, TakenIsWithin, FrameIsWhole, EventsAreOnStream}
+use Rattle.listen.specs.Laws.{AnyCutting, WholeIsTold, AllIsTaken, ReadTakesToTheEnd, PatienceEnds, RequestEnds, LateTakesNothing, ReadGivenWhen, OnlyAFrameIsWritten, CallIsRefused, TakenIsWithin, FrameIsWhole, EventsAreOnStream}
 use Rattle.listen.proofs.Merging as merging
 use Rattle.listen.proofs.Patience as patience
 use Rattle.listen.proofs.Leaning as leaning
@@ -27,6 +27,12 @@ late-takes-nothing = patience.takes-nothing
 
 pub taken-is-within : TakenIsWithin
 taken-is-within = leaning.taken-fits
+
+pub read-given-when : ReadGivenWhen
+read-given-when = leaning.given-when
+
+pub only-a-frame-is-written : OnlyAFrameIsWritten
+only-a-frame-is-written = leaning.only-frame
 
 pub call-is-refused : CallIsRefused
 call-is-refused = leaning.call-refused

@@ -5,9 +5,11 @@ use mathlib.Core.Path.{_≡_}
 use mathlib.Core.Logic.{_↔_}
 use mathlib.Core.Bool.{Bool, true, false, cond, _&&_, not}
 use mathlib.Core.List.{List, [], _∷_, _++_}
+use mathlib.Core.Option.{Option, none, some}
 use lib.ListN.{length, take}
-use lib.Dec.{leb, eqb}
+use lib.Dec.{ltb, leb, eqb}
 use Rattle.laws.specs.Promise.{Given}
+use Rattle.laws.specs.Refusals.{row, firstOf}
 use Rattle.laws.specs.Cutting.{Step, Offer, calls, ready}
 use Rattle.paper.specs.Numbers.{mostData}
 use Rattle.wire.specs.Parsing.{Ended, good, refused}
@@ -21,11 +23,11 @@ use Rattle.listen.specs.declared.Listener.{Listener}
 use Rattle.listen.specs.declared.Told.{Told}
 use Rattle.listen.specs.declared.Listened.{Listened}
 
--- 1. The stream in any cutting. What a read tells of the stream: a frame with its data, of the length that is said; a frame that is refused;
--- or no frame.
+-- 1. The stream in any cutting. What a read tells of the stream: a frame with its data, of the length that is said (one of another length is
+-- none that a stream has); a frame that is refused; or no frame.
 abbrev pub framesIn : Told → List ℕ → List Ended
 framesIn Told.Nothing written = []
-framesIn (Told.Frame command len) written = cond (eqb len (length written)) (good command written ∷ []) []
+framesIn (Told.Frame command len) written = cond (eqb len (length written)) (good command written) (refused 0) ∷ []
 framesIn (Told.Broken number) written = refused number ∷ []
 framesIn Told.NoAnswer written = []
 framesIn (Told.Refused number) written = []
@@ -142,6 +144,18 @@ LateTakesNothing =
 abbrev pub nothingDone : Listener → ℕ → Given Listened
 nothingDone l number = record { answer = record { listener = l; told = Told.Refused number; taken = 0 }; written = [] }
 
+abbrev pub refusalOf : Told → Option ℕ
+refusalOf Told.Nothing = none
+refusalOf (Told.Frame command len) = none
+refusalOf (Told.Broken number) = none
+refusalOf Told.NoAnswer = none
+refusalOf (Told.Refused number) = some number
+
+abbrev pub ReadGivenWhen : Type 0
+ReadGivenWhen =
+    (l : Listener) (piece : List ℕ) (time room : ℕ)
+    → refusalOf (listening l piece time room .answer .told) ≡ firstOf (row 11 (ltb room 35) ∷ row 12 (not (allowed (l .held))) ∷ [])
+
 pub record CallIsRefused : Type 0 where
   pub short : (l : Listener) (piece : List ℕ) (time room : ℕ) → room < 35 → listening l piece time room ≡ nothingDone l 11
   pub stray : (l : Listener) (piece : List ℕ) (time room : ℕ) → 35 ≤ room → allowed (l .held) ≡ false → listening l piece time room ≡ nothingDone l 12
@@ -159,6 +173,18 @@ abbrev pub FrameIsWhole : Type 0
 FrameIsWhole =
     (l : Listener) (piece : List ℕ) (time room command len : ℕ) → listening l piece time room .answer .told ≡ Told.Frame command len
     → Whole command len (listening l piece time room .written)
+
+-- "The data fill the front of the buffer only when 1 to 4 are passed": where no frame is told, nothing is written.
+abbrev pub isFrame : Told → Bool
+isFrame Told.Nothing = false
+isFrame (Told.Frame command len) = true
+isFrame (Told.Broken number) = false
+isFrame Told.NoAnswer = false
+isFrame (Told.Refused number) = false
+
+abbrev pub OnlyAFrameIsWritten : Type 0
+OnlyAFrameIsWritten =
+    (l : Listener) (piece : List ℕ) (time room : ℕ) → isFrame (listening l piece time room .answer .told) ≡ false → listening l piece time room .written ≡ []
 
 -- What is told, as the event that the follower and the collector know, if it is one; every one of them is an event of a stream.
 abbrev pub eventsIn : Told → List ℕ → List Event

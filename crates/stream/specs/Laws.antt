@@ -81,11 +81,11 @@ HeardIsWritten =
 abbrev pub NoColonIsSkipped : Type 0
 NoColonIsSkipped = (bytes : List ℕ) → every (λ b. not (eqb b colon)) bytes ≡ true → (leftBy bytes ≡ outside) × (framesOf bytes ≡ [])
 
--- 2. The stream in any cutting. What a call on the stream comes to: a frame with its data, of the length that is said; a frame's refusal (1
--- to 4); or no frame (under 11 and 12 too, which are the call's).
+-- 2. The stream in any cutting. What a call on the stream comes to: a frame with its data, of the length that is said (one of another length
+-- is none that a stream has); a frame's refusal (1 to 4); or no frame (under 11 and 12 too, which are the call's).
 abbrev pub frameIn : Event → List ℕ → List Ended
 frameIn Event.Nothing written = []
-frameIn (Event.Frame command len) written = cond (eqb len (length written)) (good command written ∷ []) []
+frameIn (Event.Frame command len) written = cond (eqb len (length written)) (good command written) (refused 0) ∷ []
 frameIn (Event.Refused number) written = cond (ltb 4 number) [] (refused number ∷ [])
 
 abbrev pub stepOf : Given Heard → Step Held Ended
