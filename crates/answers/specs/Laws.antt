@@ -4,8 +4,8 @@ use Prim.Native.Nat.{ℕ, _^_, _<_}
 use mathlib.Core.Path.{_≡_}
 use mathlib.Core.Logic.{_≢_}
 use mathlib.Core.Bool.{true, false, not, _&&_}
-use mathlib.Core.List.{List, [], _∷_}
-use lib.ListN.{length, take}
+use mathlib.Core.List.{List, [], _∷_, _++_}
+use lib.ListN.{length, take, drop, replicate}
 use Rattle.paper.specs.Numbers as paper
 use Rattle.laws.specs.Lists.{Bytes}
 use Rattle.wire.specs.Laws.{Writable}
@@ -96,11 +96,14 @@ RefusalGivenWhen =
     → numberOf (answering core command bytes .outcome) ≡ firstOf (row 12 (not (identityAllowed (core .identity) && allowed (core .table))) ∷ rows core command bytes)
 
 -- 7. The public call's answer holds what is decided: the outcome, the core, and the reply as nothing, as the error frame, or as a command with
--- its data at the front of the array.
+-- its data at the front of an array of 35 bytes; all else in it is 0.
+abbrev pub held : ℕ → List ℕ → Message
+held command bytes = record { command = command; len = length bytes; bytes = bytes ++ drop (length bytes) (replicate 35 0) }
+
 pub data HeldAs : Sent → Sends → Message → Type 0 where
-  nothing : {m : Message} → HeldAs silent Sends.Nothing m
-  an-error : {m : Message} → HeldAs error Sends.Error m
-  a-frame : {m : Message} {command : ℕ} {bytes : List ℕ} → m .command ≡ command → take (m .len) (m .bytes) ≡ bytes → HeldAs (sent command bytes) Sends.Frame m
+  nothing : HeldAs silent Sends.Nothing (held 0 [])
+  an-error : HeldAs error Sends.Error (held 0 [])
+  a-frame : {command : ℕ} {bytes : List ℕ} → HeldAs (sent command bytes) Sends.Frame (held command bytes)
 
 pub record Holding (d : Decision) (answer : Decided) : Type 0 where
   pub outcome-is : answer .outcome ≡ d .outcome

@@ -1,8 +1,12 @@
 -- The statements of specs/Laws.antt, proved. Assumes nothing.
-use Rattle.listen.specs.Laws.{AnyCutting, WholeIsTold, AllIsTaken, ReadTakesToTheEnd, PatienceEnds, RequestEnds, LateTakesNothing, ReadGivenWhen, OnlyAFrameIsWritten, CallIsRefused, TakenIsWithin, FrameIsWhole, EventsAreOnStream}
+use mathlib.Core.Path.{refl}
+use Rattle.listen.specs.Laws.{StartIsOutside, AnyCutting, WholeIsTold, AllIsTaken, ReadTakesToTheEnd, PatienceEnds, RequestEnds, LateTakesNothing, ReadGivenWhen, OnlyAFrameIsWritten, CallIsRefused, TakenIsWithin, FrameIsWhole, EventsAreOnStream}
 use Rattle.listen.proofs.Merging as merging
 use Rattle.listen.proofs.Patience as patience
 use Rattle.listen.proofs.Leaning as leaning
+
+pub start-is-outside : StartIsOutside
+start-is-outside time = refl
 
 pub any-cutting : AnyCutting
 any-cutting = merging.cutting

@@ -55,6 +55,10 @@ listens l turn piece =
 abbrev pub listenerAt : List ℕ → ℕ → ℕ → Listener
 listenerAt earlier begun asked = record { held = heldOf (leftBy earlier); begun = begun; asked = asked }
 
+-- The start is outside a frame, at the time that it is handed.
+abbrev pub StartIsOutside : Type 0
+StartIsOutside = (time : ℕ) → starting time ≡ listenerAt [] time time
+
 -- The frames told, good and broken, are exactly those of the bytes taken, in order, and the frame held is what those bytes leave: in any
 -- cutting, what a read did not take being handed on first, at any times, with any room, with reads that gave nothing, and with requests
 -- anywhere between. So patience never loses, doubles or invents a frame.

@@ -1,5 +1,6 @@
 -- The statements of specs/Laws.antt, proved. Assumes nothing.
-use Rattle.restore.specs.Laws.{OneForEach, NoOther, SetsAreDiffering, InOrder, ListRestores, ListGivenWhen, SetsGivenWhen, DueGivenWhen, ListIsGiven, SetsAreTold, NoneWhereEqual, SetsAreFew, ListIsShort, DueTells}
+use mathlib.Core.Path.{refl}
+use Rattle.restore.specs.Laws.{OneForEach, NoOther, SetsAreDiffering, InOrder, ListRestores, ListGivenWhen, SetsGivenWhen, DueGivenWhen, ListIsGiven, SetsAreTold, NoneWhereEqual, SetsAreFew, ListIsShort, SetsAreWanted, DueTells}
 use Rattle.restore.proofs.Placing.{one-each, no-other, in-order}
 use Rattle.restore.proofs.Differing.{sets-differing}
 use Rattle.restore.proofs.Restoring.{list-restores}
@@ -44,6 +45,9 @@ sets-are-few = sets-few
 
 pub list-is-short : ListIsShort
 list-is-short = frames-fit
+
+pub sets-are-wanted : SetsAreWanted
+sets-are-wanted from to = refl
 
 pub due-tells : DueTells
 due-tells = tells-due

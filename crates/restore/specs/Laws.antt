@@ -4,7 +4,7 @@ use Prim.Native.Nat.{ℕ, zero, suc, _+_, _*_, _≤_, _<_}
 use mathlib.Core.Path.{_≡_}
 use mathlib.Core.Logic.{_↔_}
 use mathlib.Core.Bool.{Bool, true, false, cond, not, _&&_, _||_}
-use mathlib.Core.List.{List, [], _∷_}
+use mathlib.Core.List.{List, [], _∷_, map}
 use mathlib.Core.Option.{Option, none, some}
 use lib.ListN.{length, getD}
 use lib.Dec.{ltb, eqb}
@@ -13,11 +13,12 @@ use Rattle.laws.specs.Promise.{Given}
 use Rattle.laws.specs.Refusals.{Row, row, firstOf}
 use Rattle.settings.specs.Columns.{count, partnerAt, roleAt}
 use Rattle.settings.specs.Rules.{agrees}
+use Rattle.settings.specs.Calls.{settingAt}
 use Rattle.tables.specs.Rules.{allowed, numberAt}
 use Rattle.tables.specs.Calls.{setTo}
 use Rattle.tables.specs.declared.Table.{Table}
 use Rattle.tables.specs.declared.Answer.{Answer}
-use Rattle.restore.specs.Order.{order, wanted, dueSets}
+use Rattle.restore.specs.Order.{order, dueSets}
 use Rattle.restore.specs.Calls.{framesFor, listing, setsDue, dueIn}
 use Rattle.requests.specs.declared.Wanted.{Wanted}
 use Rattle.restore.specs.declared.Due.{Due}
@@ -139,9 +140,14 @@ SetsAreFew = (from to : Table) → length (dueSets from to) ≤ count
 abbrev pub ListIsShort : Type 0
 ListIsShort = (from to : Table) → length (framesFor (dueSets from to)) ≤ 15 * count
 
--- 5. What is due tells how many Sets there are: one is due after fewer than all, namely the next of the order, and none after all.
+-- 5. A Set is of the setting at its place, for the number that is wanted there.
+abbrev pub SetsAreWanted : Type 0
+SetsAreWanted = (from to : Table) → dueSets from to ≡ map (λ k. record { setting = settingAt k; number = numberAt to k }) (order from to)
+
+-- What is due tells how many Sets there are: one is due after fewer than all, namely the next of the order, and none after all.
 pub data Tells (from to : Table) (done : ℕ) : Due → Type 0 where
-  a-set : (k : ℕ) → k ≡ getD (order from to) done 0 → k < count → (allowed from && allowed to) ≡ true → done < length (dueSets from to) → Tells from to done (Due.Set (wanted to k))
+  a-set : (k : ℕ) → k ≡ getD (order from to) done 0 → k < count → (allowed from && allowed to) ≡ true → done < length (dueSets from to)
+      → Tells from to done (Due.Set (record { setting = settingAt k; number = numberAt to k }))
   none-left : (allowed from && allowed to) ≡ true → length (dueSets from to) ≤ done → Tells from to done Due.Nothing
   not-allowed : (allowed from && allowed to) ≡ false → Tells from to done (Due.Refused 12)
 
