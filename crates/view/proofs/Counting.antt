@@ -14,7 +14,7 @@ use Rattle.laws.proofs.Lists.{drop-turn}
 use Rattle.reply.specs.Events.{Event, heard, refusedFrame, noAnswer}
 use Rattle.view.specs.Values.{ids, count, idAt}
 use Rattle.view.specs.Calls.{sightAt, isWaiting, sightOf, answers, shows, quiet, moved, silenced, advanced, begun, within, allowed, nextOf, told, stray, starting, viewing}
-use Rattle.view.specs.Laws.{calls, RefusedIsStray, sightFor, since, oneMore, counted, silencesIn, CountsAreTrue, EndedStays}
+use Rattle.view.specs.Laws.{calls, RefusedIsStray, sightFor, since, oneMore, counted, silencesIn, CountsAreTrue, EndedStays, SightIsTold}
 use Rattle.view.specs.declared.Viewer.{Viewer}
 use Rattle.view.specs.declared.Next.{Next}
 use Rattle.view.specs.declared.Sight.{Sight}
@@ -379,3 +379,19 @@ ended-stays events e none =
     let own : calls starting events .next ≡ nextOf v = all events .next-own in
     nothing-told v (not-waiting v ok (λ id is. none id (own ∙ is))) e ok
     ∙ ap (λ (n : Next). (record { viewer = v; next = n; sight = Sight.Nothing })) (sym own)
+
+pub sight-is-told : SightIsTold
+unfolding viewing sightOf
+sight-is-told =
+    record {
+      at-start = refl;
+      at-silence = λ v. quiet-told v (allowed v);
+      at-frame = λ events id command bytes is.
+          let v : Viewer = calls starting events .viewer in
+          let due = waits-asked v (calls-allowed events) id .0 (sym (all events .next-own) ∙ is) in
+          rw (calls-allowed events, waits v (due .0 .1) (due .0 .0), due .1);
+    }
+  where
+    quiet-told : (v : Viewer) (b : Bool) → cond b (told (advanced v noAnswer) Sight.Nothing) (stray v) .sight ≡ Sight.Nothing
+    quiet-told v true = refl
+    quiet-told v false = refl

@@ -1,24 +1,21 @@
 -- What a frame says of the due id. Assumes nothing.
-use mathlib.Core.Path.{_≡_, refl, sym, ap, ap₂, _∙_}
-use mathlib.Core.Logic.{_≢_, _↔_}
-use mathlib.Core.Bool.{Bool, true, false, cond}
+use mathlib.Core.Path.{_≡_, refl, sym, ap, ap₂, subst, _∙_}
+use mathlib.Core.Bool.{Bool, true, false, cond, false≢true}
 use mathlib.Core.List.{List}
 use Prim.Native.Nat.{ℕ, _≤_}
 use native.Mathlib.Omega.{arith}
-use lib.ListN.{length}
+use lib.ListN.{length, getD}
 use Rattle.paper.specs.Numbers.{getCode}
-use Rattle.endian.specs.Numbers.{said}
 use Rattle.reply.specs.Replies.{flagOf, rest}
 use Rattle.reply.specs.Calls.{heeding}
 use Rattle.reply.specs.Events.{heard}
 use Rattle.reply.specs.Laws.{Says, says-good, says-bad, says-nothing}
 use Rattle.reply.specs.declared.Status.{Status}
 use Rattle.reply.specs.declared.Heeded.{Heeded}
-use Rattle.reply.proofs.Heeding.{said-heeded}
 use Rattle.reply.proofs.Theorems.{heed-is-said, heeded-is-long}
 use Rattle.view.specs.Values.{idAt, isUnderstood}
 use Rattle.view.specs.Calls.{onHeeded, sightAt, isWaiting, sightOf, advanced, allowed, told, stray, viewing}
-use Rattle.view.specs.Laws.{Understands, SightIsSeen}
+use Rattle.view.specs.Laws.{Sees, sees-nothing, sees-value, sees-other, SightIsSeen}
 use Rattle.view.specs.declared.Viewer.{Viewer}
 use Rattle.view.specs.declared.Sight.{Sight}
 
@@ -47,34 +44,40 @@ module _ (id : ℕ) (value : List ℕ) where
       by false is e = let z : _≡_ {A = ℕ} 0 1 = cc in absurd (omega arith)
   good (Heeded.Bad status) due e = let z : _≡_ {A = ℕ} 0 1 = cc in absurd (omega arith)
 
-  something : (u : Bool) → cond u (Sight.Understood id) (Sight.Strange id) ≢ Sight.Nothing
-  something true e = let z : _≡_ {A = ℕ} 0 1 = cc in omega arith
-  something false e = let z : _≡_ {A = ℕ} 0 1 = cc in omega arith
+-- another flag is not 00
+only-good : (status : Status) → flagOf status ≡ 0 → status ≡ Status.Good
+only-good Status.Good e = refl
+only-good Status.UnknownId e = absurd (omega arith)
+only-good Status.NotSupported e = absurd (omega arith)
+only-good Status.ParameterError e = absurd (omega arith)
 
 module _ (id command : ℕ) (bytes : List ℕ) where
-  seen-nothing : (h : Heeded) → Says getCode id command bytes h
-      → (onHeeded id (rest bytes) h ≡ Sight.Nothing) ↔ ((status : Status) → command ≡ getCode → bytes ≢ said id (flagOf status) (rest bytes))
-  seen-nothing h (says-nothing none) = (λ e. λ status. none status refl, λ n. refl)
-  seen-nothing h (says-good stated is are) = (λ e. absurd (something id (rest bytes) (isUnderstood id (rest bytes)) e), λ n. absurd (n Status.Good is are))
-  seen-nothing h (says-bad {status} other stated is are) = (λ e. let z : _≡_ {A = ℕ} 0 1 = cc in absurd (omega arith), λ n. absurd (n status is are))
+  sees : (h : Heeded) → Says getCode id command bytes h → Sees id command bytes (onHeeded id (rest bytes) h)
+  sees h (says-nothing none) = sees-nothing (λ status. none status refl)
+  sees h (says-good stated is are) = by (isUnderstood id (rest bytes)) refl
+    where
+      by : (u : Bool) → isUnderstood id (rest bytes) ≡ u → Sees id command bytes (cond u (Sight.Understood id) (Sight.Strange id))
+      by true has = sees-value (record { is-get = is; is-good = are; has-value = has })
+      by false has = sees-other Status.Good is are (λ u. false≢true (sym has ∙ u .has-value))
+  sees h (says-bad {status} other stated is are) =
+      sees-other status is are (λ u. other (only-good status (ap (λ (l : List ℕ). getD l 2 0) (sym are ∙ u .is-good))))
 
-  seen-understood : (h : Heeded) → Says getCode id command bytes h → onHeeded id (rest bytes) h ≡ Sight.Understood id → Understands id command bytes
-  seen-understood h (says-nothing none) e = let z : _≡_ {A = ℕ} 0 1 = cc in absurd (omega arith)
-  seen-understood h (says-good stated is are) e = record { is-get = is; is-good = are; has-value = good id (rest bytes) Heeded.Good id e .has-value }
-  seen-understood h (says-bad other stated is are) e = let z : _≡_ {A = ℕ} 0 1 = cc in absurd (omega arith)
+  sees-one : (s t : Sight) → Sees id command bytes s → Sees id command bytes t → s ≡ t
+  sees-one s t (sees-nothing none) (sees-nothing none′) = refl
+  sees-one s t (sees-nothing none) (sees-value u) = absurd (none Status.Good (u .is-get) (u .is-good))
+  sees-one s t (sees-nothing none) (sees-other status is are not) = absurd (none status is are)
+  sees-one s t (sees-value u) (sees-nothing none) = absurd (none Status.Good (u .is-get) (u .is-good))
+  sees-one s t (sees-value u) (sees-value u′) = refl
+  sees-one s t (sees-value u) (sees-other status is are not) = absurd (not u)
+  sees-one s t (sees-other status is are not) (sees-nothing none) = absurd (none status is are)
+  sees-one s t (sees-other status is are not) (sees-value u) = absurd (not u)
+  sees-one s t (sees-other status is are not) (sees-other status′ is′ are′ not′) = refl
 
 pub sight-is-seen : SightIsSeen
 unfolding sightAt
-sight-is-seen id command bytes room small =
-    let h = heeding getCode id command bytes in
-    let says = heed-is-said getCode id command bytes room small in
-    record {
-      nothing-when = seen-nothing id command bytes h says;
-      understood-when = (
-        seen-understood id command bytes h says,
-        λ u. ap (onHeeded id (rest bytes)) (ap₂ (heeding getCode id) (u .is-get) (u .is-good) ∙ said-heeded getCode id room refl Status.Good (rest bytes)) ∙ rw (u .has-value),
-      );
-    }
+sight-is-seen id command bytes s room small =
+    let seen = sees id command bytes (heeding getCode id command bytes) (heed-is-said getCode id command bytes room small) in
+    (λ e. subst (Sees id command bytes) e seen, sees-one id command bytes (sightAt id command bytes) s seen)
 
 -- a value that is understood is the rest of the data, after the first three bytes
 pub record Valued (id : ℕ) (bytes : List ℕ) : Type 0 where

@@ -38,18 +38,20 @@ abbrev pub VersionIsRead : Type 0
 VersionIsRead = (value : List ℕ) → (isUnderstood paper.versionId value ≡ true) ↔ (length value ≡ 2)
 
 -- 2. While an id is due, a frame says nothing of it exactly where it is no Get reply whose data are that id, the flag of a status and a value;
--- and its value is understood exactly where the flag is 00 and it is a value of that id.
+-- its value is understood, as one of that id, exactly where the flag is 00 and it is a value of that id; and any other reply to that Get is not.
 pub record Understands (id command : ℕ) (bytes : List ℕ) : Type 0 where
   pub is-get : command ≡ paper.getCode
   pub is-good : bytes ≡ said id 0 (rest bytes)
   pub has-value : isUnderstood id (rest bytes) ≡ true
 
-pub record Seen (id command : ℕ) (bytes : List ℕ) : Type 0 where
-  pub nothing-when : (sightAt id command bytes ≡ Sight.Nothing) ↔ ((status : Status) → command ≡ paper.getCode → bytes ≢ said id (flagOf status) (rest bytes))
-  pub understood-when : (sightAt id command bytes ≡ Sight.Understood id) ↔ Understands id command bytes
+pub data Sees (id command : ℕ) (bytes : List ℕ) : Sight → Type 0 where
+  sees-nothing : ((status : Status) → command ≡ paper.getCode → bytes ≢ said id (flagOf status) (rest bytes)) → Sees id command bytes Sight.Nothing
+  sees-value : Understands id command bytes → Sees id command bytes (Sight.Understood id)
+  sees-other : (status : Status) → command ≡ paper.getCode → bytes ≡ said id (flagOf status) (rest bytes) → (Understands id command bytes → ⊥)
+      → Sees id command bytes (Sight.Strange id)
 
 abbrev pub SightIsSeen : Type 0
-SightIsSeen = (id command : ℕ) (bytes : List ℕ) → id < 256 ^ 2 → Bytes bytes → Seen id command bytes
+SightIsSeen = (id command : ℕ) (bytes : List ℕ) (s : Sight) → id < 256 ^ 2 → Bytes bytes → (sightAt id command bytes ≡ s) ↔ Sees id command bytes s
 
 -- 3. A row of calls, each on the viewer that the last one handed back. A viewer is allowed exactly when a start and events give it.
 abbrev pub calls : Viewed → List Event → Viewed
@@ -115,3 +117,10 @@ EndedStays =
     (events : List Event) (e : Event) → let last = calls starting events in
     ((id : ℕ) → last .next ≢ Next.Waiting id)
     → viewing (last .viewer) e ≡ record { viewer = last .viewer; next = last .next; sight = Sight.Nothing }
+
+-- 6. What a call says of a frame is what the frame says of the id that is due; at the start and where no answer came there is none to speak of.
+pub record SightIsTold : Type 0 where
+  pub at-start : starting .sight ≡ Sight.Nothing
+  pub at-silence : (v : Viewer) → viewing v noAnswer .sight ≡ Sight.Nothing
+  pub at-frame : (events : List Event) (id command : ℕ) (bytes : List ℕ) → let last = calls starting events in
+      last .next ≡ Next.Waiting id → viewing (last .viewer) (heard command bytes) .sight ≡ sightAt id command bytes
