@@ -1,5 +1,7 @@
 // What a board answers to a whole frame, from what it is and holds. Every call takes anything, and its promise fixes its answer
 // (specs/Calls.antt).
+#![tactic(auto)]
+
 ghost use Rattle.std.specs.Prelude.{◌≡◌};
 ghost use Rattle.answers.specs.Answers.{core_allowed};
 ghost use Rattle.answers.specs.AsHeld.{decided_of};

@@ -63,7 +63,7 @@ fn joined(front: [u8; paper::MOST_DATA], rest: [u8; paper::MOST_SERIAL]) -> [u8;
     ensures { result ≡ take 3 front ++ rest }
 {
     let mut whole = front;
-    bytes::copy(&rest, &mut whole[paper::FRONT..]);
+    spans::copy(&rest, &mut whole[paper::FRONT..]);
     whole
 }
 

@@ -1,5 +1,7 @@
 // The backup text: a table written as lines, and a text read back, line by line. Every call takes anything, and its promise fixes its
 // answer and every lent byte (specs/Calls.antt).
+#![tactic(auto)]
+
 ghost use Rattle.std.specs.Prelude.{◌≡◌, length};
 ghost use Rattle.laws.specs.Promise.{Gives};
 ghost use Rattle.backup.specs.Text as text;
@@ -48,7 +50,7 @@ pub fn write(table: Table, out: &mut [u8]) -> Written
     }
     let numbers = table.numbers;
     let header = header();
-    let at = bytes::copy(&header, out);
+    let at = spans::copy(&header, out);
     Written::Len(writer::put_lines(numbers, out, at))
 }
 

@@ -1,5 +1,7 @@
 // The stream and the board as plain C calls: the caller hands over all bytes at once and says how they are cut, and the state stays inside
 // the call. Each takes anything, and its promise fixes its answer and every lent byte (specs/Calls.antt).
+#![tactic(auto)]
+
 ghost use Rattle.std.specs.Prelude.{ℕ, min, ◌≡◌, length};
 ghost use Rattle.laws.specs.Promise.{Gives};
 ghost use Rattle.stream.specs.Calls.{held_of};

@@ -16,7 +16,7 @@ fn put_error(out: &mut [u8]) -> usize
     requires { 75 ≤ length out.old }
     ensures { Gives ℕ (whole error_frame) out.old result out.new }
 {
-    bytes::copy(b":4AAAAFD\n", out)
+    spans::copy(b":4AAAAFD\n", out)
 }
 
 // Writes what the board sends where the stream refuses: the error frame for a frame (1 to 4), and nothing for an unfinished frame that is

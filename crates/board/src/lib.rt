@@ -1,5 +1,7 @@
 // A board: what it is and holds, and the unfinished frame of its serial line. The board itself judges every Set of every setting. Every
 // call takes anything, and its promise fixes its answer and every lent byte (specs/Calls.antt).
+#![tactic(auto)]
+
 ghost use Rattle.std.specs.Prelude.{◌≡◌, length};
 ghost use Rattle.laws.specs.Promise.{Gives};
 ghost use Rattle.tables.specs.Rules.{factory};

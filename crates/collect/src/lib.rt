@@ -1,6 +1,8 @@
 // A board's settings by Gets (ours; document 01's follower is the model): a collector asks for each setting in order, takes the numbers
 // that the board answers, and gives the table only when every setting was answered. Every call takes anything, and its promise fixes its
 // answer (specs/Calls.antt).
+#![tactic(auto)]
+
 ghost use Rattle.std.specs.Prelude.{◌≡◌};
 ghost use Rattle.reply.specs.Events.{heard, refused_frame, no_answer};
 ghost use Rattle.collect.specs.Calls.{starting, told, collecting};

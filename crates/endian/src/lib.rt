@@ -1,5 +1,7 @@
 // Numbers as bytes, the low one first, and whole numbers in two's complement. Every call takes anything, and its promise fixes its answer
 // (specs/Numbers.antt).
+#![tactic(auto)]
+
 ghost use Rattle.std.specs.Prelude.{◌≡◌, get_or, take};
 ghost use Rattle.endian.specs.Numbers.{little, from_little, complement, signed};
 

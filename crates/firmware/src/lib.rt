@@ -1,5 +1,7 @@
 // Calls for the board's C firmware, on numbers and byte slices: a frame written, a whole frame parsed, and the nearest allowed number. Each
 // is the call of `wire` or `settings` with the answer packed in one integer (specs/Calls.antt), and takes anything.
+#![tactic(auto)]
+
 ghost use Rattle.std.specs.Prelude.{◌≡◌, ℕ, length};
 ghost use Rattle.laws.specs.Promise.{Gives};
 ghost use Rattle.firmware.specs.Calls.{refusal_packed, writing_packed, parsing_packed, nearing_packed};

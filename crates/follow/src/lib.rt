@@ -1,5 +1,7 @@
 // The following of a restore: which Set is due, and how many the board has confirmed. Every call takes anything, and its promise fixes its
 // answer (specs/Calls.antt).
+#![tactic(auto)]
+
 ghost use Rattle.std.specs.Prelude.{◌≡◌};
 ghost use Rattle.reply.specs.Events.{heard, refused_frame, no_answer};
 ghost use Rattle.follow.specs.Calls.{starting, told, following};

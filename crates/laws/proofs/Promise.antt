@@ -6,7 +6,8 @@ use native.Mathlib.Nat.{zero-add}
 use native.Mathlib.Omega.{arith}
 use borrow.Rule.Slice.PartMut.{put_mid}
 use lib.ListN.{length, take, drop, length-drop, drop_of_length-le}
-use lib.Seq.{sets, sets-eq, take-append_seam, take-length, drop-drop}
+use lib.Seq.{sets, sets-eq, take-append_seam, drop-drop}
+use Rattle.std.proofs.lemmas.List.{take_all}
 use Rattle.laws.specs.Promise.{overlaid, Given, Gives}
 use Rattle.laws.proofs.Lists.{part_to_end}
 
@@ -26,18 +27,21 @@ overlaid_front written buffer = take-append_seam written _
 pub sets_front : (written buffer : List ℕ) → length written ≤ length buffer → take (length written) (sets buffer 0 written) ≡ written
 sets_front written buffer h = rw (overlaid_sets written buffer h) (overlaid_front written buffer)
 
--- what is copied to the front of a buffer overlays it
-pub copied : (from into : List ℕ) {last : List ℕ} → last ≡ take (length from) from ++ drop (length from) into → last ≡ overlaid from into
-unfolding overlaid
-copied from into e = rw (take-length from) at e
+-- what fits is copied whole: to the front of a buffer it overlays it
+pub copied : (from into : List ℕ) {last : List ℕ} → length from ≤ length into → last ≡ overlaid (take (length into) from) into → last ≡ overlaid from into
+copied from into h e = e ∙ ap (λ (l : List ℕ). overlaid l into) (take_all (length into) from h)
 
--- and what is copied to a place of it is a run of stores from there on
+-- and to a place of it is a run of stores from there on
 pub copied_at : (from into : List ℕ) (at : ℕ) {last : List ℕ} → at + length from ≤ length into
-    → last ≡ take (length from) from ++ drop (length from) (take (length into - at) (drop at into)) → put_mid at (length into - at) into last ≡ sets into at from
+    → last ≡ overlaid (take (length (take (length into - at) (drop at into))) from) (take (length into - at) (drop at into))
+    → put_mid at (length into - at) into last ≡ sets into at from
+unfolding overlaid
 copied_at from into at h e =
     let part : take (length into - at) (drop at into) ≡ drop at into = part_to_end into (length into) at refl in
     let none : drop (length into - at) (drop at into) ≡ [] = drop_of_length-le (drop at into) {i = length into - at} (rw length-drop (omega arith)) in
-    rw (e, part, none, take-length from, append-nil, drop-drop) (sym (append_assoc (take at into) from _) ∙ sym (sets-eq from into at h))
+    let room : length from ≤ length (drop at into) = rw length-drop (omega arith) in
+    let whole : take (length (drop at into)) from ≡ from = take_all (length (drop at into)) from room in
+    rw (e, part, none, whole, append-nil, drop-drop) (sym (append_assoc (take at into) from _) ∙ sym (sets-eq from into at h))
 
 -- a promise is met by the answer that it gives, with its bytes written; where it writes none, the buffer stays as it was
 pub gives_bytes : {A : Type 0} {given : Given A} {buffer : List ℕ} (r : A) (bytes l : List ℕ) → given ≡ record { answer = r; written = bytes } → l ≡ overlaid bytes buffer → Gives A given buffer r l

@@ -18,7 +18,7 @@ fn tidied(line: Line) -> Line
     let chars = line.chars;
     let len = least(line.len, MOST);
     let mut tidy = [0u8; MOST];
-    bytes::copy(&chars[..len], &mut tidy);
+    spans::copy(&chars[..len], &mut tidy);
     Line { len, chars: tidy }
 }
 
@@ -30,7 +30,7 @@ fn joined(line: Line, text: &[u8]) -> Line
     let len = line.len;
     let mut chars = line.chars;
     let n = least(text.len(), MOST - len);
-    bytes::copy(&text[..n], &mut chars[len..]);
+    spans::copy(&text[..n], &mut chars[len..]);
     Line {
         len: len + n,
         chars,

@@ -1,5 +1,7 @@
 // A printed line in an array of fixed room, and what is put after it: words, decimal numbers and numbers of steps in their unit. Every call
 // takes anything, and its promise fixes its answer (specs/Lines.antt, specs/Numbers.antt).
+#![tactic(auto)]
+
 ghost use Rattle.std.specs.Prelude.{◌≡◌, []};
 ghost use Rattle.lines.specs.Lines.{line_of, adding};
 ghost use Rattle.lines.specs.Numbers.{decimal, pointed};

@@ -1,6 +1,8 @@
 // The stream from a board, together with the patience of a box that waits for an answer. The caller reads the serial line and a clock, and
 // hands in the bytes and the time, in milliseconds from any moment on. Every call takes anything, and its promise fixes its answer and
 // every lent byte (specs/Calls.antt).
+#![tactic(auto)]
+
 ghost use Rattle.std.specs.Prelude.{◌≡◌, length};
 ghost use Rattle.laws.specs.Promise.{Gives};
 ghost use Rattle.listen.specs.Calls.{starting, asking, listening};

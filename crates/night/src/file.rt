@@ -149,8 +149,8 @@ fn joined(path: &[u8], ending: &[u8], name: &mut [u8]) -> usize {
     if name.len() - ending.len() < path.len() {
         return 0;
     }
-    bytes::copy(path, name);
-    bytes::copy(ending, &mut name[path.len()..]);
+    spans::copy(path, name);
+    spans::copy(ending, &mut name[path.len()..]);
     path.len() + ending.len()
 }
 

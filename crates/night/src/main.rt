@@ -14,6 +14,8 @@
 // row and one that begins with # are skipped.
 //
 // LINE is a serial device, or - for standard input and output; the report then goes to standard error.
+#![tactic(auto)]
+
 mod checks;
 mod clock;
 mod collecting;

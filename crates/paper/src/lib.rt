@@ -1,5 +1,6 @@
 // The numbers that document 01 fixes for more than one crate: refusals, frames, codes, flags and read-only ids. specs/Numbers.antt has the
 // same names with the paper's words beside them, and every call that gives or compares one promises it by that name.
+#![tactic(auto)]
 
 // The numbers of refusal, in document 01's order.
 pub const TOO_LONG: u8 = 1;

@@ -1,5 +1,7 @@
 // What the box makes of a frame: the kind of reply, what it says to the request that is due, and a reading in its unit. Every call takes
 // anything, and its promise fixes its answer (specs/Calls.antt).
+#![tactic(auto)]
+
 ghost use Rattle.std.specs.Prelude.{◌≡◌};
 ghost use Rattle.reply.specs.Calls.{parsing, heeding, showing};
 

@@ -1,5 +1,7 @@
 // What the box asks of a board about a setting, written as a frame: a Get of an id, and a Set of a setting to a number. Every call takes
 // anything, and its promise fixes its answer and every lent byte (specs/Calls.antt).
+#![tactic(auto)]
+
 ghost use Rattle.std.specs.Prelude.{◌≡◌, ◌≤◌, ◌^◌, ltb, length};
 ghost use Rattle.paper.specs.Numbers.{frame_room};
 ghost use Rattle.laws.specs.Promise.{Gives};

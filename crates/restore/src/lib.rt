@@ -1,5 +1,7 @@
 // The restore list: which Sets bring a board from the table that it holds to the one that is wanted, in an order that it accepts. Every
 // call takes anything, and its promise fixes its answer and every lent byte (specs/Calls.antt).
+#![tactic(auto)]
+
 ghost use Rattle.std.specs.Prelude.{◌≡◌, length};
 ghost use Rattle.laws.specs.Promise.{Gives};
 ghost use Rattle.restore.specs.Calls.{listing, sets_due, due_in};

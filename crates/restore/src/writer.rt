@@ -17,7 +17,7 @@ fn put_bytes(out: &mut [u8], at: usize, bytes: &[u8])
     requires { at + length bytes.now ≤ length out.old }
     ensures { out.new ≡ sets out.old at bytes.now }
 {
-    bytes::copy(bytes, &mut out[at..]);
+    spans::copy(bytes, &mut out[at..]);
 }
 
 // Puts a Set at a place of the buffer, and returns the place after it. The frame writer wants room for the longest frame, which the buffer

@@ -1,5 +1,7 @@
 // A row of text: an id in four digits, a tab, a decimal number and a newline; written, parsed, and judged for the setting that is due.
 // Every call takes anything, and its promise fixes its answer and every lent byte (specs/Calls.antt).
+#![tactic(auto)]
+
 ghost use Rattle.std.specs.Prelude.{◌≡◌, length};
 ghost use Rattle.laws.specs.Promise.{Gives};
 ghost use Rattle.rows.specs.Calls.{writing, parsing, judging};
@@ -41,7 +43,7 @@ pub fn write(id: u16, number: u16, out: &mut [u8]) -> Written
     let row = writer::row_of(id, number);
     let len = row.len;
     let chars = row.chars;
-    Written::Len(bytes::copy(&chars[..len], out))
+    Written::Len(spans::copy(&chars[..len], out))
 }
 
 // Reads the row at the front of a text: 14 for a line of another form, or a text that ends before a newline.

@@ -2,6 +2,8 @@
 // file, and what a board's values are. Each takes whole the machine whose work it tells; for one that no calls give the sentence is
 // "refused 12", but `seen` then says nothing. Every call takes anything, and its promise fixes its answer (specs/Texts.antt,
 // specs/Values.antt).
+#![tactic(auto)]
+
 ghost use Rattle.std.specs.Prelude.{◌≡◌};
 ghost use Rattle.lines.specs.Lines.{line_of};
 ghost use Rattle.sentences.specs.Texts.{followed_text, progress_text, collected_text, saved_text, checked_text, summed_text};

@@ -1,5 +1,7 @@
 // The settings of document 01: the constant table, the pairs, and the nearest allowed number. Every call takes anything, and its promise
 // fixes its answer (specs/Calls.antt).
+#![tactic(auto)]
+
 ghost use Rattle.std.specs.Prelude.{◌≡◌};
 ghost use Rattle.settings.specs.Columns.{factories};
 ghost use Rattle.settings.specs.Rules.{all_allowed};

@@ -1,5 +1,7 @@
 // The stream of document 01, read piece by piece, for both ends of the serial line. Every call takes anything, and its promise fixes its
 // answer and every lent byte (specs/Calls.antt).
+#![tactic(auto)]
+
 ghost use Rattle.laws.specs.Promise.{Gives};
 ghost use Rattle.stream.specs.Calls.{hearing, held_of, allowed};
 ghost use Rattle.stream.specs.Stream.{outside};

@@ -94,7 +94,7 @@ pub(crate) fn with_more(held: Held, more: &[u8]) -> Held
     let len = held.len;
     let mut chars = held.chars;
     let n = least(more.len(), numbers::MOST_HELD - len);
-    bytes::copy(&more[..n], &mut chars[len..]);
+    spans::copy(&more[..n], &mut chars[len..]);
     Held {
         inside: true,
         len: len + n,

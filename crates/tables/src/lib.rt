@@ -1,5 +1,7 @@
 // A board's settings: the numbers of all of them, and what a Set makes of them. Every call takes anything, and its promise fixes its
 // answer (specs/Calls.antt).
+#![tactic(auto)]
+
 ghost use Rattle.std.specs.Prelude.{◌≡◌, true, ◌<◌};
 ghost use Rattle.paper.specs.Numbers.{not_allowed};
 ghost use Rattle.settings.specs.Columns.{count};

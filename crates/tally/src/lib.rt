@@ -1,5 +1,7 @@
 // The yard's sums: how many trailers came out how, and how many Sets their boards confirmed of how many that were due. The numbers are
 // those of the followers, and of nothing else. Every call takes anything, and its promise fixes its answer (specs/Calls.antt).
+#![tactic(auto)]
+
 ghost use Rattle.std.specs.Prelude.{◌≡◌};
 ghost use Rattle.tally.specs.Results.{nothing, tally_allowed};
 ghost use Rattle.tally.specs.Results as results;

@@ -11,6 +11,8 @@
 //
 // A program of this language has no exit status. Where the board does not start, or its settings at the end are not written, the last line on
 // standard error begins with "trailer: not", which the launcher turns into one.
+#![tactic(auto)]
+
 mod end;
 mod serve;
 mod start;

@@ -5,6 +5,8 @@
 // What a row has from its arrow on is not read, so for rows with the right answers standard output is standard input, byte for byte, and a
 // row for trying a case by hand needs no arrow: echo 'read 35 :154' | try_calls. The head of the file stdin tells the calls and the words.
 // Nothing is carried from one row to the next. An empty row and a row that begins with # are written as they are.
+#![tactic(auto)]
+
 mod args;
 mod boards;
 mod bytes_of;

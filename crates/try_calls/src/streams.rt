@@ -14,7 +14,7 @@ pub fn hear(row: &[u8]) {
 // Answers `hold LEN CHARACTERS ROOM PIECE ..`: pieces from a state inside a frame, which bytes could have left or not.
 pub fn hold(row: &[u8], given: &[u8]) {
     let mut chars = [0u8; MOST_HELD];
-    bytes::copy(&given[0..least(given.len(), MOST_HELD)], &mut chars);
+    spans::copy(&given[0..least(given.len(), MOST_HELD)], &mut chars);
     let held = Held {
         inside: true,
         len: args::number(row, 1),

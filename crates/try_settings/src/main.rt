@@ -1,6 +1,8 @@
 // Loops over whole ranges, each compared with a plain computation of its own, and prints a line for each: what was tried, how many agreed
 // and how many differed. The ranges are all wished numbers of every setting beside numbers of its partner, all ids, and all bytes through a
 // frame.
+#![tactic(auto)]
+
 mod by_hand;
 mod digits;
 mod ids;

@@ -1,5 +1,7 @@
 // A board's eight read-only values, asked for one after the other: who the board is, and its five readings. Every call takes anything, and
 // its promise fixes its answer (specs/Calls.antt). The words of the values are in `sentences`.
+#![tactic(auto)]
+
 ghost use Rattle.std.specs.Prelude.{◌≡◌};
 ghost use Rattle.reply.specs.Events.{heard, no_answer};
 ghost use Rattle.view.specs.Calls.{allowed, starting, viewing};

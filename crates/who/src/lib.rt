@@ -1,5 +1,7 @@
 // Who a board is, what it measures, and what of it is read out. Every call takes anything, and its promise fixes its answer
 // (specs/Calls.antt).
+#![tactic(auto)]
+
 ghost use Rattle.std.specs.Prelude.{◌≡◌};
 ghost use Rattle.who.specs.Parts.{identity_allowed, no_readings};
 ghost use Rattle.who.specs.Calls.{naming, reading_out};

@@ -41,7 +41,7 @@ pub(crate) fn front(from: &[u8]) -> [u8; paper::MOST_SERIAL]
     ensures { result ≡ front_of most_serial from.now }
 {
     let mut array = [0u8; paper::MOST_SERIAL];
-    bytes::copy(from, &mut array);
+    spans::copy(from, &mut array);
     array
 }
 

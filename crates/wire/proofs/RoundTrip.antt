@@ -16,7 +16,7 @@ use Rattle.paper.specs.Numbers.{colon, newline, frame_total}
 use Rattle.wire.specs.Frame.{check, digits_of, body, frame}
 use Rattle.wire.specs.Parsing.{Ended, good, refused, bytes_of, command_of, payload_of, data_of, bad_count, sums_up, body_says}
 use Rattle.wire.specs.Calls.{between, well_enclosed, parsing, parsing_chars, read_as, whole_says, writing, written_as}
-use Rattle.wire.specs.Laws.{hex, DigitsAreTwo, Writable, SaidIsFrame}
+use Rattle.wire.specs.Laws.{hex, DigitsAreTwo, SaidIsFrame}
 use Rattle.wire.specs.declared.Read.{Read}
 use Rattle.wire.proofs.Nibbles.{nibble_digit, digit_nibble, digit_is_digit, nibble_at_lem}
 use Rattle.wire.proofs.Bytes.{length_bytes_of, length_data, odd_count}

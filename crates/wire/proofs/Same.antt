@@ -5,6 +5,7 @@ use mathlib.Core.Bool.{Bool}
 use mathlib.Core.List.{List}
 use Prim.Native.Nat.{ℕ}
 use denote.Ref.{Bor}
+use denote.MutBor.{MutBor}
 use contract.Lifetimes.{Lfts}
 use Rattle.laws.proofs.Promise.{gives_same, equal_same}
 use Rattle.wire.specs.declared.Pair.{Pair}
@@ -17,7 +18,7 @@ use Rattle.wire.proofs.write_frame.Reads as write-frame
 use Rattle.wire.proofs.read_frame.Reads as read_frame
 use Rattle.wire.proofs.read_chars.Reads as read-chars
 
-module _ (κs : Lfts 2) (bytes buffer left left' : Bor (List ℕ)) where
+module _ (κs : Lfts 2) (bytes : Bor (List ℕ)) (buffer left left' : MutBor (List ℕ)) where
   pub write_frame_same : (command : ℕ) (r r' : Written)
       → write-frame.Post κs (command, (bytes, (buffer, tt))) r (command, (bytes, (left, tt)))
       → write-frame.Post κs (command, (bytes, (buffer, tt))) r' (command, (bytes, (left', tt))) → (r ≡ r') × (left.now ≡ left'.now)

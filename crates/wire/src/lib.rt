@@ -1,5 +1,7 @@
 // Frames of document 01, for both ends of the serial line: a frame written, and a whole frame parsed. Every call takes anything, and its
 // promise fixes its answer and every lent byte (specs/Calls.antt).
+#![tactic(auto)]
+
 ghost use Rattle.laws.specs.Lists.{every};
 ghost use Rattle.laws.specs.Promise.{Gives};
 ghost use Rattle.wire.specs.Digits.{nibble, is_digit};

@@ -67,7 +67,7 @@ pub(crate) fn read_digits(chars: &[u8], into: &mut [u8]) -> Read
     if (command as usize + writer::sum_of(&payload[..n])) % 256 != paper::FRAME_TOTAL {
         return Read::Refused(paper::BAD_SUM);
     }
-    bytes::copy(&payload[..n - 1], into);
+    spans::copy(&payload[..n - 1], into);
     Read::Frame {
         command,
         len: n - 1,
