@@ -5,10 +5,9 @@ use Prim.Native.Nat.{ℕ, suc, ◌≤◌, ◌<◌, ◌-◌, ◌^◌}
 use native.Mathlib.Nat.{not-suc-le-zero, le_of_suc-le-suc}
 use native.Mathlib.Omega.{arith}
 use borrow.Author.Tests.{ltb-true}
-use lib.Dec.{T}
 use lib.IntN.{ℤ, pos, negsuc, nat_abs}
-use lib.Signed.{mag, non_neg, lt_z}
-use mir.Val.{SFits, Fits, to_z, of_z, bits, hbits}
+use lib.Signed.{mag, lt_z}
+use mir.Val.{SFits, to_z, of_z, bits, hbits}
 use mir.ValLaws.{to_z-of_z, to_z_pos, half_full}
 use mir.Syntax.{Width}
 use Rattle.endian.specs.Numbers.{complement}
@@ -25,13 +24,6 @@ module _ (w : Width) (m : ℕ) (top : suc m ≡ 2 ^ bits w) where
       let back : m - (2 ^ bits w - suc n) ≡ n = rw (sym top) (omega arith) in
       ap (to_z w) back ∙ to_z_pos w n fits.sfits
 
-  pub flip_cast : (x : ℤ) → SFits w x → lt_z (to_z w (of_z w x)) (pos 0) ≡ true
-      → T (non_neg (to_z w (m - of_z w x))) × Fits w (nat_abs (to_z w (m - of_z w x)))
-  flip_cast x fits e = rw (flip x fits e) (tt, record { fits = half_full w fits.sfits })
-
-  pub flip_less : (x : ℤ) → SFits w x → lt_z (to_z w (of_z w x)) (pos 0) ≡ true → nat_abs (to_z w (m - of_z w x)) ≤ m
-  flip_less x fits e = rw (flip x fits e) (below (mag x) fits.sfits)
-
   pub flip_is : (width : ℕ) → 256 ^ width ≡ suc m → (x : ℤ) → SFits w x → lt_z (to_z w (of_z w x)) (pos 0) ≡ true
       → m - nat_abs (to_z w (m - of_z w x)) ≡ complement width x
   flip_is width same (pos n) fits e = absurd (not-suc-le-zero (ltb-true n 0 (rw (to_z-of_z w (pos n) fits) at e)))
@@ -39,10 +31,6 @@ module _ (w : Width) (m : ℕ) (top : suc m ≡ 2 ^ bits w) where
 
 -- any other number is its bits
 module _ (w : Width) where
-  pub plain_cast : (x : ℤ) → SFits w x → lt_z (to_z w (of_z w x)) (pos 0) ≡ false → T (non_neg (to_z w (of_z w x))) × Fits w (nat_abs (to_z w (of_z w x)))
-  plain_cast (pos n) fits e = rw (to_z-of_z w (pos n) fits) (tt, record { fits = half_full w fits.sfits })
-  plain_cast (negsuc n) fits e = absurd (false≢true (sym (rw (to_z-of_z w (negsuc n) fits) at e)))
-
   pub plain_is : (width : ℕ) (x : ℤ) → SFits w x → lt_z (to_z w (of_z w x)) (pos 0) ≡ false → nat_abs (to_z w (of_z w x)) ≡ complement width x
   plain_is width (pos n) fits e = ap nat_abs (to_z-of_z w (pos n) fits)
   plain_is width (negsuc n) fits e = absurd (false≢true (sym (rw (to_z-of_z w (negsuc n) fits) at e)))

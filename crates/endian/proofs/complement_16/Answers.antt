@@ -1,0 +1,17 @@
+-- `endian::complement_16` meets its contract. Assumes nothing.
+use mathlib.Core.Path.{refl}
+use borrow.Author.Rules.{rules}
+use mir.Val.{SFits}
+use mir.Syntax.{w16}
+use Rattle.endian.proofs.Encoding.{flip_is, plain_is}
+use Rattle.endian.proofs.complement_16.Goals as goal
+use Rattle.endian.proofs.complement_16.Goals.{Start}
+
+fits : (c : Start) → SFits w16 c.args.x
+fits s = search rules
+
+pub returns-then-x-lt0 : goal.returns-then-x-lt0
+returns-then-x-lt0 c = flip_is w16 65535 refl 2 refl c.args.x (fits (goal.at.returns-then-x-lt0 c).Start) c.if-x-lt0.true
+
+pub returns : goal.returns
+returns c = plain_is w16 2 c.args.x (fits (goal.at.returns c).Start) c.if-x-lt0.false
