@@ -47,7 +47,7 @@ module _ (k : ℕ) (h : k < count) where
         width_some = leb-true _ _ (up_to_at count (λ i. leb 1 (width_at i)) refl k h);
         width_most = leb-true _ _ (up_to_at count (λ i. leb (width_at i) 2) refl k h);
         width_holds = ltb-true _ _ (up_to_at count (λ i. ltb (high_at i) (256 ^ width_at i)) refl k h);
-        factory_in_lem = up_to_at count (λ i. in_range i (factory_at i)) refl k h;
+        factory_in = up_to_at count (λ i. in_range i (factory_at i)) refl k h;
         factory_agrees = up_to_at count (λ i. agrees (role_at i) (factory_at i) (factory_at (partner_at i))) refl k h;
       }
 

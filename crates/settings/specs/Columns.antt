@@ -18,12 +18,12 @@ pub record Entry : Type 0 where
   pub high : ℕ
   pub zero_too : Bool
   pub factory_number : ℕ
-  pub partner_id_lem : ℕ
+  pub partner_id : ℕ
   pub role : Role
 
 abbrev entry : ℕ → ℕ → ℕ → ℕ → Bool → ℕ → ℕ → Role → Entry
 entry i w l h z f p r =
-    record { id = i; width = w; low = l; high = h; zero_too = z; factory_number = f; partner_id_lem = p; role = r }
+    record { id = i; width = w; low = l; high = h; zero_too = z; factory_number = f; partner_id = p; role = r }
 
 abbrev pub entries : List Entry
 entries =
@@ -98,7 +98,7 @@ place_of id = before (λ x. eqb x id) ids
 
 -- the place of the other one of a pair is found by its id, so a new row renumbers nothing
 abbrev pub partner_ids : List ℕ
-partner_ids = map (λ (e : Entry). e.partner_id_lem) entries
+partner_ids = map (λ (e : Entry). e.partner_id) entries
 
 unfoldable pub partner_at : ℕ → ℕ
 partner_at k = place_of (get_or partner_ids k 0)

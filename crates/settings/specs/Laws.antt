@@ -98,7 +98,7 @@ pub record Row (k : ℕ) : Type 0 where
   pub width_some : 1 ≤ width_at k
   pub width_most : width_at k ≤ 2
   pub width_holds : high_at k < 256 ^ width_at k
-  pub factory_in_lem : in_range k (factory_at k) ≡ true
+  pub factory_in : in_range k (factory_at k) ≡ true
   pub factory_agrees : agrees (role_at k) (factory_at k) (factory_at (partner_at k)) ≡ true
 
 -- a number in its setting's own range, so an allowed one too, has room in the setting's width

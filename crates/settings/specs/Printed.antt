@@ -129,7 +129,7 @@ entry_of id part (some l) =
       high = l.high;
       zero_too = l.zero_too;
       factory_number = l.factory;
-      partner_id_lem = part.0;
+      partner_id = part.0;
       role = part.1;
     })
 

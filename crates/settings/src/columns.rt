@@ -6,7 +6,7 @@ ghost use Rattle.settings.specs.Columns.{count, id_at, width_at, low_at, high_at
 use crate::COUNT;
 
 // A setting's part in its pair.
-#[derive(Drop)]
+#[derive(Clone, Copy)]
 pub enum Role {
     Alone,
     LowFirst,

@@ -15,7 +15,7 @@ mod window;
 pub const COUNT: usize = 26;
 
 // A setting: its place in the table, its id, its width in bytes, and the place of the other one of its pair (its own where it is alone).
-#[derive(Drop)]
+#[derive(Clone, Copy)]
 pub struct Setting {
     pub index: usize,
     pub id: u16,
@@ -24,14 +24,14 @@ pub struct Setting {
 }
 
 // What a look-up finds: the setting, or none.
-#[derive(Drop)]
+#[derive(Clone, Copy)]
 pub enum Found {
     At(Setting),
     Nothing,
 }
 
 // A number, or document 01's number of the refusal.
-#[derive(Drop)]
+#[derive(Clone, Copy)]
 pub enum Number {
     Is(u16),
     Refused(u8),

@@ -9,7 +9,7 @@ use crate::columns;
 use crate::columns::Role;
 
 // The numbers from low to high, and 0 besides where `zero` says so.
-#[derive(Drop)]
+#[derive(Clone, Copy)]
 pub(crate) struct Window {
     pub(crate) zero: bool,
     pub(crate) low: u16,

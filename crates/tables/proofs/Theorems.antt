@@ -38,7 +38,7 @@ factory_is_printed = refl
 
 pub factory_is_allowed : FactoryIsAllowed
 unfolding allowed all_allowed
-factory_is_allowed = up_to_all count _ (λ k h. allowed_both k _ _ (rows_hold k h).factory_in_lem (rows_hold k h).factory_agrees)
+factory_is_allowed = up_to_all count _ (λ k h. allowed_both k _ _ (rows_hold k h).factory_in (rows_hold k h).factory_agrees)
 
 pub pairs_have_an_order : PairsHaveAnOrder
 pairs_have_an_order = pairs_order
