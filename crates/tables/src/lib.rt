@@ -15,20 +15,20 @@ ghost use Rattle.tables.specs.declared.Answer.{Answer};
 use settings::{COUNT, Found, Number, Setting};
 
 // The numbers of all settings, in the order of the ids.
-#[derive(Drop)]
+#[derive(Clone, Copy)]
 pub struct Table {
     pub numbers: [u16; COUNT],
 }
 
 // The answer to a Set of one setting: accepted, or the number of the refusal and, with 10, the nearest allowed number.
-#[derive(Drop)]
+#[derive(Clone, Copy)]
 pub enum Answer {
     Accepted,
     Refused { number: u8, nearest: u16 },
 }
 
 // The answer to a Set, and the table afterwards.
-#[derive(Drop)]
+#[derive(Clone, Copy)]
 pub struct Change {
     pub answer: Answer,
     pub table: Table,
