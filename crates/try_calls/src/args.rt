@@ -1,9 +1,8 @@
 // The words of a row, as a call takes them.
 use crate::bytes_of::SPACE;
 use crate::numbers::Number;
-use crate::parts::{BLANK, start_of};
+use crate::parts::{BLANK, find, start_of};
 use crate::{bytes_of, numbers};
-use bytes::scan::find;
 
 // Returns the first character of a word, and 0 where there is no such word.
 pub fn letter(row: &[u8], k: usize) -> u8 {

@@ -5,6 +5,7 @@ use crate::{args, filled, numbers, say, words};
 use answers::Outcome;
 use board::{Answered, Board, Sample};
 use who::{Identity, Verdict};
+use std::io;
 
 // The board of document 01's worked lines.
 const PRODUCT: u16 = 0xA381;
@@ -26,13 +27,13 @@ const CONSUMED: u16 = 0xEEFF;
 const CHARGE: u16 = 0x0FFF;
 
 // Answers `board ROOM ITEM ..`: a board with an empty serial, with the settings and readings of the row, is handed its other items.
-pub fn board(row: &[u8]) {
-    pieces(board_of(row, &[]), row, 2, args::number(row, 1));
+pub fn board(rt: &impl Print, row: &[u8]) -> io::Result<()> {
+    pieces(rt, board_of(row, &[]), row, 2, args::number(row, 1))
 }
 
 // Answers `serial ROOM SERIAL PIECE ..`: a board with the factory table and this serial is handed the pieces.
-pub fn serial(row: &[u8], serial: &[u8]) {
-    pieces(board_of(row, serial), row, 3, args::number(row, 1));
+pub fn serial(rt: &impl Print, row: &[u8], serial: &[u8]) -> io::Result<()> {
+    pieces(rt, board_of(row, serial), row, 3, args::number(row, 1))
 }
 
 // Returns a board with the settings, allowed or not, and the readings of a row.
@@ -62,114 +63,115 @@ fn sample(row: &[u8]) -> Sample {
 }
 
 // Hands a board the pieces of a row from a word on.
-fn pieces(board: Board, row: &[u8], first: usize, room: usize) {
+fn pieces(rt: &impl Print, board: Board, row: &[u8], first: usize, room: usize) -> io::Result<()> {
     let words = count(row);
     let mut after = board;
     let mut k = first;
     while k < words {
         let mut space = [0u8; SPACE];
         let len = args::bytes(row, k, &mut space);
-        after = takes(after, space, len, room);
+        after = takes(rt, after, space, len, room)?;
         k += 1;
     }
+    Ok(())
 }
 
 // Hands a board the piece at the front of a space, call after call: what one did not take goes to the next, until all is taken or a call
 // takes nothing. A word that puts in a number is no piece, and is skipped.
-fn takes(board: Board, space: [u8; SPACE], len: usize, room: usize) -> Board {
+fn takes(rt: &impl Print, board: Board, space: [u8; SPACE], len: usize, room: usize) -> io::Result<Board> {
     let mut after = board;
     if SPACE < len {
-        return after;
+        return Ok(after);
     }
     let mut gone = 0;
     loop {
-        let answered = once(after, &space[gone..len], room);
+        let answered = once(rt, after, &space[gone..len], room)?;
         let taken = answered.taken;
         after = answered.board;
         if taken == 0 {
-            return after;
+            return Ok(after);
         }
         if len - gone <= taken {
-            return after;
+            return Ok(after);
         }
         gone += taken;
     }
 }
 
 // Makes one call, and writes how many bytes it took, the outcome and the reply.
-fn once(board: Board, piece: &[u8], room: usize) -> Answered {
+fn once(rt: &impl Print, board: Board, piece: &[u8], room: usize) -> io::Result<Answered> {
     let mut space = [0u8; SPACE];
     let n = least(room, SPACE);
     let answered = board.answer(piece, &mut space[0..n]);
-    told(answered, space);
-    answered
+    told(rt, answered, space)?;
+    Ok(answered)
 }
 
 // Writes what a call answers.
-fn told(answered: Answered, space: [u8; SPACE]) {
+fn told(rt: &impl Print, answered: Answered, space: [u8; SPACE]) -> io::Result<()> {
     let met = answered.outcome;
-    say::number(answered.taken);
-    outcome(met);
-    say::front(space, answered.len);
-    words::say(words::END);
+    say::number(rt, answered.taken)?;
+    outcome(rt, met)?;
+    say::front(rt, space, answered.len)?;
+    words::say(rt, words::END)
 }
 
 // Writes an outcome.
-fn outcome(met: Outcome) {
+fn outcome(rt: &impl Print, met: Outcome) -> io::Result<()> {
     match met {
-        Outcome::Nothing => words::say(words::NOTHING),
-        Outcome::Answered => words::say(words::ANSWERED),
-        Outcome::Restarted => words::say(words::RESTARTED),
-        Outcome::Ignored => words::say(words::IGNORED),
-        Outcome::Refused(number) => say::refused(number),
+        Outcome::Nothing => words::say(rt, words::NOTHING),
+        Outcome::Answered => words::say(rt, words::ANSWERED),
+        Outcome::Restarted => words::say(rt, words::RESTARTED),
+        Outcome::Ignored => words::say(rt, words::IGNORED),
+        Outcome::Refused(number) => say::refused(rt, number),
     }
 }
 
 // Writes whether a start or a store was accepted.
-fn judged(verdict: Verdict) {
+fn judged(rt: &impl Print, verdict: Verdict) -> io::Result<()> {
     match verdict {
-        Verdict::Accepted => words::say(words::ACCEPTED),
-        Verdict::Refused(number) => say::refused(number),
+        Verdict::Accepted => words::say(rt, words::ACCEPTED),
+        Verdict::Refused(number) => say::refused(rt, number),
     }
 }
 
 // Answers `start PRODUCT VERSION SERIAL SETTING ..` with what comes back: product, version, serial and the settings that are not the
 // factory's.
-pub fn start(row: &[u8], serial: &[u8]) {
+pub fn start(rt: &impl Print, row: &[u8], serial: &[u8]) -> io::Result<()> {
     let table = filled::table_of(row, false);
     let started = Board::start(args::id(row, 1), args::id(row, 2), serial, table);
     let verdict = started.verdict;
-    judged(verdict);
+    judged(rt, verdict)?;
     let core = started.board.core;
-    identity(core.identity);
-    filled::differences(core.table);
+    identity(rt, core.identity)?;
+    filled::differences(rt, core.table)
 }
 
 // Writes product, version and serial.
-fn identity(who: Identity) {
-    say::id(who.product);
-    say::id(who.version);
+fn identity(rt: &impl Print, who: Identity) -> io::Result<()> {
+    say::id(rt, who.product)?;
+    say::id(rt, who.version)?;
     let serial = who.serial;
-    serial_front(serial, who.len);
+    serial_front(rt, serial, who.len)
 }
 
 // Writes a serial without what is past its length.
-fn serial_front(serial: [u8; MOST_SERIAL], len: usize) {
-    say::bytes(&serial[0..least(len, MOST_SERIAL)]);
+fn serial_front(rt: &impl Print, serial: [u8; MOST_SERIAL], len: usize) -> io::Result<()> {
+    say::bytes(rt, &serial[0..least(len, MOST_SERIAL)])
 }
 
 // Answers `store READING ..`: five readings are stored in a board whose readings are 1 before; then each of them is asked for.
-pub fn store(row: &[u8]) {
+pub fn store(rt: &impl Print, row: &[u8]) -> io::Result<()> {
     let before = ones();
     let stored = before.store(sample(row));
     let verdict = stored.verdict;
     let after = stored.board;
-    judged(verdict);
-    asked(after, VOLTAGE);
-    asked(after, CURRENT);
-    asked(after, FINE);
-    asked(after, CONSUMED);
-    asked(after, CHARGE);
+    judged(rt, verdict)?;
+    asked(rt, after, VOLTAGE)?;
+    asked(rt, after, CURRENT)?;
+    asked(rt, after, FINE)?;
+    asked(rt, after, CONSUMED)?;
+    asked(rt, after, CHARGE)
 }
 
 // Returns a board whose five readings are 1.
@@ -187,10 +189,10 @@ fn ones() -> Board {
 }
 
 // Writes the reply to a Get.
-fn asked(board: Board, id: u16) {
+fn asked(rt: &impl Print, board: Board, id: u16) -> io::Result<()> {
     let mut request = [0u8; SPACE];
     let written = requests::get(id, &mut request);
     let mut reply = [0u8; SPACE];
     let answered = board.answer(&request, &mut reply);
-    say::front(reply, answered.len);
+    say::front(rt, reply, answered.len)
 }

@@ -2,12 +2,12 @@
 ghost use Rattle.std.specs.Prelude.{◌≤◌, ◌≡◌, length};
 
 use crate::bytes_of::SPACE;
-use crate::parts::{BLANK, least, start_of};
+use crate::parts::{BLANK, find, least, start_of};
 use crate::{
     args, boards, collects, follows, frames, kinds, listens, replies, restores, sets, streams,
     texts, words,
 };
-use bytes::scan::find;
+use std::io;
 
 const BAR: u8 = b'|';
 
@@ -77,7 +77,7 @@ fn is_named(call: usize, name: &[u8]) -> bool {
     let all = table();
     let from = start_of(&all, BAR, call);
     let end = find(&all, from, all.len(), BLANK);
-    check::same(&all[from..end], name)
+    &all[from..end] == name
 }
 
 // Returns the call of a name, or one past all.
@@ -93,71 +93,71 @@ fn call_of(name: &[u8]) -> usize {
 }
 
 // Answers a row's call, or writes a question mark for a row that is none.
-pub fn obey(row: &[u8]) {
+pub fn obey(rt: &impl Print, row: &[u8]) -> io::Result<()> {
     let call = call_of(&row[0..find(row, 0, row.len(), BLANK)]);
     let all = table();
     let start = start_of(&all, BAR, call);
     let end = find(&all, start, all.len(), BAR);
     let blank = find(&all, start, end, BLANK);
-    with_kinds(call, row, &all[least(blank + 1, end)..end]);
+    with_kinds(rt, call, row, &all[least(blank + 1, end)..end])
 }
 
 // Answers the call of a row whose words have to be of these kinds.
-fn with_kinds(call: usize, row: &[u8], letters: &[u8]) {
+fn with_kinds(rt: &impl Print, call: usize, row: &[u8], letters: &[u8]) -> io::Result<()> {
     if !kinds::are_kinds(letters, row) {
-        return words::say(words::UNREAD);
+        return words::say(rt, words::UNREAD);
     }
     let mut space = [0u8; SPACE];
     let len = args::bytes(row, find(letters, 0, letters.len(), BYTES), &mut space);
-    with_bytes(call, row, space, len);
+    with_bytes(rt, call, row, space, len)
 }
 
 // Answers the call of a row, whose bytes are at the front of a space.
-fn with_bytes(call: usize, row: &[u8], space: [u8; SPACE], len: usize) {
-    asks(call, row, &space[0..least(len, SPACE)]);
+fn with_bytes(rt: &impl Print, call: usize, row: &[u8], space: [u8; SPACE], len: usize) -> io::Result<()> {
+    asks(rt, call, row, &space[0..least(len, SPACE)])
 }
 
 // Makes a call of frames or of the stream, else tries the others; `given` are the row's bytes, for a call that takes them. The calls are in
 // three functions, since a check takes much longer over all of them in one.
-fn asks(call: usize, row: &[u8], given: &[u8]) {
+fn asks(rt: &impl Print, call: usize, row: &[u8], given: &[u8]) -> io::Result<()> {
     match call {
-        READ => frames::read(row, given),
-        WRITE => frames::write(row, given),
-        GET => frames::get(row),
-        SET => frames::set(row),
-        HEAR => streams::hear(row),
-        HOLD => streams::hold(row, given),
-        LISTEN => listens::listen(row),
-        _ => asks_board(call, row, given),
+        READ => frames::read(rt, row, given),
+        WRITE => frames::write(rt, row, given),
+        GET => frames::get(rt, row),
+        SET => frames::set(rt, row),
+        HEAR => streams::hear(rt, row),
+        HOLD => streams::hold(rt, row, given),
+        LISTEN => listens::listen(rt, row),
+        _ => asks_board(rt, call, row, given),
     }
 }
 
 // Makes a call of the board, of what the box makes of its frames, or of the settings, else tries the others.
-fn asks_board(call: usize, row: &[u8], given: &[u8]) {
+fn asks_board(rt: &impl Print, call: usize, row: &[u8], given: &[u8]) -> io::Result<()> {
     match call {
-        BOARD => boards::board(row),
-        SERIAL => boards::serial(row, given),
-        START => boards::start(row, given),
-        STORE => boards::store(row),
-        REPLY => replies::reply(row, given),
-        SHOW => replies::show(row, given),
-        NEAREST => sets::nearest(row),
-        CHANGE => sets::change(row),
-        _ => asks_box(call, row),
+        BOARD => boards::board(rt, row),
+        SERIAL => boards::serial(rt, row, given),
+        START => boards::start(rt, row, given),
+        STORE => boards::store(rt, row),
+        REPLY => replies::reply(rt, row, given),
+        SHOW => replies::show(rt, row, given),
+        NEAREST => sets::nearest(rt, row),
+        CHANGE => sets::change(rt, row),
+        _ => asks_box(rt, call, row),
     }
 }
 
 // Makes a call of the backup text, of the restore, of the collector or of the tally.
-fn asks_box(call: usize, row: &[u8]) {
+fn asks_box(rt: &impl Print, call: usize, row: &[u8]) -> io::Result<()> {
     match call {
-        TEXT => texts::text(row),
-        PARSE => texts::parse(row),
-        LIST => restores::list(row),
-        DUE => restores::due(row),
-        FOLLOW => follows::follow(row),
-        COLLECT => collects::collect(row),
-        GATHER => collects::gather(row),
-        ANEW => follows::anew(row),
-        _ => words::say(words::UNREAD),
+        TEXT => texts::text(rt, row),
+        PARSE => texts::parse(rt, row),
+        LIST => restores::list(rt, row),
+        DUE => restores::due(rt, row),
+        FOLLOW => follows::follow(rt, row),
+        COLLECT => collects::collect(rt, row),
+        GATHER => collects::gather(rt, row),
+        ANEW => follows::anew(rt, row),
+        _ => words::say(rt, words::UNREAD),
     }
 }

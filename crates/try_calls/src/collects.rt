@@ -7,6 +7,7 @@ use collect::{Collected, Collector, Stage};
 use settings::{COUNT, Found, Setting};
 use tables::Table;
 use wire::Read;
+use std::io;
 
 // The code of a Get reply, and how many data it has with a value of one byte and of two.
 const GET: u8 = 7;
@@ -16,20 +17,20 @@ const ONE_BYTE: usize = 4;
 const TWO_BYTES: usize = 5;
 
 // Answers `collect ID ITEM ..`: a start, and every setting before this id answered with its factory number; then what the items tell.
-pub fn collect(row: &[u8]) {
+pub fn collect(rt: &impl Print, row: &[u8]) -> io::Result<()> {
     let begun = Collector::start().collector;
-    items(answered(begun, filled::place_of(args::id(row, 1))), row, 2);
+    items(rt, answered(begun, filled::place_of(args::id(row, 1))), row, 2)
 }
 
 // Answers `gather LEN SILENCES ITEM ..`: a collector made by hand, with LEN settings answered, every number 0, and no answer to this many Gets.
-pub fn gather(row: &[u8]) {
+pub fn gather(rt: &impl Print, row: &[u8]) -> io::Result<()> {
     let made = Collector {
         len: args::number(row, 1),
         numbers: [0u16; COUNT],
         silences: args::number(row, 2),
         stopped: false,
     };
-    items(made, row, 3);
+    items(rt, made, row, 3)
 }
 
 // Returns a collector with the settings before a place answered, each with its factory number.
@@ -84,24 +85,25 @@ fn good(collector: Collector, setting: Setting, number: u16) -> Collector {
 }
 
 // Hands a collector the items of a row, from a word on.
-fn items(collector: Collector, row: &[u8], first: usize) {
+fn items(rt: &impl Print, collector: Collector, row: &[u8], first: usize) -> io::Result<()> {
     let words = count(row);
     let mut asking = collector;
     let mut k = first;
     while k < words {
-        asking = item(asking, row, k);
+        asking = item(rt, asking, row, k)?;
         k += 1;
     }
+    Ok(())
 }
 
 // Hands a collector silence, or a frame.
-fn item(collector: Collector, row: &[u8], k: usize) -> Collector {
+fn item(rt: &impl Print, collector: Collector, row: &[u8], k: usize) -> io::Result<Collector> {
     if args::letter(row, k) == b's' {
-        return told(collector.no_answer());
+        return told(rt, collector.no_answer());
     }
     let mut space = [0u8; SPACE];
     let read = frames::read_at(row, k, &mut space);
-    told(heard(collector, read, space))
+    told(rt, heard(collector, read, space))
 }
 
 // Hands a collector a frame, or one that is refused.
@@ -114,28 +116,28 @@ fn heard(collector: Collector, read: Read, space: [u8; SPACE]) -> Collected {
 
 // Writes an answer: how far the collector is, how many settings were answered, and what is not the factory's in the table. Returns the
 // collector in it.
-fn told(answer: Collected) -> Collector {
+fn told(rt: &impl Print, answer: Collected) -> io::Result<Collector> {
     let stage = answer.stage;
     let collector = answer.collector;
-    say_stage(stage);
-    say::number(answer.answered);
-    filled::differences(answer.table);
-    words::say(words::END);
-    collector
+    say_stage(rt, stage)?;
+    say::number(rt, answer.answered)?;
+    filled::differences(rt, answer.table)?;
+    words::say(rt, words::END)?;
+    Ok(collector)
 }
 
 // Writes how far a collector is.
-fn say_stage(stage: Stage) {
+fn say_stage(rt: &impl Print, stage: Stage) -> io::Result<()> {
     match stage {
-        Stage::Waiting(setting) => with_id(words::WAITING, setting),
-        Stage::Done => words::say(words::DONE),
-        Stage::Stopped(setting) => with_id(words::STOPPED, setting),
-        Stage::Refused(number) => say::refused(number),
+        Stage::Waiting(setting) => with_id(rt, words::WAITING, setting),
+        Stage::Done => words::say(rt, words::DONE),
+        Stage::Stopped(setting) => with_id(rt, words::STOPPED, setting),
+        Stage::Refused(number) => say::refused(rt, number),
     }
 }
 
 // Writes a word with a setting's id.
-fn with_id(word: usize, setting: Setting) {
-    words::say(word);
-    say::id(setting.id);
+fn with_id(rt: &impl Print, word: usize, setting: Setting) -> io::Result<()> {
+    words::say(rt, word)?;
+    say::id(rt, setting.id)
 }

@@ -1,9 +1,9 @@
 // Tables as a row has them: the factory table with the numbers that the row puts in, and a table written by what is not the factory's.
 use crate::numbers::Number;
-use crate::parts::{BLANK, count, start_of};
+use crate::parts::{BLANK, count, find, start_of};
 use crate::{numbers, say};
-use bytes::scan::find;
 use settings::{COUNT, Found};
+use std::io;
 use tables::Table;
 
 // The marks of a setting in a row: an id, the first mark, a number, and after the second mark the number that is wanted, if it is another.
@@ -112,23 +112,24 @@ pub fn table_of(row: &[u8], is_wanted: bool) -> Table {
 }
 
 // Writes a setting, where its number is not the usual one.
-fn difference(place: usize, usual: u16, number: u16) {
+fn difference(rt: &impl Print, place: usize, usual: u16, number: u16) -> io::Result<()> {
     if number == usual {
-        return;
+        return Ok(());
     }
-    say::id(id_at(place));
-    say::char(EQUALS);
-    say::plain(number as usize);
+    say::id(rt, id_at(place))?;
+    say::char(rt, EQUALS)?;
+    say::plain(rt, number as usize)
 }
 
 // Writes every setting of a table whose number is not the factory's.
-pub fn differences(table: Table) {
+pub fn differences(rt: &impl Print, table: Table) -> io::Result<()> {
     let factory = Table::factory();
     let usual = factory.numbers;
     let numbers = table.numbers;
     let mut i = 0;
     while i < COUNT {
-        difference(i, usual[i], numbers[i]);
+        difference(rt, i, usual[i], numbers[i])?;
         i += 1;
     }
+    Ok(())
 }

@@ -1,8 +1,7 @@
 // The kinds of words: a letter for each, a capital one where any number of such words may follow each other at the end of a row.
 use crate::bytes_of::{SPACE, WRONG};
-use crate::parts::{BLANK, count, start_of};
+use crate::parts::{BLANK, count, find, start_of};
 use crate::{bytes_of, filled, numbers, texts};
-use bytes::scan::find;
 
 const ID_LEN: usize = 4;
 
@@ -31,12 +30,12 @@ fn is_setting(word: &[u8]) -> bool {
 
 // Returns whether a word says that no answer came, in place of a frame.
 fn is_silence(word: &[u8]) -> bool {
-    check::same(word, b"silence")
+    word == b"silence".as_slice()
 }
 
 // Returns whether a word says that a request was sent, in place of a read.
 fn is_asked(word: &[u8]) -> bool {
-    check::same(word, b"asked")
+    word == b"asked".as_slice()
 }
 
 // Returns whether a word is of a kind.

@@ -28,11 +28,18 @@ mod streams;
 mod texts;
 mod words;
 
-fn main() {
-    let mut input = io::large_buffer();
-    let len = io::read_full(libc::STDIN_FILENO, &mut input);
-    rows::run(&input[..len]);
-    if len == input.len() {
-        words::say(words::CUT_OFF);
+use std::io;
+use std::io::Read;
+
+// The most bytes of input that are read.
+const MOST_INPUT: usize = 65536;
+
+fn main(rt: HostRuntime) -> io::Result<()> {
+    let mut input = Vec::new(rt.alloc());
+    let len = rt.reader().take(MOST_INPUT as u64).read_to_end(&mut input)?;
+    rows::run(&rt, &input)?;
+    if len == MOST_INPUT {
+        words::say(&rt, words::CUT_OFF)?;
     }
+    Ok(())
 }

@@ -1,8 +1,6 @@
 // A text as parts with a mark between them: a row and its words, a table of words, the lines of a backup text.
 ghost use Rattle.std.specs.Prelude.{◌≤◌, length};
 
-use bytes::scan::find;
-
 // The mark between the words of a row.
 pub const BLANK: u8 = b' ';
 
@@ -11,6 +9,16 @@ pub fn least(wanted: usize, all: usize) -> usize
     ensures { (result ≤ wanted) × (result ≤ all) }
 {
     if wanted < all { wanted } else { all }
+}
+
+// Returns the first place of a byte from one place on, before another; that other place where there is none.
+pub fn find(all: &[u8], from: usize, to: usize, byte: u8) -> usize
+    requires ordered { from ≤ to }
+    requires within { to ≤ length all.now }
+    ensures low { from ≤ result }
+    ensures high { result ≤ to }
+{
+    from + spans::find(&all[from..to], byte)
 }
 
 // Returns where a part begins, the first being 0; the end of the text where there is no such part.

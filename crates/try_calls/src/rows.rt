@@ -1,18 +1,20 @@
 ghost use Rattle.std.specs.Prelude.{◌≤◌, length};
 
+use crate::parts::find;
 use crate::{calls, say, words};
-use bytes::scan::find;
+use std::io;
 
 const HEADING: u8 = b'#';
 
 // Answers every row, up to its newline.
-pub fn run(input: &[u8]) {
+pub fn run(rt: &impl Print, input: &[u8]) -> io::Result<()> {
     let mut at = 0;
     while at < input.len() {
         let end = find(input, at, input.len(), b'\n');
-        obeys(&input[at..end]);
+        obeys(rt, &input[at..end])?;
         at = end + 1;
     }
+    Ok(())
 }
 
 // Returns whether a row has no call: it is empty, or begins with a number sign.
@@ -46,14 +48,14 @@ fn end_of_words(line: &[u8]) -> usize
 }
 
 // Writes a row as it is, up to its arrow, and then the answer.
-fn obeys(line: &[u8]) {
+fn obeys(rt: &impl Print, line: &[u8]) -> io::Result<()> {
     if is_heading(line) {
-        say::text(line);
-        return say::char(b'\n');
+        say::text(rt, line)?;
+        return say::char(rt, b'\n');
     }
     let end = end_of_words(line);
-    say::text(&line[0..end]);
-    words::say(words::ARROW);
-    calls::obey(&line[0..end]);
-    say::char(b'\n');
+    say::text(rt, &line[0..end])?;
+    words::say(rt, words::ARROW)?;
+    calls::obey(rt, &line[0..end])?;
+    say::char(rt, b'\n')
 }

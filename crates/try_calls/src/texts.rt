@@ -1,10 +1,10 @@
 ghost use Rattle.std.specs.Prelude.{◌≤◌, length};
 
 use crate::bytes_of::SPACE;
-use crate::parts::{BLANK, count, least, start_of};
+use crate::parts::{BLANK, count, find, least, start_of};
 use crate::{args, bytes_of, filled, kinds, numbers, say, words};
 use backup::Checked;
-use bytes::scan::find;
+use std::io;
 use tables::Table;
 use wire::Written;
 
@@ -19,24 +19,24 @@ struct Draft {
 }
 
 // Answers `text ROOM SETTING ..`: a table as text.
-pub fn text(row: &[u8]) {
+pub fn text(rt: &impl Print, row: &[u8]) -> io::Result<()> {
     let mut space = [0u8; SPACE];
     let room = least(args::number(row, 1), SPACE);
     let table = filled::table_of(row, false);
     let written = backup::write(table, &mut space[0..room]);
     match written {
-        Written::Len(len) => shown(len, space),
-        Written::Refused(number) => say::refused(number),
+        Written::Len(len) => shown(rt, len, space),
+        Written::Refused(number) => say::refused(rt, number),
     }
 }
 
 // Writes the text at the front of what was lent.
-fn shown(len: usize, space: [u8; SPACE]) {
-    say::lines(&space[0..least(len, SPACE)]);
+fn shown(rt: &impl Print, len: usize, space: [u8; SPACE]) -> io::Result<()> {
+    say::lines(rt, &space[0..least(len, SPACE)])
 }
 
 // Answers `parse LINE=BYTES ..`: the factory text parsed, with these bytes in place of these lines and their newlines.
-pub fn parse(row: &[u8]) {
+pub fn parse(rt: &impl Print, row: &[u8]) -> io::Result<()> {
     let words = count(row);
     let mut text = factory_text();
     let mut k = 1;
@@ -45,7 +45,7 @@ pub fn parse(row: &[u8]) {
         k += 1;
     }
     let bytes = text.bytes;
-    reads(bytes, text.len);
+    reads(rt, bytes, text.len)
 }
 
 // Returns the factory text.
@@ -65,20 +65,20 @@ fn len_of(written: Written) -> usize {
 }
 
 // Parses a text and writes the answer: accepted, or the number and the line of the refusal; then what is not the factory's in its table.
-fn reads(bytes: [u8; SPACE], len: usize) {
+fn reads(rt: &impl Print, bytes: [u8; SPACE], len: usize) -> io::Result<()> {
     let read = backup::read(&bytes[0..least(len, SPACE)]);
     let verdict = read.verdict;
-    judged(verdict);
-    filled::differences(read.table);
+    judged(rt, verdict)?;
+    filled::differences(rt, read.table)
 }
 
 // Writes whether a text was accepted.
-fn judged(verdict: Checked) {
+fn judged(rt: &impl Print, verdict: Checked) -> io::Result<()> {
     match verdict {
-        Checked::Accepted => words::say(words::ACCEPTED),
+        Checked::Accepted => words::say(rt, words::ACCEPTED),
         Checked::Refused { number, line } => {
-            say::refused(number);
-            say::numbered(words::LINE, line);
+            say::refused(rt, number)?;
+            say::numbered(rt, words::LINE, line)
         }
     }
 }

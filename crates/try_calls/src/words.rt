@@ -1,9 +1,8 @@
 // The words of answers, by their numbers.
 ghost use Rattle.std.specs.Prelude.{◌≤◌, ◌≡◌, length};
 
-use crate::parts::start_of;
-use bytes::scan::find;
-use libc::STDOUT_FILENO;
+use crate::parts::{find, start_of};
+use std::io;
 
 const BAR: u8 = b'|';
 
@@ -93,9 +92,9 @@ fn table() -> [u8; SIZE]
 }
 
 // Writes a word.
-pub fn say(word: usize) {
+pub fn say(rt: &impl Print, word: usize) -> io::Result<()> {
     let all = table();
     let from = start_of(&all, BAR, word);
     let end = find(&all, from, all.len(), BAR);
-    io::write_all(STDOUT_FILENO, &all[from..end]);
+    rt.write_all(&all[from..end])
 }

@@ -1,5 +1,6 @@
 // All bytes as the data of a frame: its digits by the plain rule and its check by the plain sum, and the frame parsed again.
 use crate::say;
+use std::io;
 use wire::{Read, Written};
 
 const BYTES: usize = 256;
@@ -18,7 +19,7 @@ const GET: u8 = 7;
 const LEN: usize = 7;
 
 // Prints the line for all bytes.
-pub fn all() {
+pub fn all(rt: &impl Print) -> io::Result<()> {
     let mut agreed = 0;
     let mut byte = 0;
     while byte < BYTES {
@@ -26,9 +27,10 @@ pub fn all() {
         byte += 1;
     }
     say::text(
+        rt,
         b"bytes through a frame: that agree #, that differ #\n",
         [agreed, say::apart(BYTES, agreed), 0, 0],
-    );
+    )
 }
 
 // Returns the check that goes with a byte.
@@ -57,7 +59,7 @@ fn low(n: usize) -> u8 {
 
 // Returns whether a frame is at the front of what was lent.
 fn is_front(out: [u8; FRAME_ROOM], due: [u8; LEN]) -> bool {
-    check::same(&out[0..LEN], &due)
+    &out[0..LEN] == due.as_slice()
 }
 
 // Returns whether `write_frame` writes that frame.

@@ -1,11 +1,12 @@
 // All ids looked up, each compared with a plain search through the places.
 use crate::{by_hand, say};
 use settings::COUNT;
+use std::io;
 
 const IDS: usize = 65536;
 
 // Prints the line for all ids.
-pub fn all() {
+pub fn all(rt: &impl Print) -> io::Result<()> {
     let mut settings = 0;
     let mut agreed = 0;
     let mut id = 0;
@@ -18,9 +19,10 @@ pub fn all() {
         id += 1;
     }
     say::text(
+        rt,
         b"ids looked up, of them settings #: that agree #, that differ #\n",
         [settings, agreed, say::apart(IDS, agreed), 0],
-    );
+    )
 }
 
 // Returns the first place with an id, or one past the table.

@@ -10,8 +10,10 @@ mod say;
 mod sweep;
 mod sweeps;
 
-fn main() {
-    sweeps::all();
-    ids::all();
-    digits::all();
+use std::io;
+
+fn main(rt: HostRuntime) -> io::Result<()> {
+    sweeps::all(&rt)?;
+    ids::all(&rt)?;
+    digits::all(&rt)
 }

@@ -1,5 +1,5 @@
 // Text on standard output, and numbers for it.
-use libc::STDOUT_FILENO;
+use std::io;
 
 const NUMBERS: usize = 4;
 
@@ -8,39 +8,40 @@ const TWO_BYTES: usize = 65536;
 const MILLION: usize = 1000000;
 
 // Prints a text, with the next number in place of each '#', and as an id in place of each '@'.
-pub fn text(text: &[u8], numbers: [usize; NUMBERS]) {
+pub fn text(rt: &impl Print, text: &[u8], numbers: [usize; NUMBERS]) -> io::Result<()> {
     let mut used = 0;
     let mut i = 0;
     while i < text.len() {
-        used = part(text[i], numbers, used);
+        used = part(rt, text[i], numbers, used)?;
         i += 1;
     }
+    Ok(())
 }
 
 // Prints a text with one number, or none.
-pub fn one(words: &[u8], number: usize) {
-    text(words, [number, 0, 0, 0]);
+pub fn one(rt: &impl Print, words: &[u8], number: usize) -> io::Result<()> {
+    text(rt, words, [number, 0, 0, 0])
 }
 
 // Prints one part of a text, and returns how many numbers are used then.
-fn part(byte: u8, numbers: [usize; NUMBERS], used: usize) -> usize {
+fn part(rt: &impl Print, byte: u8, numbers: [usize; NUMBERS], used: usize) -> io::Result<usize> {
     let at = used % NUMBERS;
     if byte == b'#' {
-        io::print_decimal(STDOUT_FILENO, numbers[at] as u64);
-        return at + 1;
+        rt.print(numbers[at])?;
+        return Ok(at + 1);
     }
     if byte == b'@' {
-        id(numbers[at]);
-        return at + 1;
+        id(rt, numbers[at])?;
+        return Ok(at + 1);
     }
-    io::write_all(STDOUT_FILENO, &[byte]);
-    used
+    rt.write_all(&[byte])?;
+    Ok(used)
 }
 
 // Prints four digits with capital letters, as document 01 writes an id.
-fn id(n: usize) {
+fn id(rt: &impl Print, n: usize) -> io::Result<()> {
     let digits = [digit(n / 4096), digit(n / 256), digit(n / 16), digit(n)];
-    io::write_all(STDOUT_FILENO, &digits);
+    rt.write_all(&digits)
 }
 
 // Returns the last hex digit of a number.

@@ -2,6 +2,7 @@
 // through the numbers. What is accepted is what `set` accepts; the printed line shows it as runs.
 use crate::{by_hand, say};
 use settings::Number;
+use std::io;
 use tables::{Answer, Table};
 
 const WISHED: usize = 65536;
@@ -12,7 +13,7 @@ const NOWHERE: usize = 1000000;
 const NUMBER_NOT_ALLOWED: u8 = 10;
 
 // A setting beside its partner's number. The two of a pair both hold that number in the table, since equal numbers agree.
-#[derive(Drop)]
+#[derive(Clone, Copy)]
 pub struct Case {
     pub table: Table,
     pub place: usize,
@@ -21,7 +22,7 @@ pub struct Case {
 }
 
 // On the way up: the last accepted number so far, the next one from here, and how many wished numbers agreed.
-#[derive(Drop)]
+#[derive(Clone, Copy)]
 struct Seen {
     below: usize,
     above: usize,
@@ -29,18 +30,19 @@ struct Seen {
 }
 
 // Prints the line of one sweep.
-pub fn line(case: Case) {
+pub fn line(rt: &impl Print, case: Case) -> io::Result<()> {
     let first = next(case, 0);
-    say::text(b"@ takes #", [case.id as usize, first, 0, 0]);
-    let agreed = up(case, first);
+    say::text(rt, b"@ takes #", [case.id as usize, first, 0, 0])?;
+    let agreed = up(rt, case, first)?;
     say::text(
+        rt,
         b"; wished numbers that agree #, that differ #\n",
         [agreed, say::apart(WISHED, agreed), 0, 0],
-    );
+    )
 }
 
 // Goes up through the wished numbers and counts those on which calls and search agree.
-fn up(case: Case, first: usize) -> usize {
+fn up(rt: &impl Print, case: Case, first: usize) -> io::Result<usize> {
     let mut seen = Seen {
         below: NOWHERE,
         above: first,
@@ -48,46 +50,46 @@ fn up(case: Case, first: usize) -> usize {
     };
     let mut wished = 0;
     while wished < WISHED {
-        seen = turn(case, seen, wished);
+        seen = turn(rt, case, seen, wished)?;
         wished += 1;
     }
-    seen.agreed
+    Ok(seen.agreed)
 }
 
 // Compares the calls with the search for one wished number.
-fn turn(case: Case, seen: Seen, wished: usize) -> Seen {
-    let above = ahead(case, seen, wished);
+fn turn(rt: &impl Print, case: Case, seen: Seen, wished: usize) -> io::Result<Seen> {
+    let above = ahead(rt, case, seen, wished)?;
     let below = last(seen.below, above, wished);
     let is_due = agrees(
         case,
         say::short(wished),
         say::short(closer(wished, below, above)),
     );
-    Seen {
+    Ok(Seen {
         below,
         above,
         agreed: say::more(seen.agreed, is_due),
-    }
+    })
 }
 
 // Returns the next accepted number from here. Where it jumps, a run has ended.
-fn ahead(case: Case, seen: Seen, wished: usize) -> usize {
+fn ahead(rt: &impl Print, case: Case, seen: Seen, wished: usize) -> io::Result<usize> {
     if wished <= seen.above {
-        return seen.above;
+        return Ok(seen.above);
     }
     let above = next(case, wished);
     if above != wished {
-        jump(seen.below, above);
+        jump(rt, seen.below, above)?;
     }
-    above
+    Ok(above)
 }
 
 // Prints the end of a run and the start of the next. No run reaches 65535, so each has its end here.
-fn jump(below: usize, above: usize) {
+fn jump(rt: &impl Print, below: usize, above: usize) -> io::Result<()> {
     if above < WISHED {
-        say::text(b"..# #", [below, above, 0, 0]);
+        say::text(rt, b"..# #", [below, above, 0, 0])
     } else {
-        say::one(b"..#", below);
+        say::one(rt, b"..#", below)
     }
 }
 
