@@ -12,14 +12,14 @@ use settings::{Found, Setting};
 use wire::Written;
 
 // A Set: the setting, and the number that is wanted for it.
-#[derive(Drop)]
+#[derive(Clone, Copy)]
 pub struct Wanted {
     pub setting: Setting,
     pub number: u16,
 }
 
 // What the box asks: a Get of an id, or a Set.
-#[derive(Drop)]
+#[derive(Clone, Copy)]
 pub enum Request {
     Get(u16),
     Set(Wanted),
