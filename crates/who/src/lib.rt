@@ -11,7 +11,7 @@ mod numbers;
 mod values;
 
 // Who a board is: product and version of two bytes, and a serial of 0 to 32 bytes; past its length the array is 0.
-#[derive(Drop)]
+#[derive(Clone, Copy)]
 pub struct Identity {
     pub product: u16,
     pub version: u16,
@@ -20,21 +20,21 @@ pub struct Identity {
 }
 
 // That something was accepted, or document 01's number of the refusal.
-#[derive(Drop)]
+#[derive(Clone, Copy)]
 pub enum Verdict {
     Accepted,
     Refused(u8),
 }
 
 // An identity, and whether the one that was asked for was accepted.
-#[derive(Drop)]
+#[derive(Clone, Copy)]
 pub struct Named {
     pub identity: Identity,
     pub verdict: Verdict,
 }
 
 // What a board measures, at the published widths: 0.01 V, 0.1 A, 0.001 A, 0.1 Ah, 0.01 %.
-#[derive(Drop)]
+#[derive(Clone, Copy)]
 pub struct Readings {
     pub voltage: i16,
     pub current: i16,
@@ -44,14 +44,14 @@ pub struct Readings {
 }
 
 // A read-only value of up to 32 bytes: they fill the front of the array, and the rest is 0.
-#[derive(Drop)]
+#[derive(Clone, Copy)]
 pub struct Value {
     pub len: usize,
     pub bytes: [u8; paper::MOST_SERIAL],
 }
 
 // What an id reads out: its value, or the number of the refusal and no value.
-#[derive(Drop)]
+#[derive(Clone, Copy)]
 pub struct Looked {
     pub verdict: Verdict,
     pub value: Value,

@@ -2,12 +2,8 @@
 use mathlib.Core.Path.{refl}
 use Rattle.laws.specs.Promise.{overlaid, front_of}
 use Rattle.who.specs.Parts.{no_identity, identity_of}
-use Rattle.who.proofs.names.nobody.Statement.{statement}
-use Rattle.who.proofs.names.nobody.Tie as tie
+use Rattle.who.proofs.names.nobody.Goals as goal
 
-returns : tie.Need-returns
+pub returns : goal.returns
 unfolding no_identity identity_of front_of overlaid
 returns c = refl
-
-pub nobody-spec : {M : Type 1} → statement M
-nobody-spec = tie.close (tie.spec returns)

@@ -2,12 +2,8 @@
 use mathlib.Core.Path.{refl}
 use Rattle.laws.specs.Promise.{overlaid, front_of}
 use Rattle.who.specs.Calls.{value_of, no_value}
-use Rattle.who.proofs.values.refused.Statement.{statement}
-use Rattle.who.proofs.values.refused.Tie as tie
+use Rattle.who.proofs.values.refused.Goals as goal
 
-returns : tie.Need-returns
+pub returns : goal.returns
 unfolding no_value value_of front_of overlaid
 returns c = refl
-
-pub refused-spec : {M : Type 1} → statement M
-refused-spec = tie.close (tie.spec returns)
