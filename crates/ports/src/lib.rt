@@ -247,16 +247,15 @@ pub fn is_link(system: System, path: &[u8]) -> bool {
 
 // Writes a text to a new file, sets who may read and write it, and makes sure that it is on the disk.
 pub fn fill(file: &File, text: &[u8], mode: u32) -> io::Result<()> {
-    let mut to = file;
-    write_whole(&mut to, text)?;
+    write_file(file, text)?;
     file.set_permissions(Permissions::from_mode(mode))?;
     file.sync_all()
 }
 
-// Writes all of a text to a file; false where that failed.
-pub fn write_file(file: &File, text: &[u8]) -> bool {
+// Writes all of a text to a file.
+pub fn write_file(file: &File, text: &[u8]) -> io::Result<()> {
     let mut to = file;
-    write_to(&mut to, text)
+    write_whole(&mut to, text)
 }
 
 // Opens a new file by its whole name, which only its owner may read and write.

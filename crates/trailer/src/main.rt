@@ -18,9 +18,9 @@ mod serve;
 mod start;
 mod words;
 
-fn main() {
-    let begun = start::board();
+fn main(rt: HostRuntime) {
+    let begun = start::board(rt);
     if begun.ready {
-        serve::line(begun.board);
+        serve::line(rt, begun.board);
     }
 }

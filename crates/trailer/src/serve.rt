@@ -2,15 +2,16 @@ ghost use Rattle.std.specs.Prelude.{◌≤◌};
 
 use crate::{end, words};
 use board::Board;
+use ports::{Port, System};
 
 // How many reads of a second each may give nothing before a device is given up: a day.
 const MOST_QUIET: usize = 86400;
 
-// The board after a read, and what the read gave: bytes, nothing, or an end.
+// The board after a read, and what the read gave: bytes, or none where it failed.
 #[derive(Drop)]
 struct Turned {
     board: Board,
-    got: isize,
+    got: Option<usize>,
 }
 
 // The board after one call, and how many bytes that took.
@@ -21,11 +22,11 @@ struct Step {
 }
 
 // Takes bytes up to a frame's end, and sends the reply.
-fn answer_one(board: Board, rest: &[u8], output: i32) -> Step {
+fn answer_one(board: Board, rest: &[u8], line: &Port) -> Step {
     let mut reply = [0u8; paper::FRAME_ROOM];
     let answered = board.answer(rest, &mut reply);
     let board = answered.board;
-    words::put(output, &reply, answered.len);
+    words::put(line, &reply, answered.len);
     Step {
         board,
         taken: answered.taken,
@@ -33,12 +34,12 @@ fn answer_one(board: Board, rest: &[u8], output: i32) -> Step {
 }
 
 // Answers all frames of a piece. Every call takes at least one byte, so there are no more turns than bytes.
-fn answer_all(board: Board, piece: &[u8], output: i32) -> Board {
+fn answer_all(board: Board, piece: &[u8], line: &Port) -> Board {
     let mut board = board;
     let mut at = 0;
     let mut turns = piece.len();
     while turns > 0 && at < piece.len() {
-        let here = answer_one(board, &piece[at..], output);
+        let here = answer_one(board, &piece[at..], line);
         board = here.board;
         at = forward(at, here.taken, piece.len());
         turns -= 1;
@@ -55,67 +56,67 @@ fn forward(at: usize, by: usize, end: usize) -> usize
 }
 
 // Reads once, and answers what was read.
-fn turn(board: Board, input: i32, output: i32) -> Turned {
-    let mut piece = io::buffer();
-    let got = libc::read(input, &mut piece);
-    let len = io::count(got, &piece);
+fn turn(board: Board, line: &Port) -> Turned {
+    let mut piece = ports::buffer();
+    let got = ports::read(line, &mut piece);
+    let len = ports::count(got, &piece);
     Turned {
-        board: answer_all(board, &piece[..len], output),
+        board: answer_all(board, &piece[..len], line),
         got,
     }
 }
 
 // Serves standard input and output, until the input ends.
-fn pipe(board: Board) -> Board {
+fn pipe(board: Board, line: &Port) -> Board {
     let mut board = board;
-    let mut turns = u64::MAX;
-    while turns > 0 {
-        let here = turn(board, libc::STDIN_FILENO, libc::STDOUT_FILENO);
+    for _ in 0..u64::MAX {
+        let here = turn(board, line);
         board = here.board;
-        if here.got <= 0 {
+        if here.got.unwrap_or(0) == 0 {
             return board;
         }
-        turns -= 1;
     }
     board
 }
 
 // Serves a device, until it fails or is silent for a day. A read that gives nothing is a second of silence there.
-fn device(board: Board, fd: i32) -> Board {
+fn device(board: Board, line: &Port) -> Board {
     let mut board = board;
     let mut quiet = MOST_QUIET;
     let mut turns = u64::MAX;
     while turns > 0 && quiet > 0 {
-        let here = turn(board, fd, fd);
+        let here = turn(board, line);
         board = here.board;
-        if here.got < 0 {
+        let Some(got) = here.got else {
             return board;
-        }
-        quiet = if here.got == 0 { quiet - 1 } else { MOST_QUIET };
+        };
+        quiet = if got == 0 { quiet - 1 } else { MOST_QUIET };
         turns -= 1;
     }
     board
 }
 
 // Serves the serial line that the arguments ask for, and stores the settings at its end.
-pub(crate) fn line(board: Board) {
-    let mut path = io::buffer();
-    let len = words::word(words::LINE, &mut path);
+pub(crate) fn line(system: System, board: Board) {
+    let mut path = ports::buffer();
+    let len = words::word(system, words::LINE, &mut path);
     if words::is_left_out(&path[..len]) {
-        return end::store(pipe(board));
+        return end::store(system, pipe(board, &Port::Standard(system)));
     }
-    line_at(board, &path[..len]);
+    line_at(system, board, &path[..len]);
 }
 
 // Serves the device at a path, likewise.
-fn line_at(board: Board, path: &[u8]) {
-    let fd = os::open_update(path);
-    if fd < 0 {
-        os::fail(path);
-        words::say(b"not started: LINE cannot be opened");
-        return;
+fn line_at(system: System, board: Board, path: &[u8]) {
+    let opened = ports::open_update(system, path);
+    match opened {
+        Ok(file) => {
+            let served = device(board, &Port::Device(file));
+            end::store(system, served);
+        }
+        Err(error) => {
+            ports::fail(system, path, error);
+            words::say(system, b"not started: LINE cannot be opened");
+        }
     }
-    let served = device(board, fd);
-    libc::close(fd);
-    end::store(served);
 }

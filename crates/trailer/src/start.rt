@@ -1,6 +1,7 @@
 use crate::words;
 use backup::Checked;
 use board::{Board, Handed};
+use ports::System;
 use tables::Table;
 use who::Verdict;
 
@@ -34,52 +35,61 @@ fn none() -> Begun {
 }
 
 // Returns the number of an argument, and says so where it is none.
-fn number(place: usize, otherwise: u16) -> words::Number {
-    let mut text = io::buffer();
-    let len = words::word(place, &mut text);
+fn number(system: System, place: usize, otherwise: u16) -> words::Number {
+    let mut text = ports::buffer();
+    let len = words::word(system, place, &mut text);
     let number = words::hex(&text[..len], otherwise);
     if !number.is {
-        words::say(b"not started: PRODUCT and VERSION are four hex digits each, such as A381");
+        words::say(
+            system,
+            b"not started: PRODUCT and VERSION are four hex digits each, such as A381",
+        );
     }
     number
 }
 
 // Returns the board that the arguments ask for, or none and says why.
-pub(crate) fn board() -> Begun {
-    let chosen = table();
+pub(crate) fn board(system: System) -> Begun {
+    let chosen = table(system);
     if !chosen.ready {
         return none();
     }
-    let product = number(words::PRODUCT, PRODUCT);
+    let product = number(system, words::PRODUCT, PRODUCT);
     if !product.is {
         return none();
     }
-    let version = number(words::VERSION, VERSION);
+    let version = number(system, words::VERSION, VERSION);
     if !version.is {
         return none();
     }
     let table = chosen.table;
-    named(product.number, version.number, table)
+    named(system, product.number, version.number, table)
 }
 
 // Starts the board with the serial that the arguments ask for.
-fn named(product: u16, version: u16, table: Table) -> Begun {
-    let mut serial = io::buffer();
-    let len = words::word(words::SERIAL, &mut serial);
+fn named(system: System, product: u16, version: u16, table: Table) -> Begun {
+    let mut serial = ports::buffer();
+    let len = words::word(system, words::SERIAL, &mut serial);
     if words::is_left_out(&serial[..len]) {
-        return judged_start(Board::start(product, version, &[], table));
+        return judged_start(system, Board::start(product, version, &[], table));
     }
-    judged_start(Board::start(product, version, &serial[..len], table))
+    judged_start(
+        system,
+        Board::start(product, version, &serial[..len], table),
+    )
 }
 
 // Returns the board of a start, or none and says why.
-fn judged_start(judged: Handed) -> Begun {
+fn judged_start(system: System, judged: Handed) -> Begun {
     let board = judged.board;
     let verdict = judged.verdict;
     match verdict {
         Verdict::Accepted => Begun { ready: true, board },
         Verdict::Refused(_) => {
-            words::say(b"not started: SERIAL has over 32 characters, or one outside 0x20..0x7E");
+            words::say(
+                system,
+                b"not started: SERIAL has over 32 characters, or one outside 0x20..0x7E",
+            );
             none()
         }
     }
@@ -94,41 +104,47 @@ fn no_table() -> Chosen {
 }
 
 // Returns the table that the arguments ask for, or none and says why.
-fn table() -> Chosen {
-    let mut path = io::buffer();
-    let len = words::word(words::START, &mut path);
+fn table(system: System) -> Chosen {
+    let mut path = ports::buffer();
+    let len = words::word(system, words::START, &mut path);
     if words::is_left_out(&path[..len]) {
         return Chosen {
             ready: true,
             table: Table::factory(),
         };
     }
-    table_at(&path[..len])
+    table_at(system, &path[..len])
 }
 
 // Returns the table of the file at a path, or none and says why.
-fn table_at(path: &[u8]) -> Chosen {
-    let fd = os::open_read(path);
-    if fd < 0 {
-        os::fail(path);
-        words::say(b"not started: START cannot be read");
-        return no_table();
+fn table_at(system: System, path: &[u8]) -> Chosen {
+    let opened = ports::open_read(system, path);
+    match opened {
+        Ok(file) => {
+            let mut text = ports::buffer();
+            let count = ports::read_full(&file, &mut text);
+            read(system, &text[..count])
+        }
+        Err(error) => {
+            ports::fail(system, path, error);
+            words::say(system, b"not started: START cannot be read");
+            no_table()
+        }
     }
-    let mut text = io::buffer();
-    let count = io::read_full(fd, &mut text);
-    libc::close(fd);
-    read(&text[..count])
 }
 
 // Returns the table of a backup text, or none and says why.
-fn read(text: &[u8]) -> Chosen {
+fn read(system: System, text: &[u8]) -> Chosen {
     let backup = backup::read(text);
     let table = backup.table;
     let verdict = backup.verdict;
     match verdict {
         Checked::Accepted => Chosen { ready: true, table },
         Checked::Refused { number: _, line: _ } => {
-            words::say(b"not started: START is refused, and `night check` says why");
+            words::say(
+                system,
+                b"not started: START is refused, and `night check` says why",
+            );
             no_table()
         }
     }

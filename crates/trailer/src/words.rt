@@ -1,4 +1,9 @@
-ghost use Rattle.io.specs.Counts.{IsPrefixLen};
+ghost use Rattle.std.specs.Prelude.{◌≤◌, length};
+
+use ports::{Port, System};
+use std::fs::File;
+use std::io;
+use std::io::{Error, ErrorKind};
 
 // The places of the arguments.
 pub(crate) const LINE: usize = 1;
@@ -23,10 +28,10 @@ pub(crate) struct Number {
 }
 
 // Puts an argument at the front of `out` and returns its length: 0 where there is none.
-pub(crate) fn word(place: usize, out: &mut [u8]) -> usize
-    ensures { IsPrefixLen result out.new }
+pub(crate) fn word(system: System, place: usize, out: &mut [u8]) -> usize
+    ensures { result ≤ length out.new }
 {
-    os::arg(place, out)
+    ports::arg(system, place, out)
 }
 
 // Returns whether an argument leaves the choice to the program: none, or a minus alone.
@@ -99,16 +104,25 @@ fn joined(a: u16, b: u16, c: u16, d: u16) -> Number {
 }
 
 // Writes a line to standard error.
-pub(crate) fn say(text: &[u8]) {
-    io::write_all(libc::STDERR_FILENO, b"trailer: ");
-    io::write_all(libc::STDERR_FILENO, text);
-    io::write_all(libc::STDERR_FILENO, b"\n");
+pub(crate) fn say(system: System, text: &[u8]) {
+    let to = ports::error(system);
+    ports::write_all(to, b"trailer: ");
+    ports::write_all(to, text);
+    ports::write_all(to, b"\n");
 }
 
-// Writes the front of a buffer; false where that failed, or there is less.
-pub(crate) fn put(fd: i32, text: &[u8], len: usize) -> bool {
+// Writes the front of a buffer to a line; false where that failed, or there is less.
+pub(crate) fn put(line: &Port, text: &[u8], len: usize) -> bool {
     if text.len() < len {
         return false;
     }
-    io::write_all(fd, &text[..len])
+    ports::send(line, &text[..len])
+}
+
+// Writes the front of a buffer to a file, or says why not; there may be less.
+pub(crate) fn put_in(file: &File, text: &[u8], len: usize) -> io::Result<()> {
+    if text.len() < len {
+        return Err(Error::from(ErrorKind::InvalidInput));
+    }
+    ports::write_file(file, &text[..len])
 }
