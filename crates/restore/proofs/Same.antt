@@ -3,7 +3,7 @@
 use mathlib.Core.Path.{◌≡◌}
 use mathlib.Core.List.{List}
 use Prim.Native.Nat.{ℕ}
-use denote.Ref.{Bor}
+use denote.MutBor.{MutBor}
 use contract.Lifetimes.{Lfts}
 use Rattle.laws.proofs.Promise.{gives_same, equal_same}
 use Rattle.tables.specs.declared.Table.{Table}
@@ -14,7 +14,7 @@ use Rattle.restore.proofs.list.Reads as list
 use Rattle.restore.proofs.sets_due.Reads as sets-due
 use Rattle.restore.proofs.due_after.Reads as due-after
 
-pub list_same : (κs : Lfts 1) (from to : Table) (out left left' : Bor (List ℕ)) (r r' : Listed)
+pub list_same : (κs : Lfts 1) (from to : Table) (out left left' : MutBor (List ℕ)) (r r' : Listed)
     → list.Post κs (from, (to, (out, tt))) r (from, (to, (left, tt))) → list.Post κs (from, (to, (out, tt))) r' (from, (to, (left', tt)))
     → (r ≡ r') × (left.now ≡ left'.now)
 list_same κs from to out left left' r r' met met' = gives_same met met'

@@ -15,7 +15,7 @@ mod order;
 mod writer;
 
 // The Set that is due; nothing after the last; or document 01's number of the refusal.
-#[derive(Drop)]
+#[derive(Clone, Copy)]
 pub enum Due {
     Set(Wanted),
     Nothing,
@@ -23,14 +23,14 @@ pub enum Due {
 }
 
 // The number of Sets that are due, or of the refusal.
-#[derive(Drop)]
+#[derive(Clone, Copy)]
 pub enum Sets {
     Due(usize),
     Refused(u8),
 }
 
 // The list's length in bytes and its number of Sets, or the number of the refusal.
-#[derive(Drop)]
+#[derive(Clone, Copy)]
 pub enum Listed {
     List { len: usize, sets: usize },
     Refused(u8),

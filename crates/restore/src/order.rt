@@ -12,7 +12,7 @@ use settings::COUNT;
 use tables::Table;
 
 // The differing settings by their places, in the order in which their Sets go.
-#[derive(Drop)]
+#[derive(Clone, Copy)]
 pub(crate) struct Row {
     pub(crate) len: usize,
     pub(crate) indices: [usize; COUNT],
