@@ -39,15 +39,22 @@ fn pair(rt: &impl Print, first: u16, second: u16, numbers: [u16; 4]) -> io::Resu
 
 // Sweeps one setting beside one number of its partner.
 fn beside(rt: &impl Print, id: u16, other: u16, partner: u16) -> io::Result<()> {
-    say::text(rt, b"beside @ at #: ", [other as usize, partner as usize, 0, 0])?;
+    say::text(
+        rt,
+        b"beside @ at #: ",
+        [other as usize, partner as usize, 0, 0],
+    )?;
     let place = by_hand::place(id);
     let table = by_hand::with(id, partner, other, partner);
-    sweep::line(rt, Case {
-        table,
-        place,
-        id,
-        partner,
-    })
+    sweep::line(
+        rt,
+        Case {
+            table,
+            place,
+            id,
+            partner,
+        },
+    )
 }
 
 // Sweeps the settings from one place to before another.
@@ -56,12 +63,15 @@ fn alone(rt: &impl Print, from: usize, to: usize) -> io::Result<()> {
     while place < to {
         let id = by_hand::setting(place).id;
         let table = Table::factory();
-        sweep::line(rt, Case {
-            table,
-            place,
-            id,
-            partner: UNUSED,
-        })?;
+        sweep::line(
+            rt,
+            Case {
+                table,
+                place,
+                id,
+                partner: UNUSED,
+            },
+        )?;
         place += 1;
     }
     Ok(())
