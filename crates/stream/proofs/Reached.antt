@@ -35,7 +35,7 @@ proper_next (inside chars) b e = by (eqb b newline) (eqb b colon) refl refl
   where
     by : (s t : Bool) → eqb b newline ≡ s → eqb b colon ≡ t → proper (next (inside chars) b) ≡ true
     by true t p q = rw p
-    by false true p q = simp (p, q, e)
+    by false true p q = simp (p, q)
     by false false p q = rw (p, q, every_append, e, p, q)
 
 left_proper : (u : Unfinished) (bytes : List ℕ) → proper u ≡ true → proper (left_from u bytes) ≡ true
@@ -94,7 +94,7 @@ kept_next (inside chars) b = by (eqb b newline) (eqb b colon) refl refl
   where
     by : (s t : Bool) → eqb b newline ≡ s → eqb b colon ≡ t → kept (next (inside (take 74 chars)) b) ≡ kept (next (inside chars) b)
     by true t p q = rw p
-    by false true p q = simp (p, q, take-take 74 74 chars (omega arith))
+    by false true p q = simp (p, q)
     by false false p q = rw (p, q, take_again)
 
 kept_ended : (u : Unfinished) (b : ℕ) → ended_by (kept u) b ≡ ended_by u b

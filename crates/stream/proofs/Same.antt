@@ -4,7 +4,8 @@ use mathlib.Core.Path.{◌≡◌}
 use mathlib.Core.Bool.{Bool}
 use mathlib.Core.List.{List}
 use Prim.Native.Nat.{ℕ}
-use denote.Ref.{Bor}
+use denote.Bor.{Bor}
+use denote.MutBor.{MutBor}
 use contract.Lifetimes.{Lfts}
 use Rattle.laws.proofs.Promise.{gives_same, equal_same}
 use Rattle.stream.specs.declared.Held.{Held}
@@ -12,9 +13,8 @@ use Rattle.stream.specs.declared.Heard.{Heard}
 use Rattle.stream.proofs.Held.hear.Reads as hear
 use Rattle.stream.proofs.Held.is_allowed.Reads as is_allowed
 use Rattle.stream.proofs.Held.outside.Reads as outside
-use Rattle.stream.proofs.Held.is_allowed.Reads as is_allowed
 
-module _ (κs : Lfts 2) (bytes buffer left left' : Bor (List ℕ)) where
+module _ (κs : Lfts 2) (bytes : Bor (List ℕ)) (buffer left left' : MutBor (List ℕ)) where
   pub hear_same : (held : Held) (r r' : Heard)
       → hear.Post κs (held, (bytes, (buffer, tt))) r (held, (bytes, (left, tt))) → hear.Post κs (held, (bytes, (buffer, tt))) r' (held, (bytes, (left', tt)))
       → (r ≡ r') × (left.now ≡ left'.now)

@@ -13,7 +13,7 @@ mod pieces;
 mod unfinished;
 
 // The unfinished frame between two calls: whether there is one, and the characters since its colon. 74 of them mean "over 73".
-#[derive(Drop)]
+#[derive(Clone, Copy)]
 pub struct Held {
     pub inside: bool,
     pub len: usize,
@@ -22,7 +22,7 @@ pub struct Held {
 
 // What happened in a call on the stream: no frame ended; a frame with its command and the number of its data bytes; or a refusal, 1 to 4
 // of the frame that ended, 11 or 12 of the call.
-#[derive(Drop)]
+#[derive(Clone, Copy)]
 pub enum Event {
     Nothing,
     Frame { command: u8, len: usize },
@@ -30,7 +30,7 @@ pub enum Event {
 }
 
 // What a call on the stream answers: the advanced state, what happened, and how many bytes of the piece it took.
-#[derive(Drop)]
+#[derive(Clone, Copy)]
 pub struct Heard {
     pub held: Held,
     pub event: Event,
