@@ -13,7 +13,7 @@ mod numbers;
 pub const MOST: usize = 160;
 
 // The characters of a line, and 0 past them.
-#[derive(Drop)]
+#[derive(Clone, Copy)]
 pub struct Line {
     pub len: usize,
     pub chars: [u8; MOST],
