@@ -15,13 +15,13 @@ use Rattle.answers.specs.AsHeld.{message_of, said_of}
 
 -- three bytes, and 32 that are copied after them
 pub joined_is : (front rest : List ℕ) {last : List ℕ} → length front ≡ 35 → length rest ≡ 32
-    → last ≡ take (length rest) rest ++ drop (length rest) (take 32 (drop 3 front)) → put_mid 3 32 front last ≡ take 3 front ++ rest
+    → last ≡ overlaid (take (length (take 32 (drop 3 front))) rest) (take 32 (drop 3 front)) → put_mid 3 32 front last ≡ take 3 front ++ rest
 joined_is front rest {last} long full e =
     let room : 32 ≡ length front - 3 = omega arith in
     let fits : 3 + length rest ≤ length front = omega arith in
     let all : length front ≤ 3 + length rest = omega arith in
     ap (λ (n : ℕ). put_mid 3 n front last) room
-    ∙ copied_at rest front 3 fits (e ∙ ap (λ (n : ℕ). take (length rest) rest ++ drop (length rest) (take n (drop 3 front))) room)
+    ∙ copied_at rest front 3 fits (e ∙ ap (λ (n : ℕ). overlaid (take (length (take n (drop 3 front))) rest) (take n (drop 3 front))) room)
     ∙ sets-eq rest front 3 fits ∙ ap (λ (t : List ℕ). take 3 front ++ rest ++ t) (drop_of_length-le front all) ∙ append-nil (take 3 front ++ rest)
 
 -- an id, a flag and a value as it is held are those of the bytes that the value has

@@ -17,7 +17,7 @@ mod sets;
 mod values;
 
 // What a board is and holds, whatever its serial line has brought: who it is, its settings and its readings.
-#[derive(Drop)]
+#[derive(Clone, Copy)]
 pub struct Core {
     pub identity: Identity,
     pub table: Table,
@@ -25,7 +25,7 @@ pub struct Core {
 }
 
 // What became of a piece of input: no frame ended, or what the board did about the one that did.
-#[derive(Drop)]
+#[derive(Clone, Copy)]
 pub enum Outcome {
     Nothing,
     Answered,
@@ -35,7 +35,7 @@ pub enum Outcome {
 }
 
 // What is sent in reply: nothing, the frame of a `Message`, or the error frame.
-#[derive(Drop)]
+#[derive(Clone, Copy)]
 pub enum Sends {
     Nothing,
     Frame,
@@ -43,7 +43,7 @@ pub enum Sends {
 }
 
 // A command, and its data at the front of the array, with zeros after them.
-#[derive(Drop)]
+#[derive(Clone, Copy)]
 pub struct Message {
     pub command: u8,
     pub len: usize,
@@ -51,7 +51,7 @@ pub struct Message {
 }
 
 // What a board decides: the outcome, what it sends, and what it is and holds afterwards.
-#[derive(Drop)]
+#[derive(Clone, Copy)]
 pub struct Decided {
     pub outcome: Outcome,
     pub sends: Sends,

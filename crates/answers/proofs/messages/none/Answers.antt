@@ -2,12 +2,8 @@
 use mathlib.Core.Path.{refl}
 use Rattle.laws.specs.Promise.{overlaid, front_of}
 use Rattle.answers.specs.AsHeld.{message_of}
-use Rattle.answers.proofs.messages.none.Statement.{statement}
-use Rattle.answers.proofs.messages.none.Tie as tie
+use Rattle.answers.proofs.messages.none.Goals as goal
 
-returns : tie.Need-returns
+pub returns : goal.returns
 unfolding message_of front_of overlaid
 returns c = refl
-
-pub none_spec : {M : Type 1} → statement M
-none_spec = tie.close (tie.spec returns)
