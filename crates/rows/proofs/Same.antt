@@ -3,7 +3,8 @@
 use mathlib.Core.Path.{◌≡◌}
 use mathlib.Core.List.{List}
 use Prim.Native.Nat.{ℕ}
-use denote.Ref.{Bor}
+use denote.Bor.{Bor}
+use denote.MutBor.{MutBor}
 use contract.Lifetimes.{Lfts}
 use Rattle.laws.proofs.Promise.{gives_same, equal_same}
 use Rattle.wire.specs.declared.Written.{Written}
@@ -13,7 +14,7 @@ use Rattle.rows.proofs.write.Reads as write
 use Rattle.rows.proofs.read.Reads as read
 use Rattle.rows.proofs.judge.Reads as judge
 
-pub write_same : (κs : Lfts 1) (id n : ℕ) (out left left' : Bor (List ℕ)) (r r' : Written)
+pub write_same : (κs : Lfts 1) (id n : ℕ) (out left left' : MutBor (List ℕ)) (r r' : Written)
     → write.Post κs (id, (n, (out, tt))) r (id, (n, (left, tt))) → write.Post κs (id, (n, (out, tt))) r' (id, (n, (left', tt))) → (r ≡ r') × (left.now ≡ left'.now)
 write_same κs id n out left left' r r' met met' = gives_same met met'
 
