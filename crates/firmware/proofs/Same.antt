@@ -4,13 +4,14 @@ use mathlib.Core.Path.{◌≡◌}
 use mathlib.Core.List.{List}
 use Prim.Native.Nat.{ℕ}
 use denote.Ref.{Bor}
+use denote.MutBor.{MutBor}
 use contract.Lifetimes.{Lfts}
 use Rattle.laws.proofs.Promise.{gives_same, equal_same}
 use Rattle.firmware.proofs.reedsatchel_write_frame.Reads as write-frame
 use Rattle.firmware.proofs.reedsatchel_read_frame.Reads as read_frame
 use Rattle.firmware.proofs.reedsatchel_nearest.Reads as nearest
 
-module _ (κs : Lfts 2) (bytes buffer left left' : Bor (List ℕ)) (r r' : ℕ) where
+module _ (κs : Lfts 2) (bytes : Bor (List ℕ)) (buffer left left' : MutBor (List ℕ)) (r r' : ℕ) where
   pub write_frame_same : (command : ℕ)
       → write-frame.Post κs (command, (bytes, (buffer, tt))) r (command, (bytes, (left, tt)))
       → write-frame.Post κs (command, (bytes, (buffer, tt))) r' (command, (bytes, (left', tt))) → (r ≡ r') × (left.now ≡ left'.now)
