@@ -8,7 +8,7 @@ find_toolchain() {
     command -v rt >/dev/null 2>&1 || return 1
     missing='rt doc failed, so the toolchain was not found'
     guide=$(rt doc) || return 1
-    own=$(dirname "$(dirname "$guide")")/on/$(uname -m)
+    own=$(dirname "$guide")
     find_loader "$own/toolchain" "the toolchain" || return 1
     clang=$tools/bin/clang linker=$own/bin/rattle-link
 }
@@ -43,6 +43,12 @@ find_compiler() {
         [ -x "$part" ] || return 1
     done
     missing=''
+}
+
+# Proves the calls for C of a crate NAME, those of crates/NAME_c, and makes their archive: its path is then in `archive`.
+make_archive() { # REPOSITORY NAME
+    archive=$1/target/staticlib/lib$2.a
+    (cd "$1/crates/$2_c" && rt lib) && mkdir -p "$1/target/staticlib" && cp "$1/crates/$2_c/out/lib$2_c.a" "$archive"
 }
 
 # Runs a program that was built by the toolchain.
