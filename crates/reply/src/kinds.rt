@@ -5,7 +5,7 @@ ghost use Rattle.reply.specs.Replies.{front, fronted, telling, naming, numbering
 use crate::{Reply, Status, numbers};
 
 // What the first three bytes of a Get, Set or Async reply say; wrong where they are fewer, or the flags are no status.
-#[derive(Drop)]
+#[derive(Clone, Copy)]
 pub(crate) enum Front {
     Says { status: Status, id: u16 },
     Wrong,

@@ -11,7 +11,7 @@ mod numbers;
 mod units;
 
 // What a board says of a Get or a Set: flags 00, 01, 02 and 04.
-#[derive(Drop)]
+#[derive(Clone, Copy)]
 pub enum Status {
     Good,
     UnknownId,
@@ -21,7 +21,7 @@ pub enum Status {
 
 // A reply, with a kind for each code: 1, 3, 4, 5, 7, 8, A; or document 01's number of the refusal. The value of the last three kinds is the
 // rest of the data, after the first three bytes; the payload of the first is all of it.
-#[derive(Drop)]
+#[derive(Clone, Copy)]
 pub enum Reply {
     Done,
     Unknown { command: u8 },
@@ -35,7 +35,7 @@ pub enum Reply {
 
 // What a frame says to the request that is due: nothing, so that the box waits on; that all is good; or another status. The value of the
 // last two is the rest of the data, after the first three bytes.
-#[derive(Drop)]
+#[derive(Clone, Copy)]
 pub enum Heeded {
     Waits,
     Good,
@@ -43,7 +43,7 @@ pub enum Heeded {
 }
 
 // A reading in its unit, or document 01's number of the refusal.
-#[derive(Drop)]
+#[derive(Clone, Copy)]
 pub enum Shown {
     Volts(f64),
     Amperes(f64),
