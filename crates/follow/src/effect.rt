@@ -11,7 +11,7 @@ use requests::{Request, Wanted};
 
 // What a frame does: a Set reply with the due id, flag 00 and the due number confirms; one with the due id and anything else stops; all
 // else waits.
-#[derive(Drop)]
+#[derive(Clone, Copy)]
 pub(crate) enum Effect {
     Confirms,
     Stops,

@@ -15,7 +15,7 @@ mod state;
 
 // A restore on its way: the two tables that it started from, how many of the list's Sets the board has confirmed, and whether it has
 // stopped. What is due, and whether all is done, follows from these.
-#[derive(Drop)]
+#[derive(Clone, Copy)]
 pub struct Follower {
     pub from: Table,
     pub to: Table,
@@ -25,7 +25,7 @@ pub struct Follower {
 
 // How far a restore is: a request is due, always a Set; the tables were equal; all Sets are confirmed; it stopped at a Set; or document
 // 01's number of the refusal.
-#[derive(Drop)]
+#[derive(Clone, Copy)]
 pub enum Standing {
     Waiting(Request),
     Equal,
@@ -35,7 +35,7 @@ pub enum Standing {
 }
 
 // The advanced follower, how far it is, and how many Sets are confirmed.
-#[derive(Drop)]
+#[derive(Clone, Copy)]
 pub struct Followed {
     pub follower: Follower,
     pub standing: Standing,
