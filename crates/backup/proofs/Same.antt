@@ -3,7 +3,8 @@
 use mathlib.Core.Path.{◌≡◌}
 use mathlib.Core.List.{List}
 use Prim.Native.Nat.{ℕ}
-use denote.Ref.{Bor}
+use denote.Bor.{Bor}
+use denote.MutBor.{MutBor}
 use contract.Lifetimes.{Lfts}
 use Rattle.laws.proofs.Promise.{gives_same, equal_same}
 use Rattle.tables.specs.declared.Table.{Table}
@@ -12,7 +13,7 @@ use Rattle.backup.specs.declared.Backup.{Backup}
 use Rattle.backup.proofs.write.Reads as write
 use Rattle.backup.proofs.read.Reads as read
 
-pub write_same : (κs : Lfts 1) (table : Table) (out left left' : Bor (List ℕ)) (r r' : Written)
+pub write_same : (κs : Lfts 1) (table : Table) (out left left' : MutBor (List ℕ)) (r r' : Written)
     → write.Post κs (table, (out, tt)) r (table, (left, tt)) → write.Post κs (table, (out, tt)) r' (table, (left', tt)) → (r ≡ r') × (left.now ≡ left'.now)
 write_same κs table out left left' r r' met met' = gives_same met met'
 

@@ -15,14 +15,14 @@ mod reader;
 mod writer;
 
 // What parsing a text answers: accepted, or the number of the refusal and the line, the header being 1 (0 for 17 and 18).
-#[derive(Drop)]
+#[derive(Clone, Copy)]
 pub enum Checked {
     Accepted,
     Refused { number: u8, line: usize },
 }
 
 // What a text says: its table, or the factory table where it is refused.
-#[derive(Drop)]
+#[derive(Clone, Copy)]
 pub struct Backup {
     pub table: Table,
     pub verdict: Checked,

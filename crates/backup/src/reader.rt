@@ -30,7 +30,7 @@ pub(crate) fn begins(text: &[u8]) -> bool
         return false;
     }
     let header = crate::header();
-    check::same(&text[..HEADER_LEN], &header)
+    text[..HEADER_LEN] == header[..]
 }
 
 // Judges the end of a text: no byte may follow, and every pair must agree.

@@ -20,14 +20,14 @@ pub const ROW_ROOM: usize = 11;
 pub(crate) const TAB: u8 = b'\t';
 
 // What parsing a row answers: the id, the number and how many bytes the row takes, or the number of the refusal.
-#[derive(Drop)]
+#[derive(Clone, Copy)]
 pub enum Row {
     Is { id: u16, number: usize, len: usize },
     Refused(u8),
 }
 
 // A row judged: its number and how many bytes it takes, or the number of the refusal.
-#[derive(Drop)]
+#[derive(Clone, Copy)]
 pub enum Judged {
     Number { number: u16, len: usize },
     Refused(u8),
