@@ -6,9 +6,8 @@ use Prim.Native.Nat.{ℕ, zero, suc, ◌+◌, ◌≤◌, ◌<◌}
 use native.Mathlib.Omega.{arith}
 use borrow.Author.Tests.{leb-true, eqb-true, eq-eqb, ne_eqb}
 use lib.ListN.{length, get_or, take, drop, length-append, take-append-drop, drop_of_length-le}
-use lib.Seq.{length-take-le, take_all, take-append_seam}
+use lib.Seq.{length-take-le, take-append_seam}
 use lib.Dec.{ltb, leb, eqb}
-use Rattle.bytes.specs.Bytes.{index_after, index_of, slice}
 use Rattle.laws.specs.Lists.{every, before}
 use Rattle.laws.proofs.Bools.{and_left, and_right, both}
 use Rattle.laws.proofs.Lists.{drop_turn, before_first}
@@ -32,16 +31,11 @@ named_fits {n} serial verdict e is = by (serial_fits serial) refl
     by true fit = ap is_accepted (sym is ∙ ap (λ (m : Named). m.verdict) (e ∙ named_accepted 0 0 serial fit)) ∙ sym fit
     by false fit = ap is_accepted (sym is ∙ ap (λ (m : Named). m.verdict) (e ∙ named_refused 0 0 serial fit)) ∙ sym fit
 
--- the library's place of the first zero byte
-index_before : (l : List ℕ) → index_of 0 l ≡ before (eqb 0) l
-unfolding index_of index_after
-index_before [] = refl
-index_before (zero ∷ l) = refl
-index_before (suc x ∷ l) = rw (ne_eqb (suc x) 0 (λ e. absurd (omega arith)), ne_eqb 0 (suc x) (λ e. absurd (omega arith))) (ap suc (index_before l))
-
-pub zero_found : (value : List ℕ) → 0 + index_of 0 (slice 0 (length value) value) ≡ before (eqb 0) value
-unfolding slice
-zero_found value = rw (take_all (length value) value (omega arith)) (omega (arith, index_before value))
+-- the place of the first zero byte, by either side of the test
+pub zero_found : (value : List ℕ) → before (λ b. eqb b 0) value ≡ before (eqb 0) value
+zero_found [] = refl
+zero_found (zero ∷ l) = refl
+zero_found (suc x ∷ l) = rw (ne_eqb (suc x) 0 (λ e. absurd (omega arith)), ne_eqb 0 (suc x) (λ e. absurd (omega arith))) (ap suc (zero_found l))
 
 -- the bytes of a serial are no zero bytes
 not_zero : (b : ℕ) → printed b ≡ true → eqb 0 b ≡ false

@@ -16,7 +16,7 @@ pub const COUNT: usize = 8;
 
 // How many ids were answered, how many of them with a value that was understood, and how many times in a row no answer came to the Get of
 // the next.
-#[derive(Drop)]
+#[derive(Clone, Copy)]
 pub struct Viewer {
     pub answered: usize,
     pub understood: usize,
@@ -25,7 +25,7 @@ pub struct Viewer {
 
 // What is next: the id that is due; nothing, as all were answered, or as no answer came to the Get of this id; or document 01's number of
 // the refusal.
-#[derive(Drop)]
+#[derive(Clone, Copy)]
 pub enum Next {
     Waiting(u16),
     Done,
@@ -34,7 +34,7 @@ pub enum Next {
 }
 
 // What a frame came to: it said nothing of the id that was due; or it answered that id, with a value that is understood or with none.
-#[derive(Drop)]
+#[derive(Clone, Copy)]
 pub enum Sight {
     Nothing,
     Understood(u16),
@@ -42,7 +42,7 @@ pub enum Sight {
 }
 
 // The advanced viewer, what is next, and what the frame came to.
-#[derive(Drop)]
+#[derive(Clone, Copy)]
 pub struct Viewed {
     pub viewer: Viewer,
     pub next: Next,

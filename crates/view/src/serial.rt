@@ -30,6 +30,6 @@ fn width_of(len: usize) -> usize
 pub(crate) fn is_serial(value: &[u8]) -> bool
     ensures { result ≡ serial_reads value.now }
 {
-    let end = bytes::scan::find(value, 0, value.len(), 0);
+    let end = spans::find(value, 0);
     fits(&value[..end]) & (value.len() == width_of(end))
 }
