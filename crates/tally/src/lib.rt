@@ -16,7 +16,7 @@ mod sums;
 
 // How many trailers were restored, were equal already, stopped at a Set that the board answered otherwise, gave no answer, and were not
 // begun; and of those followed, how many Sets were confirmed and how many were due.
-#[derive(Drop)]
+#[derive(Clone, Copy)]
 pub struct Tally {
     pub done: usize,
     pub equal: usize,
@@ -28,7 +28,7 @@ pub struct Tally {
 }
 
 // The tally afterwards, and whether the trailer was counted.
-#[derive(Drop)]
+#[derive(Clone, Copy)]
 pub struct Counted {
     pub tally: Tally,
     pub verdict: Verdict,
