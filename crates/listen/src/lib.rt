@@ -15,7 +15,7 @@ mod numbers;
 mod times;
 
 // The unfinished frame, and two times: when the trailer was begun, and when the last request was sent.
-#[derive(Drop)]
+#[derive(Clone, Copy)]
 pub struct Listener {
     pub held: Held,
     pub begun: u64,
@@ -24,7 +24,7 @@ pub struct Listener {
 
 // What a read tells: to wait on; a frame, its data at the front of the lent buffer; a frame that document 01 refuses, 1 to 4; that the
 // board gave no answer in time; or the number of the refusal of the call itself, 11 or 12.
-#[derive(Drop)]
+#[derive(Clone, Copy)]
 pub enum Told {
     Nothing,
     Frame { command: u8, len: usize },
@@ -34,7 +34,7 @@ pub enum Told {
 }
 
 // The advanced listener, what it tells, and how many bytes of the piece it took.
-#[derive(Drop)]
+#[derive(Clone, Copy)]
 pub struct Listened {
     pub listener: Listener,
     pub told: Told,
