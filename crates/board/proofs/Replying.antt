@@ -14,7 +14,7 @@ use Rattle.wire.specs.Parsing.{Ended, good, refused}
 use Rattle.stream.specs.Stream.{outside, frames_of, left_by, taken}
 use Rattle.stream.specs.Calls as stream
 use Rattle.wire.specs.Laws.{Writable}
-use Rattle.stream.specs.Laws.{Writables, nothing, whole}
+use Rattle.stream.specs.Laws.{Writables, whole}
 use Rattle.wire.proofs.Frames.{length_frame}
 use Rattle.stream.proofs.Reached.{unfinished_kept}
 use Rattle.stream.proofs.Streams.{taken_within}

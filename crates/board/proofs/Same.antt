@@ -3,7 +3,8 @@ use mathlib.Core.Path.{◌≡◌}
 use mathlib.Core.Bool.{Bool}
 use mathlib.Core.List.{List}
 use Prim.Native.Nat.{ℕ}
-use denote.Ref.{Bor}
+use denote.Bor.{Bor}
+use denote.MutBor.{MutBor}
 use contract.Lifetimes.{Lfts}
 use Rattle.laws.proofs.Promise.{equal_same, gives_same}
 use Rattle.tables.specs.declared.Table.{Table}
@@ -30,7 +31,7 @@ pub store_same : (board : Board) (given : Sample) (r r' : Handed) → store.Post
     → store.Post tt (board, (given, tt)) r' (board, (given, tt)) → r ≡ r'
 store_same board given r r' met met' = equal_same met met'
 
-module _ (κs : Lfts 2) (board : Board) (piece reply reply₁ reply₂ : Bor (List ℕ)) (r r' : Answered) where
+module _ (κs : Lfts 2) (board : Board) (piece : Bor (List ℕ)) (reply reply₁ reply₂ : MutBor (List ℕ)) (r r' : Answered) where
   pub answer_same : answer.Post κs (board, (piece, (reply, tt))) r (board, (piece, (reply₁, tt)))
       → answer.Post κs (board, (piece, (reply, tt))) r' (board, (piece, (reply₂, tt))) → (r ≡ r') × (reply₁.now ≡ reply₂.now)
   answer_same met met' = gives_same met met'

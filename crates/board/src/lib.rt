@@ -19,7 +19,7 @@ mod measured;
 mod numbers;
 
 // Five readings as they are handed in, in more bits than a board stores: it stores them all or none.
-#[derive(Drop)]
+#[derive(Clone, Copy)]
 pub struct Sample {
     pub voltage: i64,
     pub current: i64,
@@ -29,21 +29,21 @@ pub struct Sample {
 }
 
 // A board: what it is and holds, and the unfinished frame of its serial line.
-#[derive(Drop)]
+#[derive(Clone, Copy)]
 pub struct Board {
     pub core: Core,
     pub held: Held,
 }
 
 // A board, and whether what was asked of it was accepted.
-#[derive(Drop)]
+#[derive(Clone, Copy)]
 pub struct Handed {
     pub board: Board,
     pub verdict: Verdict,
 }
 
 // What a call on a piece of input answers: the advanced board, the outcome, the reply's length, and how many bytes it took.
-#[derive(Drop)]
+#[derive(Clone, Copy)]
 pub struct Answered {
     pub board: Board,
     pub outcome: Outcome,
