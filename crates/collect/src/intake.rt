@@ -9,7 +9,7 @@ use reply::Heeded;
 use settings::COUNT;
 
 // What an event does: its number is taken, the collector stops, it waits on, or one more time there was no answer.
-#[derive(Drop)]
+#[derive(Clone, Copy)]
 pub(crate) enum Intake {
     Takes(u16),
     Stops,

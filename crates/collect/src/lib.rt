@@ -17,7 +17,7 @@ mod state;
 
 // How many settings were answered, their numbers in the order of the ids, 0 past them, how many times no answer came to the Get of the one
 // that is due, and whether it has stopped. Which setting is due, and whether all is done, follows from these.
-#[derive(Drop)]
+#[derive(Clone, Copy)]
 pub struct Collector {
     pub len: usize,
     pub numbers: [u16; COUNT],
@@ -26,7 +26,7 @@ pub struct Collector {
 }
 
 // How far it is: a setting is asked for; every one was answered; it stopped at a setting; or document 01's number of the refusal.
-#[derive(Drop)]
+#[derive(Clone, Copy)]
 pub enum Stage {
     Waiting(Setting),
     Done,
@@ -35,7 +35,7 @@ pub enum Stage {
 }
 
 // The advanced collector, how far it is, how many settings were answered, and the table: the factory table unless it is done.
-#[derive(Drop)]
+#[derive(Clone, Copy)]
 pub struct Collected {
     pub collector: Collector,
     pub stage: Stage,

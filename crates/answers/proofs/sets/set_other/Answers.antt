@@ -9,6 +9,7 @@ use Rattle.answers.proofs.Deciding.{sends_is, sets_none, sets_some}
 use Rattle.answers.proofs.sets.set_other.Goals as goal
 use Rattle.answers.proofs.sets.set_other.Goals.{After-read_only-looked}
 
+-- what the look-up answers
 looked : (c : After-read_only-looked) → c.read_only-looked.result ≡ looked_of (read_only c.args.core.identity c.args.core.readings c.args.id)
 looked c = c.read_only-looked.ensures ∙ sym (read_given _ _ _ c.requires)
 
