@@ -40,11 +40,9 @@ find_archive() { # NAME GIVEN
         archive=$2
         return
     fi
-    [ -d "$root/crates/$1" ] || die "there is no crate $1"
-    echo "bench: proving the crate $1 and making its archive" >&2
-    # shellcheck disable=SC2016
-    quietly "rt staticlib $1" sh -c 'cd "$1" && exec rt staticlib "$2"' sh "$root" "$1"
-    archive=$root/target/staticlib/lib$1.a
+    [ -d "$root/crates/$1_c" ] || die "there is no crate $1_c"
+    echo "bench: proving the crate $1_c and making its archive" >&2
+    quietly "rt lib in crates/$1_c" make_archive "$root" "$1"
 }
 
 compile() { # SOURCE OBJECT WORDS...

@@ -5,17 +5,18 @@ use mathlib.Core.List.{List}
 use Prim.Native.Nat.{ℕ}
 use lib.IntN.{ℤ}
 use denote.Ref.{Bor}
+use denote.MutBor.{MutBor}
 use contract.Lifetimes.{Lfts}
 use Rattle.laws.proofs.Promise.{gives_same}
 use Rattle.bench.proofs.reedsatchel_bench_stream.Reads as stream
 use Rattle.bench.proofs.reedsatchel_bench_board.Reads as board
 
-pub stream_same : (κs : Lfts 3) (bytes sizes into left left' : Bor (List ℕ)) (r r' : ℕ)
+pub stream_same : (κs : Lfts 3) (bytes sizes : Bor (List ℕ)) (into left left' : MutBor (List ℕ)) (r r' : ℕ)
     → stream.Post κs (bytes, (sizes, (into, tt))) r (bytes, (sizes, (left, tt)))
     → stream.Post κs (bytes, (sizes, (into, tt))) r' (bytes, (sizes, (left', tt))) → (r ≡ r') × (left.now ≡ left'.now)
 stream_same κs bytes sizes into left left' r r' met met' = (met.counted ∙ sym met'.counted, met.left ∙ sym met'.left)
 
-module _ (κs : Lfts 4) (product version : ℕ) (serial : Bor (List ℕ)) (voltage current fine consumed charge : ℤ) (bytes sizes out left left' : Bor (List ℕ)) where
+module _ (κs : Lfts 4) (product version : ℕ) (serial : Bor (List ℕ)) (voltage current fine consumed charge : ℤ) (bytes sizes : Bor (List ℕ)) (out left left' : MutBor (List ℕ)) where
   pub board_same : (r r' : ℕ)
       → board.Post κs (product, (version, (serial, (voltage, (current, (fine, (consumed, (charge, (bytes, (sizes, (out, tt))))))))))) r
       (product, (version, (serial, (voltage, (current, (fine, (consumed, (charge, (bytes, (sizes, (left, tt)))))))))))

@@ -14,8 +14,7 @@ use stream::{Event, Held};
 
 // Reads `bytes` from outside a frame, with one call for each size: the call is handed at most that many of the bytes not taken yet, and
 // `into` is lent to every call. Returns the number of frames that were not refused.
-#[unsafe(no_mangle)]
-pub extern "C" fn reedsatchel_bench_stream(bytes: &[u8], sizes: &[u32], into: &mut [u8]) -> u64
+pub fn reedsatchel_bench_stream(bytes: &[u8], sizes: &[u32], into: &mut [u8]) -> u64
     ensures { Streamed (streaming (held_of outside) bytes.now sizes.now (length into.old)) into.old result into.new }
 {
     let mut held = Held::outside();
@@ -37,8 +36,7 @@ pub extern "C" fn reedsatchel_bench_stream(bytes: &[u8], sizes: &[u32], into: &m
 
 // Hands `bytes` in the same way to a factory board of this identity and these readings. Its replies are put end to end at the front of
 // `out`, of which each call is lent what is left. Returns the length of all replies together.
-#[unsafe(no_mangle)]
-pub extern "C" fn reedsatchel_bench_board(
+pub fn reedsatchel_bench_board(
     product: u16,
     version: u16,
     serial: &[u8],
