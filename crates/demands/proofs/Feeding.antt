@@ -23,7 +23,6 @@ use Rattle.stream.specs.declared.Held.{Held}
 use Rattle.stream.proofs.Helds.{unfinished_outside}
 use Rattle.stream.proofs.Reached.{unfinished_kept}
 use Rattle.stream.proofs.Theorems.{written_is_heard, heard_from_anywhere}
-use Rattle.settings.specs.Columns.{count}
 use Rattle.tables.specs.declared.Table.{Table}
 use Rattle.requests.specs.Requests.{set_data, set_request}
 use Rattle.answers.specs.declared.Core.{Core}

@@ -25,7 +25,6 @@ use Rattle.answers.specs.declared.Core.{Core}
 use Rattle.answers.specs.declared.Outcome.{Outcome}
 use Rattle.board.specs.Parts.{board_allowed}
 use Rattle.board.specs.Calls.{starting, answering}
-use Rattle.board.specs.declared.Answered.{Answered}
 use Rattle.board.specs.declared.Board.{Board}
 use Rattle.listen.specs.Hearing.{box_hearing, box_hears}
 use Rattle.reply.specs.Events as events

@@ -59,7 +59,7 @@ pub(crate) fn put_strange(line: Line, id: u16) -> Line
 fn put_serial(line: Line, value: &[u8]) -> Line
     ensures { result ≡ adding line (serial_text value.now) }
 {
-    let end = bytes::scan::find(value, 0, value.len(), 0);
+    let end = spans::find(value, 0);
     line.put(b"serial ").put(&value[..end])
 }
 
