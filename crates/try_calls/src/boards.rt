@@ -4,8 +4,8 @@ use crate::parts::{count, least};
 use crate::{args, filled, numbers, say, words};
 use answers::Outcome;
 use board::{Answered, Board, Sample};
-use who::{Identity, Verdict};
 use std::io;
+use who::{Identity, Verdict};
 
 // The board of document 01's worked lines.
 const PRODUCT: u16 = 0xA381;
@@ -78,7 +78,13 @@ fn pieces(rt: &impl Print, board: Board, row: &[u8], first: usize, room: usize) 
 
 // Hands a board the piece at the front of a space, call after call: what one did not take goes to the next, until all is taken or a call
 // takes nothing. A word that puts in a number is no piece, and is skipped.
-fn takes(rt: &impl Print, board: Board, space: [u8; SPACE], len: usize, room: usize) -> io::Result<Board> {
+fn takes(
+    rt: &impl Print,
+    board: Board,
+    space: [u8; SPACE],
+    len: usize,
+    room: usize,
+) -> io::Result<Board> {
     let mut after = board;
     if SPACE < len {
         return Ok(after);

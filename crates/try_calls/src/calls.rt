@@ -113,7 +113,13 @@ fn with_kinds(rt: &impl Print, call: usize, row: &[u8], letters: &[u8]) -> io::R
 }
 
 // Answers the call of a row, whose bytes are at the front of a space.
-fn with_bytes(rt: &impl Print, call: usize, row: &[u8], space: [u8; SPACE], len: usize) -> io::Result<()> {
+fn with_bytes(
+    rt: &impl Print,
+    call: usize,
+    row: &[u8],
+    space: [u8; SPACE],
+    len: usize,
+) -> io::Result<()> {
     asks(rt, call, row, &space[0..least(len, SPACE)])
 }
 

@@ -5,9 +5,9 @@ use crate::parts::{count, least};
 use crate::{args, filled, frames, say, words};
 use collect::{Collected, Collector, Stage};
 use settings::{COUNT, Found, Setting};
+use std::io;
 use tables::Table;
 use wire::Read;
-use std::io;
 
 // The code of a Get reply, and how many data it has with a value of one byte and of two.
 const GET: u8 = 7;
@@ -19,7 +19,12 @@ const TWO_BYTES: usize = 5;
 // Answers `collect ID ITEM ..`: a start, and every setting before this id answered with its factory number; then what the items tell.
 pub fn collect(rt: &impl Print, row: &[u8]) -> io::Result<()> {
     let begun = Collector::start().collector;
-    items(rt, answered(begun, filled::place_of(args::id(row, 1))), row, 2)
+    items(
+        rt,
+        answered(begun, filled::place_of(args::id(row, 1))),
+        row,
+        2,
+    )
 }
 
 // Answers `gather LEN SILENCES ITEM ..`: a collector made by hand, with LEN settings answered, every number 0, and no answer to this many Gets.

@@ -3,8 +3,8 @@ use crate::parts::{count, least};
 use crate::{args, filled, frames, restores, say, words};
 use follow::{Followed, Follower, Standing};
 use requests::{Request, Wanted};
-use wire::Read;
 use std::io;
+use wire::Read;
 
 // Answers `follow ITEM ..`: how far the restore is after each item, and at the end what the box says of it.
 pub fn follow(rt: &impl Print, row: &[u8]) -> io::Result<()> {

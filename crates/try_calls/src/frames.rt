@@ -1,8 +1,8 @@
 use crate::bytes_of::SPACE;
 use crate::parts::least;
 use crate::{args, numbers, say};
-use wire::{Read, Written};
 use std::io;
+use wire::{Read, Written};
 
 // Answers `read ROOM BYTES`: a whole frame parsed.
 pub fn read(rt: &impl Print, row: &[u8], frame: &[u8]) -> io::Result<()> {

@@ -25,7 +25,13 @@ fn waiting(begun: usize, asked: usize) -> Listener {
 }
 
 // Hands a listener a request, or a read, at the time in the word before. A word at an even place is such a time.
-fn after(rt: &impl Print, listener: Listener, row: &[u8], k: usize, room: usize) -> io::Result<Listener> {
+fn after(
+    rt: &impl Print,
+    listener: Listener,
+    row: &[u8],
+    k: usize,
+    room: usize,
+) -> io::Result<Listener> {
     if k % 2 == 0 {
         return Ok(listener);
     }
@@ -40,7 +46,14 @@ fn after(rt: &impl Print, listener: Listener, row: &[u8], k: usize, room: usize)
 
 // Hands a listener the read at the front of a space, call after call: what one did not take goes to the next, until all is taken or a call
 // takes nothing.
-fn reads(rt: &impl Print, listener: Listener, space: [u8; SPACE], len: usize, time: u64, room: usize) -> io::Result<Listener> {
+fn reads(
+    rt: &impl Print,
+    listener: Listener,
+    space: [u8; SPACE],
+    len: usize,
+    time: u64,
+    room: usize,
+) -> io::Result<Listener> {
     let mut listening = listener;
     if SPACE < len {
         return Ok(listening);
@@ -61,7 +74,13 @@ fn reads(rt: &impl Print, listener: Listener, space: [u8; SPACE], len: usize, ti
 }
 
 // Makes one call, and writes how many bytes it took, and what it tells.
-fn once(rt: &impl Print, listener: Listener, piece: &[u8], time: u64, room: usize) -> io::Result<Listened> {
+fn once(
+    rt: &impl Print,
+    listener: Listener,
+    piece: &[u8],
+    time: u64,
+    room: usize,
+) -> io::Result<Listened> {
     let mut space = [0u8; SPACE];
     let n = least(room, SPACE);
     let listened = listener.read(piece, time, &mut space[0..n]);

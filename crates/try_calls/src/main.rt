@@ -7,6 +7,7 @@
 // Nothing is carried from one row to the next. An empty row and a row that begins with # are written as they are.
 #![tactic(auto)]
 
+mod all_rows;
 mod args;
 mod boards;
 mod bytes_of;
@@ -21,7 +22,6 @@ mod numbers;
 mod parts;
 mod replies;
 mod restores;
-mod rows;
 mod say;
 mod sets;
 mod streams;
@@ -37,7 +37,7 @@ const MOST_INPUT: usize = 65536;
 fn main(rt: HostRuntime) -> io::Result<()> {
     let mut input = Vec::new(rt.alloc());
     let len = rt.reader().take(MOST_INPUT as u64).read_to_end(&mut input)?;
-    rows::run(&rt, &input)?;
+    all_rows::run(&rt, &input)?;
     if len == MOST_INPUT {
         words::say(&rt, words::CUT_OFF)?;
     }

@@ -1,7 +1,7 @@
 use crate::{args, filled, numbers, say, words};
 use settings::Number;
-use tables::Answer;
 use std::io;
+use tables::Answer;
 
 // Answers `nearest ID WISHED PARTNER`: the nearest allowed number.
 pub fn nearest(rt: &impl Print, row: &[u8]) -> io::Result<()> {

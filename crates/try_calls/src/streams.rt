@@ -1,8 +1,8 @@
 use crate::bytes_of::SPACE;
 use crate::parts::{count, least};
 use crate::{args, frames, say, words};
-use stream::{Event, Heard, Held};
 use std::io;
+use stream::{Event, Heard, Held};
 
 // The most characters of an unfinished frame.
 const MOST_HELD: usize = 74;
@@ -40,7 +40,13 @@ fn pieces(rt: &impl Print, held: Held, row: &[u8], first: usize, room: usize) ->
 
 // Reads the piece at the front of a space, call after call: what one did not take goes to the next, until all is taken or a call takes
 // nothing.
-fn hears(rt: &impl Print, held: Held, space: [u8; SPACE], len: usize, room: usize) -> io::Result<Held> {
+fn hears(
+    rt: &impl Print,
+    held: Held,
+    space: [u8; SPACE],
+    len: usize,
+    room: usize,
+) -> io::Result<Held> {
     let mut now = held;
     if SPACE < len {
         return Ok(now);
