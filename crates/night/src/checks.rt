@@ -3,21 +3,22 @@ use crate::file::Text;
 use crate::{file, names, words};
 use backup::Checked;
 use lines::Line;
+use ports::{Report, System};
 use settings::COUNT;
 
 // Says whether the file is good, or what is wrong in it and where.
-pub(crate) fn run() {
-    let mut path = io::buffer();
-    let len = os::arg(words::FIRST, &mut path);
-    let text = file::read(&path[..len]);
+pub(crate) fn run(system: System) {
+    let mut path = ports::buffer();
+    let len = ports::arg(system, words::FIRST, &mut path);
+    let text = file::read(system, &path[..len]);
     if !text.is {
         return;
     }
-    tell(libc::STDOUT_FILENO, text);
+    tell(ports::output(system), text);
 }
 
 // Says the verdict on a text, and the reason for a refusal.
-pub(crate) fn tell(report: i32, text: Text) {
+pub(crate) fn tell(report: Report, text: Text) {
     let backup = text.backup;
     let verdict = backup.verdict;
     words::add(report, sentences::checked(verdict));

@@ -1,4 +1,6 @@
-// The clock: how long this box has been up, which nobody sets. It is read as text, since a function of Rattle can lend C no struct to fill.
+// The clock: how long this box has been up, which nobody sets. It is read as text.
+use ports::{Port, System};
+use std::io::{Error, ErrorKind};
 
 // How much of the text is read: the seconds and their hundredths, a blank, and more that is not needed.
 const ROOM: usize = 32;
@@ -32,15 +34,26 @@ fn hundredths(text: &[u8]) -> u64 {
 }
 
 // Returns the time in milliseconds; 0 where there is no clock, which it says.
-pub(crate) fn time() -> u64 {
-    let fd = os::open_read(b"/proc/uptime");
+pub(crate) fn time(system: System) -> u64 {
+    match ports::open_read(system, b"/proc/uptime") {
+        Ok(file) => time_in(system, &Port::Device(file)),
+        Err(error) => none(system, error),
+    }
+}
+
+// Returns the time that an open clock gives, likewise.
+fn time_in(system: System, file: &Port) -> u64 {
     let mut text = [0u8; ROOM];
-    let got = libc::read(fd, &mut text);
-    libc::close(fd);
-    let len = io::count(got, &text);
+    let got = ports::read(file, &mut text);
+    let len = ports::count(got, &text);
     if len == 0 {
-        os::fail(b"no clock: /proc/uptime");
-        return 0;
+        return none(system, Error::from(ErrorKind::UnexpectedEof));
     }
     (hundredths(&text[..len]) % MOST) * 10
+}
+
+// Says that there is no clock.
+fn none(system: System, error: Error) -> u64 {
+    ports::fail(system, b"no clock: /proc/uptime", error);
+    0
 }

@@ -5,6 +5,7 @@ use crate::{names, said, talk, words};
 use collect::{Collected, Collector, Stage};
 use lines::Line;
 use listen::Told;
+use ports::Report;
 use requests::Request;
 use settings::Setting;
 
@@ -43,7 +44,7 @@ pub(crate) fn told_to(collected: Collected, told: Told, data: &[u8]) -> Collecte
 }
 
 // Shows the number that was just answered.
-pub(crate) fn show(report: i32, before: Collected, after: Collected) {
+pub(crate) fn show(report: Report, before: Collected, after: Collected) {
     let index = before.answered;
     let collector = after.collector;
     let numbers = collector.numbers;
@@ -53,13 +54,13 @@ pub(crate) fn show(report: i32, before: Collected, after: Collected) {
 }
 
 // Reads all settings of the board, and shows each as it comes where that is wished.
-pub(crate) fn settings_of(ends: Ends, shown: bool) -> Talk {
+pub(crate) fn settings_of(ends: &Ends, shown: bool) -> Talk {
     talk::whole(ends, talk::collecting(ends.begun), shown)
 }
 
 // Says at which setting the reading stopped and why, which the data heard last tell: the front of a buffer.
 fn tell_stop(
-    report: i32,
+    report: Report,
     setting: Setting,
     numbers: [u16; settings::COUNT],
     data: [u8; paper::MOST_DATA],
@@ -73,7 +74,7 @@ fn tell_stop(
 }
 
 // Says how many settings were read, in the collector's own words, and at which it stopped.
-pub(crate) fn tell_end(report: i32, read: Talk) {
+pub(crate) fn tell_end(report: Report, read: Talk) {
     let collected = read.collected;
     let collector = collected.collector;
     let stage = collected.stage;

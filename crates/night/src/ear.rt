@@ -1,12 +1,14 @@
 // The serial line read byte by byte, with the time of each read, until the listener tells something.
 use crate::clock;
+use crate::serial::Ends;
 use listen::{Listener, Told};
+use ports::Port;
 
 // The listener's time is over long before there are this many turns.
 const MOST_TURNS: u32 = 1000000000;
 
 // What was told, the data of the frame, if it was one, and whether nothing more can come.
-#[derive(Drop)]
+#[derive(Clone, Copy)]
 pub(crate) struct News {
     pub(crate) listener: Listener,
     pub(crate) told: Told,
@@ -25,19 +27,22 @@ pub(crate) fn silence(listener: Listener, ended: bool) -> News {
 }
 
 // Returns whether a read says that nothing more can come: it failed, or gave nothing where that is no second of silence on a serial line.
-fn is_end(input: i32, got: isize) -> bool {
-    got < 0 || (got == 0 && libc::isatty(input) == 0)
+fn is_end(line: &Port, got: Option<usize>) -> bool {
+    match got {
+        None => true,
+        Some(n) => n == 0 && !ports::is_terminal(line),
+    }
 }
 
 // Reads one byte, so that nothing is ever left over, and then the clock, without which the box waits for nothing.
-fn once(input: i32, listener: Listener) -> News {
+fn once(ends: &Ends, listener: Listener) -> News {
     let mut byte = [0u8; 1];
-    let got = libc::read(input, &mut byte);
-    let now = clock::time();
-    if is_end(input, got) || now == 0 {
+    let got = ports::read(&ends.port, &mut byte);
+    let now = clock::time(ends.system);
+    if is_end(&ends.port, got) || now == 0 {
         return silence(listener, true);
     }
-    let len = io::count(got, &byte);
+    let len = ports::count(got, &byte);
     heard(listener, &byte[..len], now)
 }
 
@@ -68,12 +73,12 @@ fn is_nothing(news: News) -> bool {
 }
 
 // Reads until something is told.
-pub(crate) fn next(input: i32, listener: Listener) -> News {
-    let mut news = once(input, listener);
+pub(crate) fn next(ends: &Ends, listener: Listener) -> News {
+    let mut news = once(ends, listener);
     let mut turns = MOST_TURNS;
     while turns > 0 && is_nothing(news) {
         let heard = news.listener;
-        news = once(input, heard);
+        news = once(ends, heard);
         turns -= 1;
     }
     news

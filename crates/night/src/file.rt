@@ -1,16 +1,20 @@
 // Backup files: a text read, and a text kept so that a failure or a power cut leaves the old file or the new one, and nothing between.
 ghost use Rattle.std.specs.Prelude.{◌≤◌, length};
-ghost use Rattle.io.specs.Counts.{IsPrefixLen};
 
 use crate::disk::Kind;
+use crate::serial::Ends;
 use crate::whose::Serial;
 use crate::{disk, words};
 use backup::{Backup, Checked};
 use lines::Line;
+use ports::{Report, System};
 use restore::Sets;
 use rows::Judged;
 use sentences::Kept;
 use settings::COUNT;
+use std::fs::File;
+use std::io;
+use std::io::Error;
 use tables::Table;
 use wire::Written;
 
@@ -22,7 +26,7 @@ const MODE: u32 = 0o644;
 
 // A text, and whether there was a file to read it from. For the words about one that is refused: whether it has carriage returns, and the
 // place and both numbers of the first pair that disagrees.
-#[derive(Drop)]
+#[derive(Clone, Copy)]
 pub(crate) struct Text {
     pub(crate) is: bool,
     pub(crate) backup: Backup,
@@ -94,7 +98,7 @@ fn judged(is: bool, text: &[u8]) -> Text {
     Text {
         is,
         backup: backup::read(text),
-        returns: bytes::scan::find(text, 0, text.len(), b'\r') < text.len(),
+        returns: spans::find(text, b'\r') < text.len(),
         apart,
         first: number_at(text, apart),
         second: number_at(text, settings::setting_at(apart).partner),
@@ -102,33 +106,37 @@ fn judged(is: bool, text: &[u8]) -> Text {
 }
 
 // Returns whether a file was read to its end, or as far as there was room: at the end a read gives nothing, and does not fail.
-pub(crate) fn is_read(fd: i32, len: usize, room: usize) -> bool {
+pub(crate) fn is_read(file: &File, len: usize, room: usize) -> bool {
     if len == room {
         return true;
     }
-    let mut byte = [0u8; 1];
-    libc::read(fd, &mut byte) == 0
+    ports::is_at_end(file)
 }
 
 // Reads the text of an open file. One that fills the buffer is longer than any good text, and is refused for that.
-fn text_of(fd: i32) -> Text {
-    let mut text = io::buffer();
-    let len = io::read_full(fd, &mut text);
-    judged(is_read(fd, len, text.len()), &text[..len])
+fn text_of(file: &File) -> Text {
+    let mut text = ports::buffer();
+    let len = ports::read_full(file, &mut text);
+    judged(is_read(file, len, text.len()), &text[..len])
 }
 
 // Reads a backup text. Where the file cannot be opened or read, it says so.
-pub(crate) fn read(path: &[u8]) -> Text {
-    let fd = os::open_read(path);
-    if fd < 0 {
-        os::fail(path);
-        return judged(false, &[]);
+pub(crate) fn read(system: System, path: &[u8]) -> Text {
+    match ports::open_read(system, path) {
+        Ok(file) => read_open(system, path, file),
+        Err(error) => {
+            ports::fail(system, path, error);
+            judged(false, &[])
+        }
     }
-    let text = text_of(fd);
-    libc::close(fd);
+}
+
+// Reads the backup text of an open file, likewise.
+fn read_open(system: System, path: &[u8], file: File) -> Text {
+    let text = text_of(&file);
     if !text.is {
-        words::name(libc::STDERR_FILENO, path);
-        words::say(libc::STDERR_FILENO, b"it cannot be read");
+        words::name(ports::error(system), path);
+        words::say(ports::error(system), b"it cannot be read");
     }
     text
 }
@@ -154,20 +162,9 @@ fn joined(path: &[u8], ending: &[u8], name: &mut [u8]) -> usize {
     path.len() + ending.len()
 }
 
-// Writes a text to a new file and makes sure that it is on the disk; false where any of that failed.
-fn write(fd: i32, text: &[u8]) -> bool {
-    if !io::write_all(fd, text) {
-        return false;
-    }
-    if libc::fchmod(fd, MODE) < 0 {
-        return false;
-    }
-    0 <= libc::fsync(fd)
-}
-
 // Returns how much of a path names its folder: up to its last slash, or nothing.
 fn folder_of(path: &[u8]) -> usize
-    ensures { IsPrefixLen result path.now }
+    ensures { result ≤ length path.now }
 {
     let mut len = path.len();
     while len > 0 && path[len - 1] != b'/' {
@@ -176,69 +173,78 @@ fn folder_of(path: &[u8]) -> usize
     words::front(len, path)
 }
 
-// Makes sure that the names in a folder are on the disk; false where that failed.
-fn sync_folder(path: &[u8]) -> bool {
-    let fd = os::open_read(path);
-    if fd < 0 {
-        return false;
-    }
-    let synced = 0 <= libc::fsync(fd);
-    libc::close(fd);
-    synced
-}
-
 // Makes sure of the names in the folder that a file is in.
-fn sync_around(path: &[u8]) -> bool {
+fn sync_around(system: System, path: &[u8]) -> io::Result<()> {
     let len = folder_of(path);
     if len == 0 {
-        return sync_folder(b".");
+        return ports::sync_folder(system, b".");
     }
-    sync_folder(&path[..len])
+    ports::sync_folder(system, &path[..len])
 }
 
 // Returns what became of a file that has its new name: it is kept for good once its folder is on the disk.
-fn renamed(path: &[u8]) -> Kept {
-    if sync_around(path) {
-        return Kept::Whole;
+fn renamed(system: System, path: &[u8]) -> Kept {
+    match sync_around(system, path) {
+        Ok(()) => Kept::Whole,
+        Err(error) => {
+            ports::fail(system, path, error);
+            Kept::Unsure
+        }
     }
-    os::fail(path);
-    Kept::Unsure
 }
 
 // Writes a text to a temporary file beside `path`, and gives it that name only when it is whole. Until then the old file has the name.
-fn replace(path: &[u8], text: &[u8]) -> Kept {
-    let mut name = io::buffer();
+fn replace(system: System, path: &[u8], text: &[u8]) -> Kept {
+    let mut name = ports::buffer();
     let len = joined(path, b".XXXXXX", &mut name);
     let n = words::front(len, &name);
-    replace_by(&mut name[..n], path, text)
+    replace_by(system, &mut name[..n], path, text)
 }
 
 // Writes a text in the same way, with the pattern of the temporary file's name.
-fn replace_by(name: &mut [u8], path: &[u8], text: &[u8]) -> Kept {
-    let fd = os::create_temp(name);
-    if fd < 0 {
-        os::fail(path);
-        return Kept::Not;
+fn replace_by(system: System, name: &mut [u8], path: &[u8], text: &[u8]) -> Kept {
+    match ports::create_temp(system, name) {
+        Ok(file) => moved_to(system, file, name, path, text),
+        Err(error) => {
+            ports::fail(system, path, error);
+            Kept::Not
+        }
     }
-    let whole = write(fd, text);
-    libc::close(fd);
-    if whole && 0 <= os::rename(name, path) {
-        return renamed(path);
+}
+
+// Writes a text to a temporary file that was made, and gives it the name `path`; where any of that failed, it removes the file.
+fn moved_to(system: System, file: File, name: &[u8], path: &[u8], text: &[u8]) -> Kept {
+    match given(system, file, name, path, text) {
+        Ok(()) => renamed(system, path),
+        Err(error) => {
+            ports::fail(system, path, error);
+            ports::remove(system, name);
+            Kept::Not
+        }
     }
-    os::fail(path);
-    os::unlink(name);
-    Kept::Not
+}
+
+// Writes a text to an open file, closes it, and gives it another name.
+fn given(system: System, file: File, name: &[u8], path: &[u8], text: &[u8]) -> io::Result<()> {
+    write(file, text)?;
+    ports::rename(system, name, path)
+}
+
+// Writes a text to a new file, makes sure that it is on the disk, and closes it.
+fn write(file: File, text: &[u8]) -> io::Result<()> {
+    ports::fill(&file, text, MODE)
 }
 
 // Says that what is at the path is not replaced, and why.
-fn refuse(report: i32, path: &[u8], why: &[u8]) {
-    io::write_all(report, path);
+fn refuse(report: Report, path: &[u8], why: &[u8]) {
+    ports::write_all(report, path);
     words::say(report, why);
 }
 
 // Returns whether a file may have this name: there is none, or a file. Where something else is there, it says so.
-pub(crate) fn is_free(report: i32, path: &[u8]) -> bool {
-    let kind = disk::at(path);
+pub(crate) fn is_free(ends: &Ends, path: &[u8]) -> bool {
+    let report = ends.report;
+    let kind = disk::at(ends.system, path);
     match kind {
         Kind::Nothing => true,
         Kind::File => true,
@@ -283,130 +289,132 @@ fn difference(old: Backup, table: Table) -> Line {
 }
 
 // Writes a text to a new file of its own.
-fn write_new(name: &mut [u8], text: &[u8]) -> bool {
-    let fd = os::create_temp(name);
-    if fd < 0 {
-        return false;
-    }
-    let whole = write(fd, text);
-    libc::close(fd);
-    whole
+fn write_new(system: System, name: &mut [u8], text: &[u8]) -> io::Result<()> {
+    write(ports::create_temp(system, name)?, text)
 }
 
 // Keeps an old text beside the new one, under the name of which the pattern is given, and then replaces it. Where that fails, nothing is
 // left beside it.
 fn set_aside(
-    report: i32,
+    ends: &Ends,
     name: &mut [u8],
     path: &[u8],
     old: &[u8],
     text: &[u8],
     table: Table,
 ) -> Kept {
-    if !write_new(name, old) {
-        os::fail(path);
-        os::unlink(name);
+    let system = ends.system;
+    if let Err(error) = write_new(system, name, old) {
+        ports::fail(system, path, error);
+        ports::remove(system, name);
         return Kept::Not;
     }
-    let kept = replace(path, text);
+    let kept = replace(system, path, text);
     match kept {
         Kept::Not => {
-            os::unlink(name);
+            ports::remove(system, name);
         }
-        Kept::Unsure => tell_aside(report, name, old, table),
-        Kept::Whole => tell_aside(report, name, old, table),
+        Kept::Unsure => tell_aside(ends.report, name, old, table),
+        Kept::Whole => tell_aside(ends.report, name, old, table),
     }
     kept
 }
 
 // Says where an old text is, and how it differs from the new one.
-fn tell_aside(report: i32, name: &[u8], old: &[u8], table: Table) {
-    io::write_all(report, b"the old file is kept as ");
+fn tell_aside(report: Report, name: &[u8], old: &[u8], table: Table) {
+    ports::write_all(report, b"the old file is kept as ");
     words::name(report, name);
     words::tell(report, difference(backup::read(old), table));
 }
 
 // Replaces an old text by a new one. One that differs is kept beside it.
-fn replace_old(report: i32, path: &[u8], old: &[u8], text: &[u8], table: Table) -> Kept {
-    if check::same(old, text) {
-        return replace(path, text);
+fn replace_old(ends: &Ends, path: &[u8], old: &[u8], text: &[u8], table: Table) -> Kept {
+    if words::same(old, text) {
+        return replace(ends.system, path, text);
     }
-    let mut name = io::buffer();
+    let mut name = ports::buffer();
     let len = joined(path, b".old-XXXXXX", &mut name);
     let n = words::front(len, &name);
-    set_aside(report, &mut name[..n], path, old, text, table)
+    set_aside(ends, &mut name[..n], path, old, text, table)
 }
 
 // Replaces the text of an open file. One that cannot be read whole is not replaced, since it could not be kept.
-fn replace_open(report: i32, fd: i32, path: &[u8], text: &[u8], table: Table) -> Kept {
-    let mut old = io::buffer();
-    let len = io::read_full(fd, &mut old);
-    let whole = is_read(fd, len, old.len());
-    libc::close(fd);
+fn replace_open(ends: &Ends, file: File, path: &[u8], text: &[u8], table: Table) -> Kept {
+    let mut old = ports::buffer();
+    let len = ports::read_full(&file, &mut old);
+    let whole = is_read(&file, len, old.len());
     if len == old.len() {
         refuse(
-            report,
+            ends.report,
             path,
             b" has over 4095 bytes and is no backup: name another file",
         );
         return Kept::Not;
     }
     if !whole {
-        refuse(report, path, b" cannot be read: name another file");
+        refuse(ends.report, path, b" cannot be read: name another file");
         return Kept::Not;
     }
-    replace_old(report, path, &old[..len], text, table)
+    replace_old(ends, path, &old[..len], text, table)
 }
 
 // Keeps a text under a name, and what is there beside it, if it differs.
-fn keep_text(report: i32, path: &[u8], text: &[u8], table: Table) -> Kept {
-    let fd = os::open_read(path);
-    if 0 <= fd {
-        return replace_open(report, fd, path, text, table);
+fn keep_text(ends: &Ends, path: &[u8], text: &[u8], table: Table) -> Kept {
+    match ports::open_read(ends.system, path) {
+        Ok(file) => replace_open(ends, file, path, text, table),
+        Err(error) => keep_new(ends.system, path, text, error),
     }
-    if os::errno() == libc::ENOENT {
-        return replace(path, text);
+}
+
+// Keeps a text under a name that cannot be opened, where that is because nothing is there.
+fn keep_new(system: System, path: &[u8], text: &[u8], error: Error) -> Kept {
+    if ports::number_of(error) == ports::NOTHING_THERE {
+        return replace(system, path, text);
     }
-    os::fail(path);
+    ports::fail(system, path, error);
     Kept::Not
 }
 
 // Keeps a table as a backup text.
-pub(crate) fn keep(report: i32, path: &[u8], table: Table) -> Kept {
+pub(crate) fn keep(ends: &Ends, path: &[u8], table: Table) -> Kept {
     let mut text = [0u8; paper::TEXT_ROOM];
     let written = backup::write(table, &mut text);
     match written {
-        Written::Len(len) => keep_front(report, path, &text, len, table),
+        Written::Len(len) => keep_front(ends, path, &text, len, table),
         Written::Refused(_) => Kept::Not,
     }
 }
 
 // Keeps the front of a buffer as a file.
-fn keep_front(report: i32, path: &[u8], text: &[u8], len: usize, table: Table) -> Kept {
+fn keep_front(ends: &Ends, path: &[u8], text: &[u8], len: usize, table: Table) -> Kept {
     let n = words::front(len, text);
-    keep_text(report, path, &text[..n], table)
+    keep_text(ends, path, &text[..n], table)
 }
 
 // Notes a serial beside a file, or says why not.
-pub(crate) fn note(report: i32, path: &[u8], serial: Serial) {
+pub(crate) fn note(ends: &Ends, path: &[u8], serial: Serial) {
     if !serial.told {
-        words::say(report, b"no serial is noted: the board did not tell it");
+        words::say(
+            ends.report,
+            b"no serial is noted: the board did not tell it",
+        );
         return;
     }
-    let mut name = io::buffer();
+    let mut name = ports::buffer();
     let len = joined(path, b".serial", &mut name);
     let n = words::front(len, &name);
-    note_as(report, &name[..n], serial.line);
+    note_as(ends, &name[..n], serial.line);
 }
 
 // Notes a serial under a name.
-fn note_as(report: i32, name: &[u8], serial: Line) {
-    if !is_free(report, name) {
+fn note_as(ends: &Ends, name: &[u8], serial: Line) {
+    let report = ends.report;
+    if !is_free(ends, name) {
         words::say(report, b"no serial is noted");
         return;
     }
-    tell_before(report, name, serial);
-    let kept = replace_line(name, serial.put(b"\n"));
+    tell_before(ends, name, serial);
+    let kept = replace_line(ends.system, name, serial.put(b"\n"));
     match kept {
         Kept::Not => words::say(report, b"no serial is noted: its file cannot be written"),
         Kept::Unsure => tell_noted(report, name, serial),
@@ -415,39 +423,37 @@ fn note_as(report: i32, name: &[u8], serial: Line) {
 }
 
 // Says so where another serial is noted under a name: the file was saved from another board.
-fn tell_before(report: i32, name: &[u8], serial: Line) {
-    let fd = os::open_read(name);
-    if fd < 0 {
+fn tell_before(ends: &Ends, name: &[u8], serial: Line) {
+    let Ok(file) = ports::open_read(ends.system, name) else {
         return;
-    }
-    let mut old = io::buffer();
-    let len = io::read_full(fd, &mut old);
-    libc::close(fd);
-    tell_other(report, &old[..len], serial);
+    };
+    let mut old = ports::buffer();
+    let len = ports::read_full(&file, &mut old);
+    tell_other(ends.report, &old[..len], serial);
 }
 
 // Says which serial was noted, where it is another one than now.
-fn tell_other(report: i32, old: &[u8], serial: Line) {
+fn tell_other(report: Report, old: &[u8], serial: Line) {
     let chars = serial.chars;
     let n = words::front(serial.len, &chars);
     let len = words::filled(old);
-    if !check::same(&old[..len], &chars[..n]) {
-        io::write_all(report, b"another board than before, whose serial was ");
+    if !words::same(&old[..len], &chars[..n]) {
+        ports::write_all(report, b"another board than before, whose serial was ");
         words::say(report, &old[..len]);
     }
 }
 
 // Writes a line to a file.
-fn replace_line(name: &[u8], line: Line) -> Kept {
+fn replace_line(system: System, name: &[u8], line: Line) -> Kept {
     let chars = line.chars;
     let n = words::front(line.len, &chars);
-    replace(name, &chars[..n])
+    replace(system, name, &chars[..n])
 }
 
 // Says which serial is noted where.
-fn tell_noted(report: i32, name: &[u8], serial: Line) {
+fn tell_noted(report: Report, name: &[u8], serial: Line) {
     words::add(report, Line::start().put(b"serial "));
     words::add(report, serial);
-    io::write_all(report, b" is noted in ");
+    ports::write_all(report, b" is noted in ");
     words::say(report, name);
 }

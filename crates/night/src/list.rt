@@ -1,9 +1,11 @@
 // The list of a yard: a row for each trailer with its name, its serial line and its file, blanks or tabs between, and after them, if it is
 // wished, `serial=` and the serial of its board. A file's name may have blanks. An empty row and one that begins with # are skipped.
-ghost use Rattle.std.specs.Prelude.{◌≤◌, length};
+ghost use Rattle.std.specs.Prelude.{◌<◌, ◌≤◌, length};
 
 use crate::whose::Serial;
 use crate::{file, whose, words};
+use ports::{Report, System};
+use std::fs::File;
 
 // How long a blank and `serial=` are.
 const MARK: usize = 8;
@@ -24,22 +26,22 @@ pub(crate) struct List {
 }
 
 // Reads the list that the first argument names into a buffer.
-pub(crate) fn read(into: &mut [u8]) -> List {
-    let mut path = io::buffer();
-    let len = os::arg(words::FIRST, &mut path);
-    let fd = os::open_read(&path[..len]);
-    if fd < 0 {
-        os::fail(&path[..len]);
-        return nothing(State::Unread);
+pub(crate) fn read(system: System, into: &mut [u8]) -> List {
+    let mut path = ports::buffer();
+    let len = ports::arg(system, words::FIRST, &mut path);
+    match ports::open_read(system, &path[..len]) {
+        Ok(file) => read_open(file, into),
+        Err(error) => {
+            ports::fail(system, &path[..len], error);
+            nothing(State::Unread)
+        }
     }
-    read_open(fd, into)
 }
 
 // Reads an open list into a buffer, and closes it.
-fn read_open(fd: i32, into: &mut [u8]) -> List {
-    let len = io::read_full(fd, into);
-    let whole = file::is_read(fd, len, into.len());
-    libc::close(fd);
+fn read_open(file: File, into: &mut [u8]) -> List {
+    let len = ports::read_full(&file, into);
+    let whole = file::is_read(&file, len, into.len());
     if !whole {
         return nothing(State::Unread);
     }
@@ -57,11 +59,21 @@ fn nothing(state: State) -> List {
     List { state, len: 0 }
 }
 
+// Returns where the row that begins at a place ends: at the next newline after its first byte, or at the list's end.
+pub(crate) fn row_end(list: &[u8], at: usize) -> usize
+    requires { at < length list.now }
+    ensures after { at < result }
+    ensures within { result ≤ length list.now }
+{
+    let next = at + 1;
+    next + spans::find(&list[next..], b'\n')
+}
+
 // Returns whether two rows have the same serial line, and tells the first such one.
-pub(crate) fn is_doubled(list: &[u8], report: i32) -> bool {
+pub(crate) fn is_doubled(list: &[u8], report: Report) -> bool {
     let mut at = 0;
     while at < list.len() {
-        let end = bytes::scan::find(list, at + 1, list.len(), b'\n');
+        let end = row_end(list, at);
         if is_again(&list[0..at], &list[at..end], report) {
             return true;
         }
@@ -71,7 +83,7 @@ pub(crate) fn is_doubled(list: &[u8], report: i32) -> bool {
 }
 
 // Returns whether an earlier row has this row's serial line, and tells which.
-fn is_again(before: &[u8], row: &[u8], report: i32) -> bool {
+fn is_again(before: &[u8], row: &[u8], report: Report) -> bool {
     let path = line_of(row);
     let end = next(row, path, true);
     if path == end {
@@ -89,7 +101,7 @@ fn is_again(before: &[u8], row: &[u8], report: i32) -> bool {
 fn is_in(list: &[u8], line: &[u8]) -> bool {
     let mut at = 0;
     while at < list.len() {
-        let end = bytes::scan::find(list, at + 1, list.len(), b'\n');
+        let end = row_end(list, at);
         if has_line(&list[at..end], line) {
             return true;
         }
@@ -102,7 +114,7 @@ fn is_in(list: &[u8], line: &[u8]) -> bool {
 fn has_line(row: &[u8], line: &[u8]) -> bool {
     let path = line_of(row);
     let end = next(row, path, true);
-    check::same(&row[path..end], line)
+    words::same(&row[path..end], line)
 }
 
 // Returns where the serial line of a row begins: at the row's end for one that has none or no file, and for one that is skipped.
@@ -141,7 +153,7 @@ fn is_mark(rest: &[u8]) -> bool {
     if rest.len() < MARK {
         return false;
     }
-    words::is_blank(rest[0]) && check::same(&rest[1..MARK], b"serial=")
+    words::is_blank(rest[0]) && words::same(&rest[1..MARK], b"serial=")
 }
 
 // Returns where the column of the expected serial begins, with the blank before it; or the row's end.
@@ -169,25 +181,25 @@ pub(crate) fn is_expected(column: &[u8], serial: Serial) -> bool {
 
 // Tells the name and the serial line of each trailer (`night lines LIST`), so that a script that sets the serial lines need not read the
 // list itself. Of a list that cannot be read it tells none; `night yard` tells why.
-pub(crate) fn tell_lines() {
-    let mut list = io::large_buffer();
-    let read = read(&mut list);
+pub(crate) fn tell_lines(system: System) {
+    let mut list = ports::large_buffer();
+    let read = read(system, &mut list);
     let n = words::front(read.len, &list);
-    tell_all(&list[..n]);
+    tell_all(ports::output(system), &list[..n]);
 }
 
 // Tells the name and the serial line of each row.
-fn tell_all(list: &[u8]) {
+fn tell_all(report: Report, list: &[u8]) {
     let mut at = 0;
     while at < list.len() {
-        let end = bytes::scan::find(list, at + 1, list.len(), b'\n');
-        tell_line(&list[at..end]);
+        let end = row_end(list, at);
+        tell_line(report, &list[at..end]);
         at = end;
     }
 }
 
 // Tells the name and the serial line of a row that has both and a file.
-fn tell_line(row: &[u8]) {
+fn tell_line(report: Report, row: &[u8]) {
     let path = line_of(row);
     if path == row.len() {
         return;
@@ -195,7 +207,7 @@ fn tell_line(row: &[u8]) {
     let name = next(row, 0, false);
     let name_end = next(row, name, true);
     let end = next(row, path, true);
-    io::write_all(libc::STDOUT_FILENO, &row[name..name_end]);
-    io::write_all(libc::STDOUT_FILENO, b" ");
-    words::say(libc::STDOUT_FILENO, &row[path..end]);
+    ports::write_all(report, &row[name..name_end]);
+    ports::write_all(report, b" ");
+    words::say(report, &row[path..end]);
 }

@@ -36,19 +36,19 @@ mod whose;
 mod words;
 mod yard;
 
-fn main() {
+fn main(rt: HostRuntime) {
     let mut what = [0u8; words::MOST_COMMAND];
-    let len = os::arg(words::COMMAND, &mut what);
-    let command = words::asked_for(&what[..len], os::arg_count());
+    let len = ports::arg(rt, words::COMMAND, &mut what);
+    let command = words::asked_for(&what[..len], ports::arg_count(rt));
     match command {
-        words::Command::Save => save::run(),
-        words::Command::Check => checks::run(),
-        words::Command::Restore => putback::run(),
-        words::Command::Plan => putback::plan(),
-        words::Command::Show => show::run(),
-        words::Command::Yard => yard::run(),
-        words::Command::Table => yard::run_table(),
-        words::Command::Lines => list::tell_lines(),
-        words::Command::Unknown => words::usage(),
+        words::Command::Save => save::run(rt),
+        words::Command::Check => checks::run(rt),
+        words::Command::Restore => putback::run(rt),
+        words::Command::Plan => putback::plan(rt),
+        words::Command::Show => show::run(rt),
+        words::Command::Yard => yard::run(rt),
+        words::Command::Table => yard::run_table(rt),
+        words::Command::Lines => list::tell_lines(rt),
+        words::Command::Unknown => words::usage(rt),
     }
 }

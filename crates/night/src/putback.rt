@@ -3,34 +3,35 @@ use crate::serial::Ends;
 use crate::{checks, collecting, file, restoring, serial, words};
 use collect::Stage;
 use lines::Line;
+use ports::System;
 use restore::Sets;
 use tables::Table;
 
 // `night restore LINE FILE`.
-pub(crate) fn run() {
-    begin(true);
+pub(crate) fn run(system: System) {
+    begin(system, true);
 }
 
 // `night plan LINE FILE`.
-pub(crate) fn plan() {
-    begin(false);
+pub(crate) fn plan(system: System) {
+    begin(system, false);
 }
 
 // Opens the serial line first: where the two arguments are swapped, the device is not read as a file.
-fn begin(sends: bool) {
-    let ends = serial::first();
+fn begin(system: System, sends: bool) {
+    let ends = serial::first(system);
     if !ends.open {
         return;
     }
-    put_back(ends, sends);
+    put_back(&ends, sends);
     serial::close(ends);
 }
 
 // Reads the file and, if it is good, goes on.
-fn put_back(ends: Ends, sends: bool) {
-    let mut path = io::buffer();
-    let len = os::arg(words::SECOND, &mut path);
-    let text = file::read(&path[..len]);
+fn put_back(ends: &Ends, sends: bool) {
+    let mut path = ports::buffer();
+    let len = ports::arg(ends.system, words::SECOND, &mut path);
+    let text = file::read(ends.system, &path[..len]);
     if !text.is {
         words::say(ends.report, b"nothing was sent: the file cannot be read");
         return;
@@ -46,7 +47,7 @@ fn put_back(ends: Ends, sends: bool) {
 }
 
 // Reads the board's settings, and goes on if all were answered.
-fn meet(ends: Ends, to: Table, sends: bool) {
+fn meet(ends: &Ends, to: Table, sends: bool) {
     words::say(ends.report, b"reading the board");
     let read = collecting::settings_of(ends, false);
     let collected = read.collected;
@@ -60,7 +61,7 @@ fn meet(ends: Ends, to: Table, sends: bool) {
 }
 
 // Shows the list, and sends it where that is wished.
-fn list(ends: Ends, from: Table, to: Table, sends: bool) {
+fn list(ends: &Ends, from: Table, to: Table, sends: bool) {
     restoring::show_list(ends.report, from, to);
     if sends {
         send(ends, from, to);
@@ -70,7 +71,7 @@ fn list(ends: Ends, from: Table, to: Table, sends: bool) {
 }
 
 // Sends the list and says how it ended.
-fn send(ends: Ends, from: Table, to: Table) {
+fn send(ends: &Ends, from: Table, to: Table) {
     let restored = restoring::follow(ends, from, to, true);
     restoring::tell_end(ends.report, restored);
 }

@@ -5,6 +5,7 @@ use crate::{ear, names, said, talk, words};
 use follow::{Followed, Follower, Standing};
 use lines::Line;
 use listen::Told;
+use ports::Report;
 use requests::{Request, Wanted};
 use restore::Due;
 use tables::Table;
@@ -45,7 +46,7 @@ pub(crate) fn told_to(followed: Followed, told: Told, data: &[u8]) -> Followed {
 }
 
 // Shows the Set that was just confirmed and, by the follower's own count, how many are.
-pub(crate) fn show(report: i32, before: Followed, after: Followed) {
+pub(crate) fn show(report: Report, before: Followed, after: Followed) {
     let follower = after.follower;
     words::add(report, sentences::progress(follower));
     words::tell(report, put_set(Line::start(), due(before)));
@@ -64,7 +65,7 @@ fn put_set(line: Line, turn: Turn) -> Line {
 }
 
 // Shows one Set of the list, with the number that the board holds now.
-fn plan(report: i32, from: Table, wanted: Wanted) {
+fn plan(report: Report, from: Table, wanted: Wanted) {
     let setting = wanted.setting;
     let numbers = from.numbers;
     let index = setting.index;
@@ -75,7 +76,7 @@ fn plan(report: i32, from: Table, wanted: Wanted) {
 }
 
 // Shows the Set that is due after `done` ones; false where none is.
-fn plan_after(report: i32, from: Table, to: Table, done: usize) -> bool {
+fn plan_after(report: Report, from: Table, to: Table, done: usize) -> bool {
     let due = restore::due_after(from, to, done);
     match due {
         Due::Set(wanted) => {
@@ -88,7 +89,7 @@ fn plan_after(report: i32, from: Table, to: Table, done: usize) -> bool {
 }
 
 // Shows the list, in the order in which it is sent.
-pub(crate) fn show_list(report: i32, from: Table, to: Table) {
+pub(crate) fn show_list(report: Report, from: Table, to: Table) {
     let mut done = 0;
     while done < settings::COUNT && plan_after(report, from, to, done) {
         done += 1;
@@ -96,12 +97,12 @@ pub(crate) fn show_list(report: i32, from: Table, to: Table) {
 }
 
 // Turns the board's table `from` into `to`, and shows what is confirmed where that is wished.
-pub(crate) fn follow(ends: Ends, from: Table, to: Table, shown: bool) -> Talk {
+pub(crate) fn follow(ends: &Ends, from: Table, to: Table, shown: bool) -> Talk {
     talk::whole(ends, talk::restoring(ends.begun, from, to), shown)
 }
 
 // Says how a restore ended, in the follower's own words: done only where it says so. Where it stopped, it adds what the board said.
-pub(crate) fn tell_end(report: i32, restored: Talk) {
+pub(crate) fn tell_end(report: Report, restored: Talk) {
     let followed = restored.followed;
     let follower = followed.follower;
     let standing = followed.standing;
@@ -114,7 +115,7 @@ pub(crate) fn tell_end(report: i32, restored: Talk) {
 }
 
 // Says at which Set a restore stopped, and what the board said, which is the front of a buffer.
-fn tell_stop(report: i32, wanted: Wanted, data: [u8; paper::MOST_DATA], len: usize) {
+fn tell_stop(report: Report, wanted: Wanted, data: [u8; paper::MOST_DATA], len: usize) {
     let n = words::front(len, &data);
     words::add(report, said::put_stop(Line::start(), wanted, &data[..n]));
 }

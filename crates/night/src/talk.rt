@@ -7,6 +7,7 @@ use crate::{clock, collecting, ear, restoring, viewing, words};
 use collect::{Collected, Collector};
 use follow::{Followed, Follower};
 use listen::{Listener, Told};
+use ports::{Port, Report};
 use requests::Request;
 use tables::Table;
 use view::{Viewed, Viewer};
@@ -19,7 +20,7 @@ const MOST_EVENTS: u32 = 1000000000;
 pub(crate) const MOST_REQUESTS: usize = 3 * settings::COUNT;
 
 // Which machine asks.
-#[derive(Drop)]
+#[derive(Clone, Copy)]
 pub(crate) enum Asker {
     Collector,
     Follower,
@@ -28,7 +29,7 @@ pub(crate) enum Asker {
 
 // A talk: the machine that asks and two at rest, whether the board was silent, whether nothing more can come, and the data of the frame
 // heard last, none if that was no frame.
-#[derive(Drop)]
+#[derive(Clone, Copy)]
 pub(crate) struct Talk {
     pub(crate) asker: Asker,
     pub(crate) listener: Listener,
@@ -42,7 +43,7 @@ pub(crate) struct Talk {
 }
 
 // What is to be sent: a request, or nothing any more.
-#[derive(Drop)]
+#[derive(Clone, Copy)]
 pub(crate) enum Turn {
     Ask(Request),
     Nothing,
@@ -64,13 +65,13 @@ fn started(asker: Asker, begun: u64, followed: Followed) -> Talk {
 }
 
 // Returns a follower with nothing to do.
-fn at_rest_lem() -> Followed {
+fn at_rest() -> Followed {
     Follower::start(Table::factory(), Table::factory())
 }
 
 // Returns a talk that reads all settings.
 pub(crate) fn collecting(begun: u64) -> Talk {
-    started(Asker::Collector, begun, at_rest_lem())
+    started(Asker::Collector, begun, at_rest())
 }
 
 // Returns a talk that turns the board's table `from` into `to`.
@@ -80,7 +81,7 @@ pub(crate) fn restoring(begun: u64, from: Table, to: Table) -> Talk {
 
 // Returns a talk that looks at the read-only values.
 pub(crate) fn viewing(begun: u64) -> Talk {
-    started(Asker::Viewer, begun, at_rest_lem())
+    started(Asker::Viewer, begun, at_rest())
 }
 
 // Returns what the machine that asks wants to be sent.
@@ -117,27 +118,27 @@ fn waits(talk: Talk, before: usize) -> bool {
 }
 
 // Sends the frame that was written.
-fn put(output: i32, frame: &[u8], written: Written) {
+fn put(line: &Port, frame: &[u8], written: Written) {
     match written {
         Written::Len(len) => {
-            words::put(output, frame, len);
+            words::send(line, frame, len);
         }
         Written::Refused(_) => {}
     }
 }
 
 // Sends a request.
-fn ask(output: i32, request: Request) {
+fn ask(line: &Port, request: Request) {
     let mut frame = [0u8; paper::FRAME_ROOM];
     let written = requests::write(request, &mut frame);
-    put(output, &frame, written);
+    put(line, &frame, written);
 }
 
 // Sends what is due; false where nothing is.
-fn send(output: i32, turn: Turn) -> bool {
+fn send(line: &Port, turn: Turn) -> bool {
     match turn {
         Turn::Ask(request) => {
-            ask(output, request);
+            ask(line, request);
             true
         }
         Turn::Nothing => false,
@@ -199,13 +200,13 @@ fn heard(talk: Talk, news: News) -> Talk {
 }
 
 // Hears the next event on the serial line.
-fn event(input: i32, talk: Talk) -> Talk {
+fn event(ends: &Ends, talk: Talk) -> Talk {
     let listener = talk.listener;
-    heard(talk, ear::next(input, listener))
+    heard(talk, ear::next(ends, listener))
 }
 
 // Notes that a request was sent: its time begins.
-fn asked(talk: Talk) -> Talk {
+fn asked(ends: &Ends, talk: Talk) -> Talk {
     let asker = talk.asker;
     let listener = talk.listener;
     let collected = talk.collected;
@@ -214,7 +215,7 @@ fn asked(talk: Talk) -> Talk {
     let said = talk.said;
     Talk {
         asker,
-        listener: listener.asked(clock::time()),
+        listener: listener.asked(clock::time(ends.system)),
         collected,
         followed,
         viewed,
@@ -226,12 +227,12 @@ fn asked(talk: Talk) -> Talk {
 }
 
 // Listens until the request is answered or the talk has ended.
-fn answer(input: i32, talk: Talk) -> Talk {
+fn answer(ends: &Ends, talk: Talk) -> Talk {
     let before = answered(talk);
     let mut talk = talk;
     let mut turns = MOST_EVENTS;
     while turns > 0 && waits(talk, before) {
-        talk = event(input, talk);
+        talk = event(ends, talk);
         turns -= 1;
     }
     talk
@@ -252,7 +253,7 @@ fn patient(talk: Talk, before: usize) -> Talk {
 }
 
 // Shows what an answered request has brought.
-fn show(report: i32, before: Talk, after: Talk) {
+fn show(report: Report, before: Talk, after: Talk) {
     if answered(after) == answered(before) {
         return;
     }
@@ -267,14 +268,14 @@ fn show(report: i32, before: Talk, after: Talk) {
 
 // Sends what is due, hears what becomes of it, and shows that where it is wished; does nothing where the talk has ended. Where nothing more
 // can come, there is nobody to send to.
-pub(crate) fn further(ends: Ends, talk: Talk, shown: bool) -> Talk {
+pub(crate) fn further(ends: &Ends, talk: Talk, shown: bool) -> Talk {
     if talk.ended {
         return unanswered(talk);
     }
-    if !send(ends.output, due(talk)) {
+    if !send(&ends.port, due(talk)) {
         return talk;
     }
-    let next = patient(answer(ends.input, asked(talk)), answered(talk));
+    let next = patient(answer(ends, asked(ends, talk)), answered(talk));
     if shown {
         show(ends.report, talk, next);
     }
@@ -282,7 +283,7 @@ pub(crate) fn further(ends: Ends, talk: Talk, shown: bool) -> Talk {
 }
 
 // Leads the talk to its end.
-pub(crate) fn whole(ends: Ends, talk: Talk, shown: bool) -> Talk {
+pub(crate) fn whole(ends: &Ends, talk: Talk, shown: bool) -> Talk {
     let mut talk = talk;
     let mut turns = MOST_REQUESTS;
     while turns > 0 {

@@ -2,6 +2,7 @@
 use crate::talk::Turn;
 use crate::words;
 use listen::Told;
+use ports::Report;
 use requests::Request;
 use view::{Next, Viewed, Viewer};
 
@@ -41,7 +42,7 @@ pub(crate) fn told_to(viewed: Viewed, told: Told, data: &[u8]) -> Viewed {
 }
 
 // Shows the value that was just answered, by the viewer as it was before and the data of the frame. Only a Get reply answers a viewer.
-pub(crate) fn show(report: i32, before: Viewed, data: [u8; paper::MOST_DATA], len: usize) {
+pub(crate) fn show(report: Report, before: Viewed, data: [u8; paper::MOST_DATA], len: usize) {
     let viewer = before.viewer;
     let n = words::front(len, &data);
     words::tell(report, sentences::seen(viewer, paper::GET_CODE, &data[..n]));

@@ -6,7 +6,7 @@ use lines::Line;
 use view::{Next, Sight, Viewed, Viewer};
 
 // Whether the board told a serial, and its characters, of which there are none where it did not.
-#[derive(Drop)]
+#[derive(Clone, Copy)]
 pub(crate) struct Serial {
     pub(crate) told: bool,
     pub(crate) line: Line,
@@ -29,7 +29,7 @@ fn due() -> Viewed {
 
 // Returns the serial in a value, which ends at the first zero byte.
 fn of_value(value: &[u8]) -> Serial {
-    let end = bytes::scan::find(value, 0, value.len(), 0);
+    let end = spans::find(value, 0);
     let n = words::front(end, value);
     Serial {
         told: true,
@@ -82,7 +82,7 @@ fn is_due(viewed: Viewed) -> bool {
 }
 
 // Leads a talk on until the viewer asks for the serial no more.
-fn answered(ends: Ends, talk: Talk) -> Talk {
+fn answered(ends: &Ends, talk: Talk) -> Talk {
     let mut talk = talk;
     let mut turns = talk::MOST_REQUESTS;
     while turns > 0 && is_due(talk.viewed) {
@@ -93,12 +93,12 @@ fn answered(ends: Ends, talk: Talk) -> Talk {
 }
 
 // Asks a board for its serial, where it is needed.
-pub(crate) fn ask(ends: Ends) -> Serial {
+pub(crate) fn ask(ends: &Ends) -> Serial {
     of_talk(answered(ends, begun(ends.begun)))
 }
 
 // Asks a board for its serial once, where it is only shown: a dead board would keep the box waiting for the same silence twice.
-pub(crate) fn ask_once(ends: Ends) -> Serial {
+pub(crate) fn ask_once(ends: &Ends) -> Serial {
     of_talk(talk::further(ends, begun(ends.begun), false))
 }
 
@@ -107,5 +107,5 @@ pub(crate) fn is(serial: Serial, wanted: &[u8]) -> bool {
     let line = serial.line;
     let chars = line.chars;
     let n = words::front(line.len, &chars);
-    serial.told && check::same(&chars[..n], wanted)
+    serial.told && words::same(&chars[..n], wanted)
 }

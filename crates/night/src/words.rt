@@ -1,7 +1,8 @@
 // The program's arguments, and how it writes its report.
-ghost use Rattle.io.specs.Counts.{IsPrefixLen};
+ghost use Rattle.std.specs.Prelude.{◌≤◌, length};
 
 use lines::Line;
+use ports::{Port, Report, System};
 
 // The places of the arguments, and how long the command may be.
 pub(crate) const COMMAND: usize = 1;
@@ -17,12 +18,18 @@ const MOST_NAME: usize = 32;
 
 const NAME_END: usize = 15;
 
-// Reasons of the system for which the C library's declarations have no name.
+// Reasons of the system.
+const IO: i32 = 5;
+
 const NO_DEVICE_NOW: i32 = 6;
+
+const NOT_ALLOWED: i32 = 13;
 
 const BUSY: i32 = 16;
 
 const NO_DEVICE: i32 = 19;
+
+const NO_FOLDER: i32 = 20;
 
 // What the program can do.
 #[derive(Drop)]
@@ -49,16 +56,16 @@ pub(crate) fn asked_for(word: &[u8], count: usize) -> Command {
 
 // Returns the command that has one argument.
 fn of_one(word: &[u8]) -> Command {
-    if check::same(word, b"check") {
+    if words::same(word, b"check") {
         return Command::Check;
     }
-    if check::same(word, b"show") {
+    if words::same(word, b"show") {
         return Command::Show;
     }
-    if check::same(word, b"yard") {
+    if words::same(word, b"yard") {
         return Command::Yard;
     }
-    if check::same(word, b"lines") {
+    if words::same(word, b"lines") {
         return Command::Lines;
     }
     Command::Unknown
@@ -66,96 +73,107 @@ fn of_one(word: &[u8]) -> Command {
 
 // Returns the command that has two arguments.
 fn of_two(word: &[u8]) -> Command {
-    if check::same(word, b"save") {
+    if words::same(word, b"save") {
         return Command::Save;
     }
-    if check::same(word, b"restore") {
+    if words::same(word, b"restore") {
         return Command::Restore;
     }
-    if check::same(word, b"plan") {
+    if words::same(word, b"plan") {
         return Command::Plan;
     }
-    if check::same(word, b"yard") {
+    if words::same(word, b"yard") {
         return Command::Table;
     }
     Command::Unknown
 }
 
 // Says how the program is used.
-pub(crate) fn usage() {
+pub(crate) fn usage(system: System) {
     say(
-        libc::STDERR_FILENO,
+        ports::error(system),
         b"usage: night save LINE FILE | check FILE | restore LINE FILE | plan LINE FILE | show LINE | yard LIST [tsv] | lines LIST",
     );
 }
 
 // Writes a line of fixed text.
-pub(crate) fn say(report: i32, text: &[u8]) {
-    io::write_all(report, text);
+pub(crate) fn say(report: Report, text: &[u8]) {
+    ports::write_all(report, text);
     end(report);
 }
 
 // Writes a line of the report.
-pub(crate) fn tell(report: i32, line: Line) {
+pub(crate) fn tell(report: Report, line: Line) {
     add(report, line);
     end(report);
 }
 
 // Writes a part of a line.
-pub(crate) fn add(report: i32, line: Line) {
+pub(crate) fn add(report: Report, line: Line) {
     let chars = line.chars;
     put(report, &chars, line.len);
 }
 
 // Ends a line.
-pub(crate) fn end(report: i32) {
-    io::write_all(report, b"\n");
+pub(crate) fn end(report: Report) {
+    ports::write_all(report, b"\n");
 }
 
 // Returns how much of a buffer is meant: `len` bytes at its front, or all of it where it has less.
 pub(crate) fn front(len: usize, of: &[u8]) -> usize
-    ensures { IsPrefixLen result of.now }
+    ensures { result ≤ length of.now }
 {
     if len < of.len() { len } else { of.len() }
 }
 
 // Writes the front of a buffer; false where that failed.
-pub(crate) fn put(fd: i32, text: &[u8], len: usize) -> bool {
+pub(crate) fn put(report: Report, text: &[u8], len: usize) -> bool {
     let n = front(len, text);
-    io::write_all(fd, &text[..n])
+    ports::write_all(report, &text[..n])
+}
+
+// Sends the front of a buffer on a line; false where that failed.
+pub(crate) fn send(line: &Port, text: &[u8], len: usize) -> bool {
+    let n = front(len, text);
+    ports::send(line, &text[..n])
+}
+
+// Returns whether two texts are the same.
+pub(crate) fn same(a: &[u8], b: &[u8]) -> bool {
+    a == b
 }
 
 // Writes the name that a line begins with.
-pub(crate) fn name(report: i32, name: &[u8]) {
-    io::write_all(report, name);
-    io::write_all(report, b": ");
+pub(crate) fn name(report: Report, name: &[u8]) {
+    ports::write_all(report, name);
+    ports::write_all(report, b": ");
 }
 
 // Writes a name that a row begins with. A long one is written by its two ends, so that it does not push the rest off the row.
-pub(crate) fn short(report: i32, name: &[u8]) {
+pub(crate) fn short(report: Report, name: &[u8]) {
     if name.len() <= MOST_NAME {
-        io::write_all(report, name);
+        ports::write_all(report, name);
         return;
     }
     let n = front(NAME_END, name);
-    io::write_all(report, &name[..n]);
-    io::write_all(report, b"..");
+    ports::write_all(report, &name[..n]);
+    ports::write_all(report, b"..");
     let from = name.len() - NAME_END;
-    io::write_all(report, &name[from..]);
+    ports::write_all(report, &name[from..]);
 }
 
 // Puts the system's reason, by its number.
 pub(crate) fn put_reason(line: Line, error: i32) -> Line {
-    if error == libc::ENOENT {
+    if error == ports::NOTHING_THERE {
         return line.put(b"No such file or directory");
     }
-    if error == libc::EACCES {
+    if error == NOT_ALLOWED {
         return line.put(b"Permission denied");
     }
-    if error == libc::EIO {
+    if error == IO {
         return line.put(b"Input/output error");
     }
-    if error == libc::EISDIR {
+    if error == ports::A_FOLDER {
         return line.put(b"Is a directory");
     }
     put_other(line, error)
@@ -172,7 +190,7 @@ fn put_other(line: Line, error: i32) -> Line {
     if error == BUSY {
         return line.put(b"Device or resource busy");
     }
-    if error == libc::ENOTDIR {
+    if error == NO_FOLDER {
         return line.put(b"Not a directory");
     }
     line.put(b"error ").put_number(number_of(error))
@@ -195,7 +213,7 @@ pub(crate) fn is_blank(c: u8) -> bool {
 
 // Returns how much of a text comes before the blanks at its end.
 pub(crate) fn filled(text: &[u8]) -> usize
-    ensures { IsPrefixLen result text.now }
+    ensures { result ≤ length text.now }
 {
     let mut len = text.len();
     while len > 0 && is_blank(text[len - 1]) {

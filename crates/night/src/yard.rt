@@ -7,21 +7,23 @@ use crate::whose::Serial;
 use crate::{checks, collecting, file, list, restoring, serial, whose, words};
 use collect::Stage;
 use lines::Line;
+use ports::{Report, System};
 use tables::Table;
 use tally::{Counted, Tally};
 use who::Verdict;
 
-// The sums so far, where the report goes, whether there is a table for machines too, and whether this is the last round.
-#[derive(Drop)]
+// The sums so far, the system, where the report goes, whether there is a table for machines too, and whether this is the last round.
+#[derive(Clone, Copy)]
 struct Sheet {
     tally: Tally,
-    report: i32,
+    system: System,
+    report: Report,
     table: bool,
     last: bool,
 }
 
 // The way in which the sums have counted a trailer, if they have.
-#[derive(Drop)]
+#[derive(Clone, Copy)]
 enum Way {
     Done,
     Equal,
@@ -32,29 +34,29 @@ enum Way {
 }
 
 // `night yard LIST`.
-pub(crate) fn run() {
-    begin(libc::STDOUT_FILENO, false);
+pub(crate) fn run(system: System) {
+    begin(system, ports::output(system), false);
 }
 
 // `night yard LIST tsv`.
-pub(crate) fn run_table() {
-    let mut word = io::buffer();
-    let len = os::arg(words::SECOND, &mut word);
-    if check::same(&word[..len], b"tsv") {
-        begin(libc::STDERR_FILENO, true);
+pub(crate) fn run_table(system: System) {
+    let mut word = ports::buffer();
+    let len = ports::arg(system, words::SECOND, &mut word);
+    if words::same(&word[..len], b"tsv") {
+        begin(system, ports::error(system), true);
     } else {
-        words::usage();
+        words::usage(system);
     }
 }
 
 // Begins only with a list that was read whole: a trailer past what was read would be left out without a word.
-fn begin(report: i32, table: bool) {
-    let mut list = io::large_buffer();
-    let read = list::read(&mut list);
+fn begin(system: System, report: Report, table: bool) {
+    let mut list = ports::large_buffer();
+    let read = list::read(system, &mut list);
     let n = words::front(read.len, &list);
     let state = read.state;
     match state {
-        State::Whole => work(&list[..n], report, table),
+        State::Whole => work(system, &list[..n], report, table),
         State::Unread => words::say(report, b"nothing was begun: the list cannot be read"),
         State::Long => words::say(report, b"nothing was begun: the list has over 65535 bytes"),
     }
@@ -62,16 +64,17 @@ fn begin(report: i32, table: bool) {
 
 // Restores all trailers of the list, and tells the sums. Two rows with the same serial line would be two restores of one board, so it begins
 // none. (Two names of one device are the launcher's to compare: it gives both rows one name.)
-fn work(list: &[u8], report: i32, table: bool) {
+fn work(system: System, list: &[u8], report: Report, table: bool) {
     if list::is_doubled(list, report) {
         return;
     }
-    let mut left = io::large_buffer();
+    let mut left = ports::large_buffer();
     let first = round(
         list,
         &mut left,
         Sheet {
             tally: Tally::nothing(),
+            system,
             report,
             table,
             last: false,
@@ -83,6 +86,7 @@ fn work(list: &[u8], report: i32, table: bool) {
         &mut left,
         Sheet {
             tally,
+            system,
             report,
             table,
             last: true,
@@ -97,7 +101,7 @@ fn round(list: &[u8], left: &mut [u8], sheet: Sheet) -> Sheet {
     let mut sheet = sheet;
     let mut at = 0;
     while at < list.len() {
-        let end = bytes::scan::find(list, at + 1, list.len(), b'\n');
+        let end = list::row_end(list, at);
         sheet = turn(sheet, &list[at..end], at, left);
         at = end;
     }
@@ -210,15 +214,15 @@ fn word_of(way: Way) -> Line {
 }
 
 // Begins the row of a trailer: its name, and the serial of its board.
-fn title(report: i32, name: &[u8], serial: Serial) {
+fn title(report: Report, name: &[u8], serial: Serial) {
     let line = serial.line;
     words::short(report, name);
     if 0 < line.len {
-        io::write_all(report, b" (");
+        ports::write_all(report, b" (");
         words::add(report, line);
-        io::write_all(report, b")");
+        ports::write_all(report, b")");
     }
-    io::write_all(report, b": ");
+    ports::write_all(report, b": ");
 }
 
 // Begins the row of a trailer, with the word by which the sums have counted it.
@@ -246,12 +250,12 @@ fn put_way(line: Line, way: Way) -> Line {
 
 // Writes the row of a table for machines: name, serial, way, and how many Sets were confirmed of how many that were due, tabs between. The
 // name of a row that is no trailer's is the row, up to its first tab.
-fn tell_columns(name: &[u8], serial: Serial, before: Tally, after: Tally) {
-    let out = libc::STDOUT_FILENO;
+fn tell_columns(system: System, name: &[u8], serial: Serial, before: Tally, after: Tally) {
+    let out = ports::output(system);
     let line = serial.line;
-    let end = bytes::scan::find(name, 0, name.len(), b'\t');
+    let end = spans::find(name, b'\t');
     let n = words::front(end, name);
-    io::write_all(out, &name[..n]);
+    ports::write_all(out, &name[..n]);
     words::add(out, Line::start().put(b"\t"));
     words::add(out, line);
     let way = put_way(Line::start().put(b"\t"), way_of(before, after));
@@ -271,7 +275,7 @@ fn finish(sheet: Sheet, name: &[u8], serial: Serial, counted: Counted) -> Sheet 
     let report = sheet.report;
     let table = sheet.table;
     if table {
-        tell_columns(name, serial, sheet.tally, counted.tally);
+        tell_columns(sheet.system, name, serial, sheet.tally, counted.tally);
     }
     let verdict = counted.verdict;
     match verdict {
@@ -287,6 +291,7 @@ fn finish(sheet: Sheet, name: &[u8], serial: Serial, counted: Counted) -> Sheet 
     let tally = counted.tally;
     Sheet {
         tally,
+        system: sheet.system,
         report,
         table,
         last: sheet.last,
@@ -304,10 +309,10 @@ fn not_begun(sheet: Sheet, name: &[u8], serial: Serial, why: Line) -> Sheet {
 
 // Restores one trailer. Its serial line is opened first: where the serial line and the file are swapped, the device is not read as a file.
 fn trailer(sheet: Sheet, name: &[u8], path: &[u8], kept: &[u8], column: &[u8]) -> Sheet {
-    if check::same(path, b"-") {
+    if words::same(path, b"-") {
         return unmet(sheet, name, b"in a yard a line is a device");
     }
-    let ends = serial::open(path);
+    let ends = serial::open(sheet.system, path);
     if ends.file {
         return unmet(sheet, name, b"its line is a file and no line");
     }
@@ -315,7 +320,7 @@ fn trailer(sheet: Sheet, name: &[u8], path: &[u8], kept: &[u8], column: &[u8]) -
         return unopened(sheet, name, ends.error);
     }
     let len = words::filled(kept);
-    let after = begun(sheet, name, ends, &kept[..len], column);
+    let after = begun(sheet, name, &ends, &kept[..len], column);
     serial::close(ends);
     after
 }
@@ -327,8 +332,8 @@ fn unopened(sheet: Sheet, name: &[u8], error: i32) -> Sheet {
 }
 
 // Reads the file of a trailer whose serial line is open, and goes on if it is good.
-fn begun(sheet: Sheet, name: &[u8], ends: Ends, kept: &[u8], column: &[u8]) -> Sheet {
-    let text = file::read(kept);
+fn begun(sheet: Sheet, name: &[u8], ends: &Ends, kept: &[u8], column: &[u8]) -> Sheet {
+    let text = file::read(sheet.system, kept);
     if !text.is {
         return unmet(sheet, name, b"its file cannot be read");
     }
@@ -345,7 +350,7 @@ fn begun(sheet: Sheet, name: &[u8], ends: Ends, kept: &[u8], column: &[u8]) -> S
 }
 
 // Asks the board for its serial, and goes on if it is the board that the row expects, if it expects one.
-fn met(sheet: Sheet, name: &[u8], ends: Ends, to: Table, column: &[u8]) -> Sheet {
+fn met(sheet: Sheet, name: &[u8], ends: &Ends, to: Table, column: &[u8]) -> Sheet {
     let serial = if 0 < column.len() {
         whose::ask(ends)
     } else {
@@ -366,7 +371,7 @@ fn met(sheet: Sheet, name: &[u8], ends: Ends, to: Table, column: &[u8]) -> Sheet
 }
 
 // Reads the board's settings, and restores it if all were answered.
-fn restore(sheet: Sheet, name: &[u8], ends: Ends, serial: Serial, to: Table) -> Sheet {
+fn restore(sheet: Sheet, name: &[u8], ends: &Ends, serial: Serial, to: Table) -> Sheet {
     let read = collecting::settings_of(ends, false);
     let collected = read.collected;
     let stage = collected.stage;
@@ -393,13 +398,13 @@ fn unread(sheet: Sheet, name: &[u8], serial: Serial, read: Talk) -> Sheet {
 }
 
 // Follows the restore, tells its end, and counts the follower's own result; one that is begun anew at the end of the round is counted then.
-fn follow(sheet: Sheet, name: &[u8], ends: Ends, serial: Serial, from: Table, to: Table) -> Sheet {
+fn follow(sheet: Sheet, name: &[u8], ends: &Ends, serial: Serial, from: Table, to: Table) -> Sheet {
     let restored = restoring::follow(ends, from, to, false);
     let followed = restored.followed;
     let follower = followed.follower;
     if tally::begins_anew(follower, 0 < restored.len, sheet.last) {
         title(sheet.report, name, serial);
-        io::write_all(sheet.report, b"once more at the end: ");
+        ports::write_all(sheet.report, b"once more at the end: ");
         restoring::tell_end(sheet.report, restored);
         return sheet;
     }

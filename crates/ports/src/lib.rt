@@ -14,7 +14,12 @@ use std::{fs, io};
 // The system, which `main` is given.
 pub type System = HostRuntime;
 
-// The system's numbers for bytes that are no text, and for an argument that it can only refuse.
+// The system's numbers for: nothing is there, it is a folder.
+pub const NOTHING_THERE: i32 = 2;
+
+pub const A_FOLDER: i32 = 21;
+
+// Its numbers for bytes that are no text, and for an argument that it can only refuse.
 const NO_TEXT: i32 = 84;
 
 const INVALID: i32 = 22;
@@ -221,6 +226,12 @@ pub fn read_full(file: &File, into: &mut [u8]) -> usize
         done += n;
     }
     done
+}
+
+// Returns whether a file has nothing more to read: a read gives nothing, and does not fail.
+pub fn is_at_end(file: &File) -> bool {
+    let mut from = file;
+    matches!(read_from(&mut from, &mut [0u8; 1]), Some(0))
 }
 
 // Returns whether what was opened has a position, as a file on a disk and no serial line.
