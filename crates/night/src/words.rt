@@ -56,16 +56,16 @@ pub(crate) fn asked_for(word: &[u8], count: usize) -> Command {
 
 // Returns the command that has one argument.
 fn of_one(word: &[u8]) -> Command {
-    if words::same(word, b"check") {
+    if same(word, b"check") {
         return Command::Check;
     }
-    if words::same(word, b"show") {
+    if same(word, b"show") {
         return Command::Show;
     }
-    if words::same(word, b"yard") {
+    if same(word, b"yard") {
         return Command::Yard;
     }
-    if words::same(word, b"lines") {
+    if same(word, b"lines") {
         return Command::Lines;
     }
     Command::Unknown
@@ -73,16 +73,16 @@ fn of_one(word: &[u8]) -> Command {
 
 // Returns the command that has two arguments.
 fn of_two(word: &[u8]) -> Command {
-    if words::same(word, b"save") {
+    if same(word, b"save") {
         return Command::Save;
     }
-    if words::same(word, b"restore") {
+    if same(word, b"restore") {
         return Command::Restore;
     }
-    if words::same(word, b"plan") {
+    if same(word, b"plan") {
         return Command::Plan;
     }
-    if words::same(word, b"yard") {
+    if same(word, b"yard") {
         return Command::Table;
     }
     Command::Unknown
