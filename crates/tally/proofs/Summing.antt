@@ -14,7 +14,7 @@ use Rattle.restore.proofs.Theorems.{sets_are_few}
 use Rattle.follow.specs.Following.{standing, total, follower_allowed}
 use Rattle.follow.specs.declared.Follower.{Follower}
 use Rattle.follow.specs.declared.Standing.{Standing}
-use Rattle.tally.specs.Results.{Result, restored, silent, not_begun, tally_of, nothing, has_ended, is_stopped, ended_as, with_sets, share_of, fits, most, tally_allowed, plus}
+use Rattle.tally.specs.Results.{Result, restored, silent, not_begun, nothing, has_ended, is_stopped, ended_as, with_sets, share_of, fits, most, tally_allowed, plus}
 use Rattle.tally.specs.Calls.{counted, counting}
 use Rattle.tally.specs.AsHeld.{Within}
 use Rattle.tally.specs.Laws.{tallied, fitting, one, number, add_up, is_done, is_equal, was_done, was_equal, was_stopped, was_silent, was_not_begun, confirmed_of, due_of, SumsUp, TallySumsUp, all_fit, AllAreCounted, CountedIsAdded}
@@ -52,7 +52,16 @@ follower_few f e = by f.stopped (and_right (both_allowed f.from f.to) _ e)
     by false h = leb-true _ _ h
 
 record Ended (o : Standing) (a : Bool) : Type 0 where
-  pub share_is : ended_as o a ≡ tally_of (one (is_done o)) (one (is_equal o)) (one (is_stopped o && a)) (one (is_stopped o && not a)) 0
+  pub share_is : ended_as o a
+      ≡ record {
+        done = one (is_done o);
+        equal = one (is_equal o);
+        stopped = one (is_stopped o && a);
+        silent = one (is_stopped o && not a);
+        unbegun = 0;
+        confirmed = 0;
+        due = 0;
+      }
   pub once : one (is_done o) + one (is_equal o) + one (is_stopped o && a) + one (is_stopped o && not a) + 0 ≡ 1
 
 ended : (o : Standing) (a : Bool) → has_ended o ≡ true → Ended o a
