@@ -67,9 +67,18 @@ fn keep(ends: &Ends, collected: Collected, path: &[u8]) {
 // written.
 fn tell(report: Report, collected: Collected, kept: Kept, path: &[u8]) {
     let collector = collected.collector;
-    words::add(report, sentences::saved(collector, kept));
+    words::add(report, sentences::saved(collector, again(&kept)));
     tell_path(report, kept, path);
     words::end(report);
+}
+
+// Returns once more what became of a file.
+fn again(kept: &Kept) -> Kept {
+    match kept {
+        Kept::Not => Kept::Not,
+        Kept::Unsure => Kept::Unsure,
+        Kept::Whole => Kept::Whole,
+    }
 }
 
 // Adds the file's name, if it was written.
