@@ -1,4 +1,4 @@
--- Laws of the definitions of specs/, and what the proofs of the functions cite. In those proofs `cN` is the place N steps before `c`.
+-- Laws of the definitions of specs/, and what the proofs of the functions cite.
 pub mod Ending
 pub mod Gathering
 pub mod Viewing
