@@ -51,6 +51,13 @@ make_archive() { # REPOSITORY NAME
     (cd "$1/crates/$2_c" && rt lib) && mkdir -p "$1/target/staticlib" && cp "$1/crates/$2_c/out/lib$2_c.a" "$archive"
 }
 
+# Proves and builds a program of a clone, crates/NAME/out/NAME, where it is not there or not of these sources. rt runs what it builds: with
+# these words both programs end at once and print nothing.
+make_program() { # REPOSITORY NAME
+    case $2 in night) set -- "$1" "$2" lines /dev/null ;; *) set -- "$1" "$2" - ;; esac
+    (cd "$1/crates/$2" && shift 2 && rt run -- "$@") </dev/null
+}
+
 # Runs a program that was built by the toolchain.
 run_program() { # PROGRAM WORDS...
     ${emulator:+"$emulator"} "$loader" --library-path "$tools/lib" "$@"
