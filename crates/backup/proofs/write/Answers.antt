@@ -14,6 +14,7 @@ use Rattle.backup.proofs.Listing.{text_stores, text_length, overlaid_length}
 use Rattle.backup.proofs.write.Goals as goal
 use Rattle.backup.proofs.write.Goals.{After-copy-at}
 
+-- the header at the front
 front : (c : After-copy-at) → c.copy-at.new.to ≡ overlaid header c.args.out.now
 front c =
     copied _ _ (rw c.header-header.ensures (omega (arith, header_long, c.if-out-lt-TEXT_ROOM.false))) c.copy-at.ensures.copied ∙ ap (λ (l : List ℕ). overlaid l c.args.out.now) c.header-header.ensures

@@ -8,6 +8,7 @@ use Rattle.tables.proofs.Tables.{nearest_is}
 use Rattle.tables.proofs.nearest_of.Goals as goal
 use Rattle.tables.proofs.nearest_of.Goals.{After-nearest-answer}
 
+-- what the call answers
 answered : (c : After-nearest-answer) → c.nearest-answer.result ≡ Number.Is (nearest_of c.args.setting.index c.args.wished c.args.partner)
 answered c = c.nearest-answer.ensures ∙ nearest_is _ c.requires.0 _ _ c.requires.1
 

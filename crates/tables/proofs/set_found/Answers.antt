@@ -12,6 +12,7 @@ use Rattle.tables.proofs.Tables.{setting_below, partner_in, partner_held, allows
 use Rattle.tables.proofs.set_found.Goals as goal
 use Rattle.tables.proofs.set_found.Goals.{After-allows}
 
+-- the test is the one of the promise
 allows_told : (c : After-allows) (b : Bool) → c.allows.result ≡ b
     → allowed_for c.args.setting.index c.args.number (partner_number c.args.table c.args.setting.index) ≡ b
 allows_told c b e = sym (allows_is _ c.requires.1 c.args.table _) ∙ sym c.allows.ensures ∙ e

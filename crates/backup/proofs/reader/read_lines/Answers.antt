@@ -14,6 +14,7 @@ use Rattle.backup.proofs.reader.read_lines.Goals.{After-judge-judged, Start}
 short : (c : Start) → length c.args.text.now < 0x8000000000000000
 short s = search rules
 
+-- how the line is judged
 judged_is : (c : After-judge-judged)
     → c.judge-judged.result ≡ judging c.loop-index.index (drop c.loop-index.at c.args.text.now)
 judged_is c = c.judge-judged.ensures ∙ rw (part_to_end _ _ _ refl)

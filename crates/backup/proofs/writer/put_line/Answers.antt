@@ -17,6 +17,7 @@ small s = search rules
 short : (c : Start) → length c.args.out.now < 0x8000000000000000
 short s = search rules
 
+-- the length that is answered is the row's
 len_is : (c : In-Len) → c.in-Len.len ≡ length (row_of c.setting_at-id.result.id c.args.n)
 len_is c =
     let few : c.args.n < 65536 = search rules in

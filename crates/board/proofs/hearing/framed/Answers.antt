@@ -11,6 +11,7 @@ use Rattle.board.proofs.Sending.{Sendable, sendable, decided_is}
 use Rattle.board.proofs.hearing.framed.Goals as goal
 use Rattle.board.proofs.hearing.framed.Goals.{After-answer-decided, Start}
 
+-- what is decided
 abbrev decision : Start → Decision
 decision s = frame_answer s.args.core s.args.command s.args.bytes.now
 

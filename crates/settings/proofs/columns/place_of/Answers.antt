@@ -9,6 +9,7 @@ use Rattle.settings.specs.Columns.{place_of}
 use Rattle.settings.proofs.columns.place_of.Goals as goal
 use Rattle.settings.proofs.columns.place_of.Goals.{In-loop-i}
 
+-- inside the loop the place is one of the table
 within : (c : In-loop-i) → c.loop-i.i < count
 within c = omega arith
 

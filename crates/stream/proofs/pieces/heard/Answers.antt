@@ -24,6 +24,7 @@ some c =
     let short : c.first_of-skipped.result ≤ length c.args.piece.now = rw c.first_of-skipped.ensures (before_first colon_at c.args.piece.now).inside in
     omega arith
 
+-- what is found in the frame that the colon begins
 found : (c : After-fresh-found) → Gives Heard (heard_of (inside []) (drop (c.first_of-skipped.result + 1) c.args.piece.now)) c.args.into.now c.fresh-found.result c.fresh-found.new.into
 found c =
     rw (part_to_end c.args.piece.now _ (c.first_of-skipped.result + 1) refl) at c.fresh-found.ensures

@@ -18,6 +18,7 @@ use Rattle.wire.proofs.reader.read_digits.Goals.{After-sum_of, Start}
 many : (c : Start) → 3 ≤ length c.args.chars.now
 many c = (odd_count (length c.args.chars.now) c.requires.2).0
 
+-- the sum as it was taken is that of the whole payload
 sums : (c : After-sum_of) → (c.nibble_of-command.result + c.sum_of.result) % 256 ≡ (command_of c.args.chars.now + sum_of (payload_of c.args.chars.now)) % 256
 sums c =
     rw (c.nibble_of-command.ensures, c.sum_of.ensures, payload_part _ _ c.requires.2 c.payload_of-payload.ensures.1) (add-mod-mod _ _ 256)
