@@ -9,8 +9,8 @@
 // PRODUCT, VERSION  four hex digits each; A381 and 4401
 // SERIAL  0 to 32 characters; none
 //
-// A program of this language has no exit status. Where the board does not start, or its settings at the end are not written, the last line on
-// standard error begins with "trailer: not", which the launcher turns into one.
+// It has no exit status of its own. Where the board does not start, or its settings at the end are not written, the last line on standard
+// error begins with "trailer: not", which the launcher turns into one.
 #![tactic(auto)]
 
 mod end;
