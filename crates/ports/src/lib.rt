@@ -2,7 +2,7 @@
 // argument and a text are bytes; the standard library opens a path only if it is UTF-8. No contract can say what a file or a line gives.
 #![tactic(auto)]
 
-ghost use Rattle.std.specs.Prelude.{◌≡◌, ◌≤◌, length, IfOk};
+ghost use Rattle.std.specs.Prelude.{◌≡◌, ◌≤◌, ◌-◌, length, take, IfOk};
 
 use std::env::{Env, FillError};
 use std::fs::{File, OpenOptions, Permissions};
@@ -327,6 +327,7 @@ fn draw(system: System, end: &mut [u8]) -> io::Result<()> {
 // Creates a file of a name whose end is drawn, which no file had; only its owner may read and write it.
 fn create_drawn(system: System, name: &mut [u8], from: usize) -> io::Result<File>
     requires { from ≤ length name.old }
+    ensures { take from name.new ≡ take from name.old }
 {
     for _ in 0..TRIES {
         draw(system, &mut name[from..])?;
@@ -340,7 +341,9 @@ fn create_drawn(system: System, name: &mut [u8], from: usize) -> io::Result<File
 }
 
 // Creates a temporary file. The name ends in XXXXXX, which is drawn until no file has the name. Where that fails, the name is as it was.
-pub fn create_temp(system: System, name: &mut [u8]) -> io::Result<File> {
+pub fn create_temp(system: System, name: &mut [u8]) -> io::Result<File>
+    ensures { take (length name.old - 6) name.new ≡ take (length name.old - 6) name.old }
+{
     if name.len() < DRAWN {
         return Err(Error::from_raw_os_error(INVALID));
     }
