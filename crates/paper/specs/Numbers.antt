@@ -1,79 +1,101 @@
 -- The numbers that document 01 fixes for more than one crate, each beside its words. Assumes nothing.
 use Rattle.std.specs.Prelude.{ℕ}
+use Rattle.paper.specs.declared.Refusal.{Refusal}
 
 -- "Numbers of refusal". "The order is 11, 12, then 1 to 10 as listed."
 
 -- 1: "over 73 characters in the frame"
-abbrev pub too_long : ℕ
-too_long = 1
+abbrev pub too_long : Refusal
+too_long = Refusal.TooLong
 
 -- 2: "a character is no digit, or a colon broke it"
-abbrev pub no_digit : ℕ
-no_digit = 2
+abbrev pub no_digit : Refusal
+no_digit = Refusal.NoDigit
 
 -- 3: "under 3 characters, or an even count"
-abbrev pub bad_count : ℕ
-bad_count = 3
+abbrev pub bad_count : Refusal
+bad_count = Refusal.BadCount
 
 -- 4: "sum is not 0x55"
-abbrev pub bad_sum : ℕ
-bad_sum = 4
+abbrev pub bad_sum : Refusal
+bad_sum = Refusal.BadSum
 
 -- 5: "command 0, 2, 5, 9, B to F"
-abbrev pub unknown_command : ℕ
-unknown_command = 5
+abbrev pub unknown_command : Refusal
+unknown_command = Refusal.UnknownCommand
 
 -- 6: "Ping, App version, Product id or Restart with data; Get with other than 3 data bytes; Set with under 3; request flags not 0"
-abbrev pub malformed : ℕ
-malformed = 6
+abbrev pub malformed : Refusal
+malformed = Refusal.Malformed
 
 -- 7: "id not in either table below"
-abbrev pub unknown_id : ℕ
-unknown_id = 7
+abbrev pub unknown_id : Refusal
+unknown_id = Refusal.UnknownId
 
 -- 8: "Set of a read-only id"
-abbrev pub read_only_id : ℕ
-read_only_id = 8
+abbrev pub read_only_id : Refusal
+read_only_id = Refusal.ReadOnlyId
 
 -- 9: "Set of a setting, wrong value width"
-abbrev pub wrong_width : ℕ
-wrong_width = 9
+abbrev pub wrong_width : Refusal
+wrong_width = Refusal.WrongWidth
 
 -- 10: "number not allowed"
-abbrev pub number_not_allowed : ℕ
-number_not_allowed = 10
+abbrev pub number_not_allowed : Refusal
+number_not_allowed = Refusal.NumberNotAllowed
 
 -- 11: "lent buffer too short"
-abbrev pub short_buffer : ℕ
-short_buffer = 11
+abbrev pub short_buffer : Refusal
+short_buffer = Refusal.ShortBuffer
 
 -- 12: "a handed-in number, state or table is not allowed"
-abbrev pub not_allowed : ℕ
-not_allowed = 12
+abbrev pub not_allowed : Refusal
+not_allowed = Refusal.NotAllowed
 
 -- "Backup text". 13: "first line differs"
-abbrev pub other_header : ℕ
-other_header = 13
+abbrev pub other_header : Refusal
+other_header = Refusal.OtherHeader
 
 -- 14: "not four digits as above, tab, 1 to 5 decimal digits with no leading zero but a lone 0, newline, or text ended"
-abbrev pub bad_line : ℕ
-bad_line = 14
+abbrev pub bad_line : Refusal
+bad_line = Refusal.BadLine
 
 -- 15: "another id is due"
-abbrev pub other_id : ℕ
-other_id = 15
+abbrev pub other_id : Refusal
+other_id = Refusal.OtherId
 
 -- 16: "outside own range"
-abbrev pub out_of_range : ℕ
-out_of_range = 16
+abbrev pub out_of_range : Refusal
+out_of_range = Refusal.OutOfRange
 
 -- 17: "a pair disagrees"
-abbrev pub pair_disagrees : ℕ
-pair_disagrees = 17
+abbrev pub pair_disagrees : Refusal
+pair_disagrees = Refusal.PairDisagrees
 
 -- 18: "bytes follow the last line"
-abbrev pub more_bytes : ℕ
-more_bytes = 18
+abbrev pub more_bytes : Refusal
+more_bytes = Refusal.MoreBytes
+
+-- the number of each
+abbrev pub number_of : Refusal → ℕ
+number_of Refusal.TooLong = 1
+number_of Refusal.NoDigit = 2
+number_of Refusal.BadCount = 3
+number_of Refusal.BadSum = 4
+number_of Refusal.UnknownCommand = 5
+number_of Refusal.Malformed = 6
+number_of Refusal.UnknownId = 7
+number_of Refusal.ReadOnlyId = 8
+number_of Refusal.WrongWidth = 9
+number_of Refusal.NumberNotAllowed = 10
+number_of Refusal.ShortBuffer = 11
+number_of Refusal.NotAllowed = 12
+number_of Refusal.OtherHeader = 13
+number_of Refusal.BadLine = 14
+number_of Refusal.OtherId = 15
+number_of Refusal.OutOfRange = 16
+number_of Refusal.PairDisagrees = 17
+number_of Refusal.MoreBytes = 18
 
 -- "Frames": "`:`, a command nibble, data bytes as two digits each, a check byte as two digits, and a newline (byte 10)"
 abbrev pub colon : ℕ

@@ -2,42 +2,40 @@
 // same names with the paper's words beside them, and every call that gives or compares one promises it by that name.
 #![tactic(auto)]
 
-// The numbers of refusal, in document 01's order.
-pub const TOO_LONG: u8 = 1;
+ghost use Rattle.std.specs.Prelude.{◌≡◌};
+ghost use Rattle.paper.specs.Numbers.{number_of};
 
-pub const NO_DIGIT: u8 = 2;
+// A refusal, in document 01's order and with its number.
+#[derive(Clone, Copy, PartialEq, Eq)]
+pub enum Refusal {
+    TooLong = 1,
+    NoDigit = 2,
+    BadCount = 3,
+    BadSum = 4,
+    UnknownCommand = 5,
+    Malformed = 6,
+    UnknownId = 7,
+    ReadOnlyId = 8,
+    WrongWidth = 9,
+    NumberNotAllowed = 10,
+    ShortBuffer = 11,
+    NotAllowed = 12,
+    OtherHeader = 13,
+    BadLine = 14,
+    OtherId = 15,
+    OutOfRange = 16,
+    PairDisagrees = 17,
+    MoreBytes = 18,
+}
 
-pub const BAD_COUNT: u8 = 3;
-
-pub const BAD_SUM: u8 = 4;
-
-pub const UNKNOWN_COMMAND: u8 = 5;
-
-pub const MALFORMED: u8 = 6;
-
-pub const UNKNOWN_ID: u8 = 7;
-
-pub const READ_ONLY_ID: u8 = 8;
-
-pub const WRONG_WIDTH: u8 = 9;
-
-pub const NUMBER_NOT_ALLOWED: u8 = 10;
-
-pub const SHORT_BUFFER: u8 = 11;
-
-pub const NOT_ALLOWED: u8 = 12;
-
-pub const OTHER_HEADER: u8 = 13;
-
-pub const BAD_LINE: u8 = 14;
-
-pub const OTHER_ID: u8 = 15;
-
-pub const OUT_OF_RANGE: u8 = 16;
-
-pub const PAIR_DISAGREES: u8 = 17;
-
-pub const MORE_BYTES: u8 = 18;
+impl Refusal {
+    // Returns document 01's number of the refusal.
+    pub fn number(self) -> u8
+        ensures { result ≡ number_of self }
+    {
+        self as u8
+    }
+}
 
 // Frames: the bytes that begin and end one, the total that its bytes come to, and how much fits.
 pub const COLON: u8 = b':';
