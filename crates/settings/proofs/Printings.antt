@@ -16,7 +16,8 @@ use Rattle.settings.specs.Printed.{lines, low_pairs, high_pairs, among, printed_
 use Rattle.settings.specs.Rules.{in_range, low_agrees, high_agrees, agrees, allowed_for, all_allowed, nearest_of}
 use Rattle.settings.specs.Calls.{placing, ranging, allowing, partner_fits, nearing}
 use Rattle.settings.specs.Laws.{refusal_of, NearestGivenWhen, AllowedIsPrinted, PrintedIsTold, WidthIsPrinted, PartnerIsPrinted, PastIsNothing, AllAllowedWhen}
-use Rattle.settings.specs.declared.Number.{Number}
+use Rattle.std.specs.Prelude.{Ok, Err}
+use Rattle.paper.specs.Numbers.{not_allowed, unknown_id}
 use Rattle.settings.proofs.Rows.{placed, get_d_past}
 
 -- two functions with the same answers, id by id
@@ -118,12 +119,12 @@ nearest_given id wished partner = by (among id ids) refl
     found : ltb (place_of id) count ≡ among id ids
     found = unfold place_of in before_among id ids
 
-    told : (fits : Bool) → refusal_of (cond fits (Number.Is (nearest_of (place_of id) wished partner)) (Number.Refused 12)) ≡ cond (not fits) (some 12) none
+    told : (fits : Bool) → refusal_of (cond fits (Ok (nearest_of (place_of id) wished partner)) (Err not_allowed)) ≡ cond (not fits) (some 12) none
     told true = refl
     told false = refl
 
     by : (t : Bool) → among id ids ≡ t
-        → refusal_of (cond (ltb (place_of id) count) (cond (partner_fits (place_of id) partner) (Number.Is (nearest_of (place_of id) wished partner)) (Number.Refused 12)) (Number.Refused 7))
+        → refusal_of (cond (ltb (place_of id) count) (cond (partner_fits (place_of id) partner) (Ok (nearest_of (place_of id) wished partner)) (Err not_allowed)) (Err unknown_id))
         ≡ cond (not (among id printed_ids)) (some 7) (cond (not (partner_within id partner)) (some 12) none)
     by true e = rw (found, sym (same_ids id), e, fits_printed id e partner) (told (partner_within id partner))
     by false e = rw (found, sym (same_ids id), e)

@@ -1,11 +1,13 @@
 -- The rules of the table's columns: each is one computed test, carried to every entry. Assumes nothing.
-use mathlib.Core.Path.{◌≡◌, refl, sym, ap}
-use mathlib.Core.Bool.{Bool, true, false, cond, false≢true}
+use mathlib.Core.Path.{◌≡◌, refl, sym}
+use mathlib.Core.Bool.{Bool, true, false, cond}
 use mathlib.Core.List.{List, [], ◌∷◌}
 use Prim.Native.Nat.{ℕ, zero, suc, ◌-◌, ◌^◌, ◌≤◌, ◌<◌}
 use native.Mathlib.Omega.{arith}
 use native.Mathlib.Nat.{le_of_suc-le-suc}
 use borrow.Author.Tests.{lt-ltb, le-ltb, ltb-true, ltb-false, leb-true, eqb-true}
+use Rattle.std.specs.Prelude.{Some, None}
+use Rattle.std.proofs.lemmas.Option.{cond_some, none-some}
 use lib.ListN.{length, get_or}
 use lib.Dec.{ltb, leb, eqb}
 use Rattle.laws.proofs.Lists.{up_to_at, before_first}
@@ -14,7 +16,6 @@ use Rattle.settings.specs.Rules.{in_range, agrees, low_agrees, high_agrees}
 use Rattle.settings.specs.Calls.{setting_at, placing, finding}
 use Rattle.settings.specs.Laws.{Row, PlaceIsFound, FindIsFound, FoundHasId}
 use Rattle.settings.specs.declared.Setting.{Setting}
-use Rattle.settings.specs.declared.Found.{Found}
 use Rattle.settings.proofs.Pairs.{parts_opposite, alone_none, none_alone}
 
 module _ (k : ℕ) (h : k < count) where
@@ -96,28 +97,16 @@ unfolding finding
 find_found k h = rw (placed k h) (place_found k h)
 
 -- what is found at a place is its setting, and nothing is found past the table
-abbrev setting_in : Setting → Found → Setting
-setting_in other (Found.At s) = s
-setting_in other Found.Nothing = other
-
-abbrev is_found : Found → Bool
-is_found (Found.At s) = true
-is_found Found.Nothing = false
-
-pub place_has : (k : ℕ) (s : Setting) → placing k ≡ Found.At s → (k < count) × (setting_at k ≡ s)
+pub place_has : (k : ℕ) (s : Setting) → placing k ≡ Some s → (k < count) × (setting_at k ≡ s)
 unfolding placing
-place_has k s = by (ltb k count) refl
-  where
-    by : (b : Bool) → ltb k count ≡ b → cond b (Found.At (setting_at k)) Found.Nothing ≡ Found.At s → (k < count) × (setting_at k ≡ s)
-    by true h e = (ltb-true _ _ h, ap (setting_in s) e)
-    by false h e = absurd (false≢true (ap is_found e))
+place_has k s e = let found = cond_some (ltb k count) (setting_at k) s e in (ltb-true _ _ found.0, found.1)
 
-pub place_past : (k : ℕ) → placing k ≡ Found.Nothing → count ≤ k
+pub place_past : (k : ℕ) → placing k ≡ None → count ≤ k
 unfolding placing
 place_past k = by (ltb k count) refl
   where
-    by : (b : Bool) → ltb k count ≡ b → cond b (Found.At (setting_at k)) Found.Nothing ≡ Found.Nothing → count ≤ k
-    by true h e = absurd (false≢true (sym (ap is_found e)))
+    by : (b : Bool) → ltb k count ≡ b → cond b (Some (setting_at k)) None ≡ None → count ≤ k
+    by true h e = absurd (none-some (setting_at k) (sym e))
     by false h e = ltb-false _ _ h
 
 pub found_id : FoundHasId

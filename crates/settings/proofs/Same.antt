@@ -5,8 +5,7 @@ use mathlib.Core.List.{List}
 use Prim.Native.Nat.{ℕ}
 use Rattle.laws.proofs.Promise.{equal_same}
 use Rattle.settings.specs.declared.Setting.{Setting}
-use Rattle.settings.specs.declared.Found.{Found}
-use Rattle.settings.specs.declared.Number.{Number}
+use Rattle.settings.specs.Answers.{Found, Number}
 use Rattle.settings.proofs.find.Reads as find
 use Rattle.settings.proofs.at.Reads as at
 use Rattle.settings.proofs.setting_at.Reads as setting-at

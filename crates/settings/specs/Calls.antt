@@ -1,18 +1,17 @@
 -- What each public call answers, for every input. Assumes nothing.
-use Rattle.std.specs.Prelude.{ℕ, Bool, cond, ◌&&◌, ◌||◌, ltb, eqb}
+use Rattle.std.specs.Prelude.{ℕ, Bool, Some, None, Ok, Err, cond, ◌&&◌, ◌||◌, ltb, eqb}
 use Rattle.paper.specs.Numbers.{unknown_id, not_allowed}
 use Rattle.settings.specs.Columns.{count, id_at, width_at, partner_at, place_of}
 use Rattle.settings.specs.Rules.{in_range, allowed_for, nearest_of}
 use Rattle.settings.specs.declared.Setting.{Setting}
-use Rattle.settings.specs.declared.Found.{Found}
-use Rattle.settings.specs.declared.Number.{Number}
+use Rattle.settings.specs.Answers.{Found, Number}
 
 -- the setting at a place of the table, and the setting of an id
 abbrev pub setting_at : ℕ → Setting
 setting_at k = record { index = k; id = id_at k; width = width_at k; partner = partner_at k }
 
 unfoldable pub placing : ℕ → Found
-placing k = cond (ltb k count) (Found.At (setting_at k)) Found.Nothing
+placing k = cond (ltb k count) (Some (setting_at k)) None
 
 unfoldable pub finding : ℕ → Found
 finding id = placing (place_of id)
@@ -33,5 +32,5 @@ partner_fits k partner = eqb (partner_at k) k || in_range (partner_at k) partner
 unfoldable pub nearing : ℕ → ℕ → ℕ → Number
 nearing id wished partner =
     cond (ltb (place_of id) count)
-    (cond (partner_fits (place_of id) partner) (Number.Is (nearest_of (place_of id) wished partner)) (Number.Refused not_allowed))
-    (Number.Refused unknown_id)
+    (cond (partner_fits (place_of id) partner) (Ok (nearest_of (place_of id) wished partner)) (Err not_allowed))
+    (Err unknown_id)

@@ -1,7 +1,8 @@
 -- What is proved of the definitions, as statements to compare with the papers. Each is proved under its name in proofs/Theorems.antt.
 -- Assumes nothing.
-use Rattle.std.specs.Prelude.{ℕ, suc, ◌^◌, ◌≤◌, ◌<◌, ◌≡◌, ◌↔◌, true, false, cond, not, ◌&&◌, List, [], ◌∷◌, ◌++◌, map, length, get_or, eqb}
+use Rattle.std.specs.Prelude.{ℕ, suc, ◌^◌, ◌≤◌, ◌<◌, ◌≡◌, ◌↔◌, Some, None, Ok, Err, true, false, cond, not, ◌&&◌, List, [], ◌∷◌, ◌++◌, map, length, get_or, eqb}
 use Rattle.std.proofs.Math.Option.{Option, none, some}
+use Rattle.paper.specs.Numbers.{number_of}
 use Rattle.laws.specs.Refusals.{row, first_of}
 use Rattle.settings.specs.Columns.{count, entries, ids, id_at, width_at, low_at, high_at, factory_at, partner_at, role_at}
 use Rattle.settings.specs.Printed.{lines, low_pairs, high_pairs, among, printed_ids, within, width_in, other_in, partner_within, printed_agrees, printed}
@@ -9,8 +10,7 @@ use Rattle.settings.specs.Rules.{in_range, agrees, allowed_for, all_allowed, Nea
 use Rattle.settings.specs.Calls.{setting_at, placing, finding, ranging, allowing, partner_fits, nearing}
 use Rattle.settings.specs.declared.columns.Role.{Role}
 use Rattle.settings.specs.declared.Setting.{Setting}
-use Rattle.settings.specs.declared.Found.{Found}
-use Rattle.settings.specs.declared.Number.{Number}
+use Rattle.settings.specs.Answers.{Number}
 
 -- 1. "The nearest allowed number has the least distance, the smaller on a tie; one always exists" (for 16-bit numbers), and no two do.
 abbrev pub NearestIsFound : Type 0
@@ -23,13 +23,13 @@ NearestIsOne = (k wished partner n m : ℕ) → Nearest k wished partner n → N
 -- the call answers it for every setting whose partner's number is in range
 abbrev pub NearestIsAnswered : Type 0
 NearestIsAnswered =
-    (k wished partner : ℕ) → k < count → partner_fits k partner ≡ true → nearing (id_at k) wished partner ≡ Number.Is (nearest_of k wished partner)
+    (k wished partner : ℕ) → k < count → partner_fits k partner ≡ true → nearing (id_at k) wished partner ≡ Ok (nearest_of k wished partner)
 
 -- "7 if the id is no setting, then 12 if the partner is outside its own range", by the ids, ranges and pairs that are printed; the partner's
 -- number is "unused without a partner".
 abbrev pub refusal_of : Number → Option ℕ
-refusal_of (Number.Is n) = none
-refusal_of (Number.Refused number) = some number
+refusal_of (Ok n) = none
+refusal_of (Err r) = some (number_of r)
 
 abbrev pub NearestGivenWhen : Type 0
 NearestGivenWhen =
@@ -66,7 +66,7 @@ PartnerIsPrinted =
 abbrev pub PastIsNothing : Type 0
 PastIsNothing =
     (k n partner : ℕ) → count ≤ k
-    → (placing k ≡ Found.Nothing) × (setting_at k ≡ record { index = k; id = 0; width = 0; partner = count })
+    → (placing k ≡ None) × (setting_at k ≡ record { index = k; id = 0; width = 0; partner = count })
     × (ranging k n ≡ false) × (allowing k n partner ≡ false)
 
 -- all numbers at once are allowed exactly when each is so beside its partner's
@@ -116,10 +116,10 @@ IdsAreCount = length ids ≡ count
 
 -- 3. A look-up finds each setting at its place and by its id, and what it finds is a setting of the table with that id.
 abbrev pub PlaceIsFound : Type 0
-PlaceIsFound = (k : ℕ) → k < count → placing k ≡ Found.At (setting_at k)
+PlaceIsFound = (k : ℕ) → k < count → placing k ≡ Some (setting_at k)
 
 abbrev pub FindIsFound : Type 0
-FindIsFound = (k : ℕ) → k < count → finding (id_at k) ≡ Found.At (setting_at k)
+FindIsFound = (k : ℕ) → k < count → finding (id_at k) ≡ Some (setting_at k)
 
 abbrev pub FoundHasId : Type 0
-FoundHasId = (id : ℕ) (s : Setting) → finding id ≡ Found.At s → (s.index < count) × (s ≡ setting_at s.index) × (s.id ≡ id)
+FoundHasId = (id : ℕ) (s : Setting) → finding id ≡ Some s → (s.index < count) × (s ≡ setting_at s.index) × (s.id ≡ id)

@@ -2,5 +2,6 @@
 pub mod Columns
 pub mod Printed
 pub mod Rules
+pub mod Answers
 pub mod Calls
 pub mod Laws

@@ -7,6 +7,8 @@ ghost use Rattle.settings.specs.Columns.{factories};
 ghost use Rattle.settings.specs.Rules.{all_allowed};
 ghost use Rattle.settings.specs.Calls.{finding, placing, setting_at, ranging, allowing, nearing};
 
+use paper::Refusal;
+
 mod columns;
 mod rules;
 mod window;
@@ -15,7 +17,7 @@ mod window;
 pub const COUNT: usize = 26;
 
 // A setting: its place in the table, its id, its width in bytes, and the place of the other one of its pair (its own where it is alone).
-#[derive(Clone, Copy)]
+#[derive(Clone, Copy, PartialEq, Eq)]
 pub struct Setting {
     pub index: usize,
     pub id: u16,
@@ -23,35 +25,21 @@ pub struct Setting {
     pub partner: usize,
 }
 
-// What a look-up finds: the setting, or none.
-#[derive(Clone, Copy)]
-pub enum Found {
-    At(Setting),
-    Nothing,
-}
-
-// A number, or document 01's number of the refusal.
-#[derive(Clone, Copy)]
-pub enum Number {
-    Is(u16),
-    Refused(u8),
-}
-
 // Returns the setting of an id, or none.
-pub fn find(id: u16) -> Found
+pub fn find(id: u16) -> Option<Setting>
     ensures { result ≡ finding id }
 {
     at(columns::place_of(id))
 }
 
 // Returns the setting at a place of the table, or none past its end.
-pub fn at(index: usize) -> Found
+pub fn at(index: usize) -> Option<Setting>
     ensures { result ≡ placing index }
 {
     if COUNT <= index {
-        return Found::Nothing;
+        return None;
     }
-    Found::At(setting_at(index))
+    Some(setting_at(index))
 }
 
 // Returns the setting at a place of the table, for a caller who knows that there is one. Past the table it is one with neither id nor
@@ -97,17 +85,17 @@ pub fn allows(index: usize, number: u16, partner: u16) -> bool
 
 // Returns the nearest allowed number for a setting, given its partner's number: 7 for an id that is no setting, 12 for a partner's number
 // outside its own range. The partner's number is unused where there is no partner.
-pub fn nearest(id: u16, wished: u16, partner: u16) -> Number
+pub fn nearest(id: u16, wished: u16, partner: u16) -> Result<u16, Refusal>
     ensures { result ≡ nearing id wished partner }
 {
     let index = columns::place_of(id);
     if COUNT <= index {
-        return Number::Refused(paper::UNKNOWN_ID);
+        return Err(Refusal::UnknownId);
     }
     if !rules::is_fit(index, partner) {
-        return Number::Refused(paper::NOT_ALLOWED);
+        return Err(Refusal::NotAllowed);
     }
-    Number::Is(window::nearest_of(index, wished, partner))
+    Ok(window::nearest_of(index, wished, partner))
 }
 
 // Returns whether every number is in its own range and every pair agrees. It takes all numbers at once, because each use of a constant
