@@ -9,28 +9,29 @@ use lib.Dec.{ltb, leb, eqb}
 use Rattle.laws.proofs.Bools.{and_left}
 use Rattle.laws.specs.Lists.{every}
 use Rattle.wire.specs.Digits.{is_digit}
+use Rattle.paper.specs.Numbers as paper
 use Rattle.paper.specs.Numbers.{colon, newline}
 use Rattle.wire.specs.Frame.{frame}
 use Rattle.wire.specs.Parsing.{refused, good, body_says, broken_says, bad_count, sums_up, command_of, data_of}
 use Rattle.wire.specs.Calls.{writing, unwritten, written_as, parsing, read_as, whole_says, parsing_chars, well_enclosed, between}
 
 -- the characters of a frame, in the order of the refusals
-pub body_long : (chars : List ℕ) → 73 < length chars → body_says chars ≡ refused 1
+pub body_long : (chars : List ℕ) → 73 < length chars → body_says chars ≡ refused paper.too_long
 unfolding body_says
 body_long chars h = simp (lt-ltb 73 (length chars) h)
 
 module _ (chars : List ℕ) (short : length chars ≤ 73) where
-  pub body_strange : every is_digit chars ≡ false → body_says chars ≡ refused 2
+  pub body_strange : every is_digit chars ≡ false → body_says chars ≡ refused paper.no_digit
   unfolding body_says
   body_strange d = simp (le-ltb 73 (length chars) short, d)
 
   module _ (digits : every is_digit chars ≡ true) where
-    pub body_count : bad_count (length chars) ≡ true → body_says chars ≡ refused 3
+    pub body_count : bad_count (length chars) ≡ true → body_says chars ≡ refused paper.bad_count
     unfolding body_says
     body_count b = simp (le-ltb 73 (length chars) short, digits, b)
 
     module _ (count : bad_count (length chars) ≡ false) where
-      pub body_sum : sums_up chars ≡ false → body_says chars ≡ refused 4
+      pub body_sum : sums_up chars ≡ false → body_says chars ≡ refused paper.bad_sum
       unfolding body_says
       body_sum s = simp (le-ltb 73 (length chars) short, digits, count, s)
 
@@ -38,11 +39,11 @@ module _ (chars : List ℕ) (short : length chars ≤ 73) where
       unfolding body_says
       body_good s = simp (le-ltb 73 (length chars) short, digits, count, s)
 
-pub broken_long : (count : ℕ) → 73 < count → broken_says count ≡ refused 1
+pub broken_long : (count : ℕ) → 73 < count → broken_says count ≡ refused paper.too_long
 unfolding broken_says
 broken_long count h = simp (lt-ltb 73 count h)
 
-pub broken_short : (count : ℕ) → count ≤ 73 → broken_says count ≡ refused 2
+pub broken_short : (count : ℕ) → count ≤ 73 → broken_says count ≡ refused paper.no_digit
 unfolding broken_says
 broken_short count h = simp (le-ltb 73 count h)
 
@@ -55,16 +56,16 @@ broken_silent count = by (ltb 73 count) refl
     by false e = rw (broken_short count (ltb-false 73 count e))
 
 -- the frame writer
-pub writing_short : (command : ℕ) (bytes : List ℕ) (room : ℕ) → room < 75 → writing command bytes room ≡ unwritten 11
+pub writing_short : (command : ℕ) (bytes : List ℕ) (room : ℕ) → room < 75 → writing command bytes room ≡ unwritten paper.short_buffer
 unfolding writing
 writing_short command bytes room h = simp (lt-ltb room 75 h)
 
 module _ (command : ℕ) (bytes : List ℕ) (room : ℕ) (enough : 75 ≤ room) where
-  pub writing_nibble : 15 < command → writing command bytes room ≡ unwritten 12
+  pub writing_nibble : 15 < command → writing command bytes room ≡ unwritten paper.not_allowed
   unfolding writing
   writing_nibble h = simp (le-ltb room 75 enough, lt-ltb 15 command h)
 
-  pub writing_long : command ≤ 15 → 35 < length bytes → writing command bytes room ≡ unwritten 12
+  pub writing_long : command ≤ 15 → 35 < length bytes → writing command bytes room ≡ unwritten paper.not_allowed
   unfolding writing
   writing_long k h = simp (le-ltb room 75 enough, le-ltb 15 command k, lt-ltb 35 (length bytes) h)
 
@@ -73,11 +74,11 @@ module _ (command : ℕ) (bytes : List ℕ) (room : ℕ) (enough : 75 ≤ room) 
   writing_made k h = simp (le-ltb room 75 enough, le-ltb 15 command k, le-ltb 35 (length bytes) h)
 
 -- the whole-frame reader
-pub reading_short : (slice : List ℕ) (room : ℕ) → room < 35 → parsing slice room ≡ read_as (refused 11)
+pub reading_short : (slice : List ℕ) (room : ℕ) → room < 35 → parsing slice room ≡ read_as (refused paper.short_buffer)
 unfolding parsing
 reading_short slice room h = simp (lt-ltb room 35 h)
 
-pub reading_loose : (slice : List ℕ) (room : ℕ) → 35 ≤ room → well_enclosed slice ≡ false → parsing slice room ≡ read_as (refused 2)
+pub reading_loose : (slice : List ℕ) (room : ℕ) → 35 ≤ room → well_enclosed slice ≡ false → parsing slice room ≡ read_as (refused paper.no_digit)
 unfolding parsing whole_says
 reading_loose slice room h e = simp (le-ltb room 35 h, e)
 
@@ -90,7 +91,7 @@ enclosed_long slice e =
     leb-true 2 (length slice) (and_left (leb 2 (length slice)) (eqb (get_or slice 0 0) colon && eqb (get_or slice (length slice - 1) 0) newline) e)
 
 -- the reader of the characters alone
-pub chars_short : (chars : List ℕ) (room : ℕ) → room < 35 → parsing_chars chars room ≡ read_as (refused 11)
+pub chars_short : (chars : List ℕ) (room : ℕ) → room < 35 → parsing_chars chars room ≡ read_as (refused paper.short_buffer)
 unfolding parsing_chars
 chars_short chars room h = simp (lt-ltb room 35 h)
 

@@ -12,6 +12,7 @@ use Rattle.laws.specs.Promise.{Given}
 use Rattle.laws.proofs.Bools.{pick, nor_left}
 use Rattle.laws.specs.Lists.{every, sum_of}
 use Rattle.laws.proofs.Lists.{every_at, before_first, up_to_at}
+use Rattle.paper.specs.Numbers as paper
 use Rattle.paper.specs.Numbers.{colon, newline}
 use Rattle.wire.specs.Digits.{digit, nibble, is_digit}
 use Rattle.wire.specs.Frame.{check, body, frame}
@@ -20,8 +21,9 @@ use Rattle.laws.specs.Refusals.{first_of}
 use Rattle.wire.specs.Refusals.{sixteen, value, pairs_total, total, is_hex, faults, fault_of, refusal_of, write_refusal_of}
 use Rattle.wire.specs.Calls.{writing, written_as, unwritten, whole_says, well_enclosed, between, parsing, read_as, parsing_chars}
 use Rattle.wire.specs.Laws.{Sums, WrittenSums, ReadSums, FaultGivenWhen, ReadGivenWhen, CharsGivenWhen, WriteGivenWhen, RefusedWritesNothing, DigitsOnly}
-use Rattle.wire.specs.declared.Written.{Written}
-use Rattle.wire.specs.declared.Read.{Read}
+use Rattle.wire.specs.Answers.{Written, Read}
+use Rattle.paper.specs.declared.Refusal.{Refusal}
+use Rattle.std.specs.Prelude.{Ok, Err}
 use Rattle.wire.proofs.Nibbles.{digit_test, none_is_16, digit_nibble}
 use Rattle.wire.proofs.Frames.{check_sums, check_byte}
 use Rattle.wire.proofs.RoundTrip.{slice_written, digit_hex}
@@ -35,15 +37,15 @@ pub written_sums : WrittenSums
 unfolding writing
 written_sums command bytes room slice e = by (ltb room 75) (ltb 15 command || ltb 35 (length bytes)) refl e
   where
-    never : (number : ℕ) → unwritten number ≡ written_as slice → Sums slice command bytes
-    never number w =
-        let a : Written.Refused number ≡ Written.Len (length slice) = ap (λ (g : Given Written). g.answer) w in
-        let z : ◌≡◌ {A = ℕ} 0 1 = cc in absurd (omega arith)
+    never : (refusal : Refusal) → unwritten refusal ≡ written_as slice → Sums slice command bytes
+    never refusal w =
+        let a : Err refusal ≡ Ok (length slice) = ap (λ (g : Given Written). g.answer) w in
+        let impossible : ⊥ = cc in absurd impossible
 
     by : (short over : Bool) → (ltb 15 command || ltb 35 (length bytes)) ≡ over
-        → cond short (unwritten 11) (cond over (unwritten 12) (written_as (frame command bytes))) ≡ written_as slice → Sums slice command bytes
-    by true over p w = never 11 w
-    by false true p w = never 12 w
+        → cond short (unwritten paper.short_buffer) (cond over (unwritten paper.not_allowed) (written_as (frame command bytes))) ≡ written_as slice → Sums slice command bytes
+    by true over p w = never paper.short_buffer w
+    by false true p w = never paper.not_allowed w
     by false false p w =
         let nib : command ≤ 15 = ltb-false 15 command (nor_left (ltb 15 command) _ p) in
         subst (λ (l : List ℕ). Sums l command bytes) (ap (λ (g : Given Written). g.written) w) (frame_sums command bytes (omega arith))
@@ -88,7 +90,7 @@ total_is chars = rw (value_nibble (get_or chars 0 0), pairs_total_lem (drop 1 ch
 
 -- the rows and the definition ask the same tests in the same order
 body_rows : (long digits odd sums : Bool) (command : ℕ) (bytes : List ℕ)
-    → fault_of (cond long (refused 1) (cond (not digits) (refused 2) (cond odd (refused 3) (cond (not sums) (refused 4) (good command bytes)))))
+    → fault_of (cond long (refused paper.too_long) (cond (not digits) (refused paper.no_digit) (cond odd (refused paper.bad_count) (cond (not sums) (refused paper.bad_sum) (good command bytes)))))
     ≡ cond long (some 1) (cond (not digits || false) (some 2) (cond odd (some 3) (cond (not sums) (some 4) none)))
 body_rows true digits odd sums command bytes = refl
 body_rows false false odd sums command bytes = refl
@@ -97,7 +99,7 @@ body_rows false true false false command bytes = refl
 body_rows false true false true command bytes = refl
 
 broken_rows : (long digits : Bool) (rest : Option ℕ)
-    → fault_of (cond long (refused 1) (refused 2)) ≡ cond long (some 1) (cond (not digits || true) (some 2) rest)
+    → fault_of (cond long (refused paper.too_long) (refused paper.no_digit)) ≡ cond long (some 1) (cond (not digits || true) (some 2) rest)
 broken_rows true digits rest = refl
 broken_rows false false rest = refl
 broken_rows false true rest = refl
@@ -112,7 +114,7 @@ fault_given chars = (
 -- a slice, by the same rows after its own two
 read_says : (e : Ended) → refusal_of (read_as e).answer ≡ fault_of e
 read_says (good command bytes) = refl
-read_says (refused number) = refl
+read_says (refused refusal) = refl
 
 -- not enclosed: under 2 bytes, or other ends
 loose : (n : ℕ) (ends : Bool) → (ltb n 2 || not ends) ≡ not (leb 2 n && ends)
@@ -133,7 +135,7 @@ read_given slice room = rw (loose (length slice) ends) (by (ltb room 35) (well_e
     rest = first_of (faults (between slice) newline)
 
     by : (short well : Bool)
-        → refusal_of (cond short (read_as (refused 11)) (read_as (cond well (body_says (between slice)) (refused 2)))).answer
+        → refusal_of (cond short (read_as (refused paper.short_buffer)) (read_as (cond well (body_says (between slice)) (refused paper.no_digit)))).answer
         ≡ cond short (some 11) (cond (not well) (some 2) rest)
     by true well = refl
     by false false = refl
@@ -143,7 +145,7 @@ pub chars_given : CharsGivenWhen
 unfolding parsing_chars
 chars_given chars room = by (ltb room 35)
   where
-    by : (short : Bool) → refusal_of (cond short (read_as (refused 11)) (read_as (body_says chars))).answer ≡ cond short (some 11) (first_of (faults chars newline))
+    by : (short : Bool) → refusal_of (cond short (read_as (refused paper.short_buffer)) (read_as (body_says chars))).answer ≡ cond short (some 11) (first_of (faults chars newline))
     by true = refl
     by false = read_says (body_says chars) ∙ (fault_given chars).0
 
@@ -152,27 +154,27 @@ pub write_given : WriteGivenWhen
 unfolding writing
 write_given command bytes room = by (ltb room 75) (ltb 15 command || ltb 35 (length bytes))
   where
-    by : (short over : Bool) → write_refusal_of (cond short (unwritten 11) (cond over (unwritten 12) (written_as (frame command bytes)))).answer
+    by : (short over : Bool) → write_refusal_of (cond short (unwritten paper.short_buffer) (cond over (unwritten paper.not_allowed) (written_as (frame command bytes)))).answer
         ≡ cond short (some 11) (cond over (some 12) none)
     by true over = refl
     by false true = refl
     by false false = refl
 
 -- nothing is written under a refusal
-read_silent : (e : Ended) (number : ℕ) → (read_as e).answer ≡ Read.Refused number → (read_as e).written ≡ []
-read_silent (good command bytes) number e = let z : ◌≡◌ {A = ℕ} 0 1 = cc in absurd (omega arith)
-read_silent (refused n) number e = refl
+read_silent : (e : Ended) (refusal : Refusal) → (read_as e).answer ≡ Err refusal → (read_as e).written ≡ []
+read_silent (good command bytes) refusal e = cc
+read_silent (refused r) refusal e = refl
 
 pub refused_silent : RefusedWritesNothing
 unfolding parsing parsing_chars writing
-refused_silent number room = (
-  λ slice. pick Silent (ltb room 35) (λ e. refl) (read_silent (whole_says slice) number),
-  λ chars. pick Silent (ltb room 35) (λ e. refl) (read_silent (body_says chars) number),
-  λ command bytes. pick Unwritten (ltb room 75) (λ e. refl) (pick Unwritten (ltb 15 command || ltb 35 (length bytes)) (λ e. refl) (λ e. let z : ◌≡◌ {A = ℕ} 0 1 = cc in absurd (omega arith))),
+refused_silent refusal room = (
+  λ slice. pick Silent (ltb room 35) (λ e. refl) (read_silent (whole_says slice) refusal),
+  λ chars. pick Silent (ltb room 35) (λ e. refl) (read_silent (body_says chars) refusal),
+  λ command bytes. pick Unwritten (ltb room 75) (λ e. refl) (pick Unwritten (ltb 15 command || ltb 35 (length bytes)) (λ e. refl) (λ e. cc)),
 )
   where
     Silent : Given Read → Type 0
-    Silent given = given.answer ≡ Read.Refused number → given.written ≡ []
+    Silent given = given.answer ≡ Err refusal → given.written ≡ []
 
     Unwritten : Given Written → Type 0
-    Unwritten given = given.answer ≡ Written.Refused number → given.written ≡ []
+    Unwritten given = given.answer ≡ Err refusal → given.written ≡ []

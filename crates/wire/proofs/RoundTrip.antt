@@ -12,12 +12,14 @@ use Rattle.laws.specs.Lists.{every, sum_of, Bytes}
 use Rattle.laws.proofs.Bools.{and_left, and_right}
 use Rattle.laws.proofs.Lists.{every_at, every_take, every_append, sum_append, up_to_at}
 use Rattle.wire.specs.Digits.{digit, nibble, is_digit}
+use Rattle.paper.specs.Numbers as paper
 use Rattle.paper.specs.Numbers.{colon, newline, frame_total}
 use Rattle.wire.specs.Frame.{check, digits_of, body, frame}
 use Rattle.wire.specs.Parsing.{Ended, good, refused, bytes_of, command_of, payload_of, data_of, bad_count, sums_up, body_says}
 use Rattle.wire.specs.Calls.{between, well_enclosed, parsing, parsing_chars, read_as, whole_says, writing, written_as}
 use Rattle.wire.specs.Laws.{hex, DigitsAreTwo, SaidIsFrame}
-use Rattle.wire.specs.declared.Read.{Read}
+use Rattle.paper.specs.declared.Refusal.{Refusal}
+use Rattle.wire.specs.declared.Frame.{Frame}
 use Rattle.wire.proofs.Nibbles.{nibble_digit, digit_nibble, digit_is_digit, nibble_at_lem}
 use Rattle.wire.proofs.Bytes.{length_bytes_of, length_data, odd_count}
 use Rattle.wire.proofs.Frames.{check_sums, check_only, check_byte, length_body}
@@ -137,8 +139,8 @@ pub record Said (chars : List ℕ) (command : ℕ) (bytes : List ℕ) : Type 0 w
   pub command_is : command_of chars ≡ command
   pub bytes_are : data_of chars ≡ bytes
 
-never : {A : Type 0} {e : Ended} {n c : ℕ} {bs : List ℕ} → e ≡ refused n → e ≡ good c bs → A
-never p q = let z : ◌≡◌ {A = ℕ} 0 1 = cc in absurd (omega arith)
+never : {A : Type 0} {e : Ended} {r : Refusal} {c : ℕ} {bs : List ℕ} → e ≡ refused r → e ≡ good c bs → A
+never {A} p q = let impossible : ⊥ = cc in absurd impossible
 
 pub said : (chars : List ℕ) (command : ℕ) (bytes : List ℕ) → body_says chars ≡ good command bytes → Said chars command bytes
 said chars command bytes e = by (ltb 73 (length chars)) (every is_digit chars) (bad_count (length chars)) (sums_up chars) refl refl refl refl
@@ -225,12 +227,13 @@ said_few chars command bytes s =
 
 -- an answer with command and data was a good frame
 read_good : (e : Ended) (command : ℕ) (bytes : List ℕ) → read_as e ≡ read_as (good command bytes) → e ≡ good command bytes
-read_good (refused n) command bytes e =
-    let a : Read.Refused n ≡ Read.Frame command (length bytes) = ap (λ g. g.answer) e in
-    let z : ◌≡◌ {A = ℕ} 0 1 = cc in absurd (omega arith)
+read_good (refused r) command bytes e =
+    let a : (read_as (refused r)).answer ≡ (read_as (good command bytes)).answer = ap (λ g. g.answer) e in
+    let impossible : ⊥ = cc in absurd impossible
 read_good (good c bs) command bytes e =
-    let a : Read.Frame c (length bs) ≡ Read.Frame command (length bytes) = ap (λ g. g.answer) e in
-    ap₂ good (cc) (ap (λ g. g.written) e)
+    let a : (read_as (good c bs)).answer ≡ (read_as (good command bytes)).answer = ap (λ g. g.answer) e in
+    let same : ◌≡◌ {A = Frame} (record { command = c; len = length bs }) (record { command = command; len = length bytes }) = cc in
+    ap₂ good (ap (λ (f : Frame). f.command) same) (ap (λ g. g.written) e)
 
 -- so the slice is the writer's frame, and the writer takes its command and data
 slice_is : (slice : List ℕ) (command : ℕ) (bytes : List ℕ) → well_enclosed slice ≡ true → body_says (between slice) ≡ good command bytes
@@ -247,8 +250,8 @@ pub slice_written : (slice : List ℕ) (room : ℕ) (command : ℕ) (bytes : Lis
 slice_written slice room command bytes e out h = by (ltb room 35) (well_enclosed slice) refl refl
   where
     by : (a b : Bool) → ltb room 35 ≡ a → well_enclosed slice ≡ b → writing command bytes out ≡ written_as slice
-    by true b p q = never refl (read_good (refused 11) command bytes (sym (reading_short slice room (ltb-true room 35 p)) ∙ e))
-    by false false p q = never refl (read_good (refused 2) command bytes (sym (reading_loose slice room (ltb-false room 35 p) q) ∙ e))
+    by true b p q = never refl (read_good (refused paper.short_buffer) command bytes (sym (reading_short slice room (ltb-true room 35 p)) ∙ e))
+    by false false p q = never refl (read_good (refused paper.no_digit) command bytes (sym (reading_loose slice room (ltb-false room 35 p) q) ∙ e))
     by false true p q =
         slice_is slice command bytes q
         (read_good (body_says (between slice)) command bytes (sym (reading_between slice room (ltb-false room 35 p) q) ∙ e)) out h

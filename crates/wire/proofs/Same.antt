@@ -9,8 +9,8 @@ use denote.MutBor.{MutBor}
 use contract.Lifetimes.{Lfts}
 use Rattle.laws.proofs.Promise.{gives_same, equal_same}
 use Rattle.wire.specs.declared.Pair.{Pair}
-use Rattle.wire.specs.declared.Written.{Written}
-use Rattle.wire.specs.declared.Read.{Read}
+use Rattle.std.specs.Prelude.{Option}
+use Rattle.wire.specs.Answers.{Written, Read}
 use Rattle.wire.proofs.pair_of.Reads as pair_of
 use Rattle.wire.proofs.nibble_of.Reads as nibble-of
 use Rattle.wire.proofs.all_digits.Reads as all_digits
@@ -37,7 +37,7 @@ module _ (κs : Lfts 2) (bytes : Bor (List ℕ)) (buffer left left' : MutBor (Li
 pub pair_of_same : (byte : ℕ) (r r' : Pair) → pair_of.Post tt (byte, tt) r (byte, tt) → pair_of.Post tt (byte, tt) r' (byte, tt) → r ≡ r'
 pair_of_same byte r r' met met' = equal_same met met'
 
-pub nibble_of_same : (c r r' : ℕ) → nibble-of.Post tt (c, tt) r (c, tt) → nibble-of.Post tt (c, tt) r' (c, tt) → r ≡ r'
+pub nibble_of_same : (c : ℕ) (r r' : Option ℕ) → nibble-of.Post tt (c, tt) r (c, tt) → nibble-of.Post tt (c, tt) r' (c, tt) → r ≡ r'
 nibble_of_same c r r' met met' = equal_same met met'
 
 pub all_digits_same : (κs : Lfts 1) (chars : Bor (List ℕ)) (r r' : Bool) → all_digits.Post κs (chars, tt) r (chars, tt) → all_digits.Post κs (chars, tt) r' (chars, tt) → r ≡ r'

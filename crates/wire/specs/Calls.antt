@@ -1,27 +1,31 @@
 -- What each public call answers, for every input. Document 01, "Numbers of refusal": "The order is 11, 12, then 1 to 10 as listed."
 -- Assumes nothing.
-use Rattle.std.specs.Prelude.{ℕ, ◌-◌, ◌/◌, ◌%◌, Bool, cond, ◌&&◌, ◌||◌, List, [], length, take, drop, get_or, ltb, leb, eqb}
+use Rattle.std.specs.Prelude.{ℕ, ◌-◌, ◌/◌, ◌%◌, Bool, cond, Option, Some, None, Ok, Err, ◌&&◌, ◌||◌, List, [], length, take, drop, get_or, ltb, leb, eqb}
 use Rattle.paper.specs.Numbers as paper
+use Rattle.paper.specs.declared.Refusal.{Refusal}
 use Rattle.laws.specs.Promise.{Given}
-use Rattle.wire.specs.Digits.{digit}
+use Rattle.wire.specs.Digits.{digit, nibble, is_digit}
 use Rattle.paper.specs.Numbers.{colon, newline, most_nibble, most_data, frame_room, short_buffer, not_allowed}
 use Rattle.wire.specs.Frame.{frame}
 use Rattle.wire.specs.Parsing.{Ended, good, refused, body_says}
 use Rattle.wire.specs.declared.Pair.{Pair}
-use Rattle.wire.specs.declared.Written.{Written}
-use Rattle.wire.specs.declared.Read.{Read}
+use Rattle.wire.specs.Answers.{Written, Read}
 
 -- "data bytes as two digits each": both digits of a byte, the high nibble first
 abbrev pub pair_of : ℕ → Pair
 pair_of b = record { high = digit (b / 16); low = digit (b % 16) }
 
+-- the nibble that a digit means, and none for any other character
+abbrev pub nibble_of : ℕ → Option ℕ
+nibble_of c = cond (is_digit c) (Some (nibble c)) None
+
 -- The frame writer. "The frame writer refuses 11 (75 bytes), then 12 for a nibble over 15 or data over 35 bytes."
 
-abbrev pub unwritten : ℕ → Given Written
-unwritten number = record { answer = Written.Refused number; written = [] }
+abbrev pub unwritten : Refusal → Given Written
+unwritten refusal = record { answer = Err refusal; written = [] }
 
 abbrev pub written_as : List ℕ → Given Written
-written_as bytes = record { answer = Written.Len (length bytes); written = bytes }
+written_as bytes = record { answer = Ok (length bytes); written = bytes }
 
 unfoldable pub writing : ℕ → List ℕ → ℕ → Given Written
 writing command bytes room =
@@ -34,8 +38,8 @@ writing command bytes room =
 -- passed."
 
 abbrev pub read_as : Ended → Given Read
-read_as (good command bytes) = record { answer = Read.Frame command (length bytes); written = bytes }
-read_as (refused number) = record { answer = Read.Refused number; written = [] }
+read_as (good command bytes) = record { answer = Ok (record { command = command; len = length bytes }); written = bytes }
+read_as (refused refusal) = record { answer = Err refusal; written = [] }
 
 abbrev pub well_enclosed : List ℕ → Bool
 well_enclosed slice = leb 2 (length slice) && (eqb (get_or slice 0 0) colon && eqb (get_or slice (length slice - 1) 0) newline)

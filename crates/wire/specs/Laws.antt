@@ -1,24 +1,24 @@
 -- What is proved of the definitions, as statements to compare with the papers. Each is proved under its name in proofs/Theorems.antt.
 -- Assumes nothing.
-use Rattle.std.specs.Prelude.{ℕ, ◌+◌, ◌-◌, ◌/◌, ◌%◌, ◌≤◌, ◌<◌, ◌≡◌, ◌↔◌, not, ◌&&◌, ◌||◌, List, [], ◌∷◌, ◌++◌, length, take, drop, get_or, ltb, eqb}
+use Rattle.std.specs.Prelude.{ℕ, ◌+◌, ◌-◌, ◌/◌, ◌%◌, ◌≤◌, ◌<◌, ◌≡◌, ◌↔◌, Ok, Err, not, ◌&&◌, ◌||◌, List, [], ◌∷◌, ◌++◌, length, take, drop, get_or, ltb, eqb}
 use Rattle.laws.specs.Lists.{every, Bytes, sum_of}
 use Rattle.laws.specs.Promise.{Given}
 use Rattle.paper.specs.Numbers.{colon, newline, most_nibble, most_data, frame_room}
+use Rattle.paper.specs.declared.Refusal.{Refusal}
 use Rattle.wire.specs.Digits.{nibble, is_digit}
 use Rattle.wire.specs.Frame.{digits_of, frame}
 use Rattle.wire.specs.Parsing.{good, body_says, broken_says}
 use Rattle.laws.specs.Refusals.{row, first_of}
 use Rattle.wire.specs.Refusals.{sixteen, value, is_hex, faults, fault_of, refusal_of, write_refusal_of}
 use Rattle.wire.specs.Calls.{pair_of, writing, parsing, parsing_chars}
-use Rattle.wire.specs.declared.Written.{Written}
-use Rattle.wire.specs.declared.Read.{Read}
+use Rattle.wire.specs.Answers.{Written, Read}
 
 -- the reader's good answer, with the data in the buffer, and the writer's, with the frame in it
 abbrev pub is_read : ℕ → List ℕ → Given Read
-is_read command bytes = record { answer = Read.Frame command (length bytes); written = bytes }
+is_read command bytes = record { answer = Ok (record { command = command; len = length bytes }); written = bytes }
 
 abbrev pub is_written : List ℕ → Given Written
-is_written slice = record { answer = Written.Len (length slice); written = slice }
+is_written slice = record { answer = Ok (length slice); written = slice }
 
 -- 1. Demand 2: "A frame written by one end is read by the other as the same command and data": read whole. (On the stream: `stream`.)
 abbrev pub WrittenIsRead : Type 0
@@ -104,7 +104,7 @@ WriteGivenWhen =
 -- Under a refusal nothing is written: "The data fill the front of the buffer only when 1 to 4 are passed."
 abbrev pub RefusedWritesNothing : Type 0
 RefusedWritesNothing =
-    (number room : ℕ)
-    → ((slice : List ℕ) → (parsing slice room).answer ≡ Read.Refused number → (parsing slice room).written ≡ [])
-    × ((chars : List ℕ) → (parsing_chars chars room).answer ≡ Read.Refused number → (parsing_chars chars room).written ≡ [])
-    × ((command : ℕ) (bytes : List ℕ) → (writing command bytes room).answer ≡ Written.Refused number → (writing command bytes room).written ≡ [])
+    (refusal : Refusal) (room : ℕ)
+    → ((slice : List ℕ) → (parsing slice room).answer ≡ Err refusal → (parsing slice room).written ≡ [])
+    × ((chars : List ℕ) → (parsing_chars chars room).answer ≡ Err refusal → (parsing_chars chars room).written ≡ [])
+    × ((command : ℕ) (bytes : List ℕ) → (writing command bytes room).answer ≡ Err refusal → (writing command bytes room).written ≡ [])

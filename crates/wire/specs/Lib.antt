@@ -3,6 +3,7 @@
 pub mod Digits
 pub mod Frame
 pub mod Parsing
+pub mod Answers
 pub mod Refusals
 pub mod Calls
 pub mod Laws

@@ -1,14 +1,15 @@
 -- What the characters of an ended frame say: document 01, "Numbers of refusal", the first four. Assumes nothing.
 use Rattle.std.specs.Prelude.{ℕ, ◌+◌, ◌-◌, ◌*◌, ◌%◌, Bool, cond, not, ◌||◌, List, [], ◌∷◌, length, drop, take, get_or, ltb, eqb}
 use Rattle.paper.specs.Numbers as paper
+use Rattle.paper.specs.declared.Refusal.{Refusal}
 use Rattle.laws.specs.Lists.{every, sum_of}
 use Rattle.wire.specs.Digits.{nibble, is_digit}
 use Rattle.paper.specs.Numbers.{most_chars, frame_total}
 
--- what an ended frame says: a command with its data, or the number of its refusal
+-- what an ended frame says: a command with its data, or its refusal
 pub data Ended : Type 0 where
   good : ℕ → List ℕ → Ended
-  refused : ℕ → Ended
+  refused : Refusal → Ended
 
 -- two digits are a byte, the high nibble first
 abbrev pub bytes_of : List ℕ → List ℕ

@@ -1,12 +1,12 @@
 -- Document 01, "Numbers of refusal": rows 1 to 4, each with its condition alone, no other number in it. Assumes nothing.
-use Rattle.std.specs.Prelude.{ℕ, ◌+◌, ◌*◌, ◌%◌, Bool, not, ◌&&◌, ◌||◌, List, [], ◌∷◌, length, drop, get_or, ltb, leb, eqb}
+use Rattle.std.specs.Prelude.{ℕ, ◌+◌, ◌*◌, ◌%◌, Bool, Ok, Err, not, ◌&&◌, ◌||◌, List, [], ◌∷◌, length, drop, get_or, ltb, leb, eqb}
 use Rattle.std.proofs.Math.Option.{Option, none, some}
 use Rattle.laws.specs.Lists.{every, before}
 use Rattle.laws.specs.Refusals.{Row, row}
 use Rattle.paper.specs.Numbers as paper
+use Rattle.paper.specs.Numbers.{number_of}
 use Rattle.wire.specs.Parsing.{Ended, good, refused}
-use Rattle.wire.specs.declared.Read.{Read}
-use Rattle.wire.specs.declared.Written.{Written}
+use Rattle.wire.specs.Answers.{Written, Read}
 
 -- "Digits are `0`-`9`, `A`-`F` only."
 abbrev pub is_hex : ℕ → Bool
@@ -41,12 +41,12 @@ faults chars ending =
 -- the number that was given
 abbrev pub fault_of : Ended → Option ℕ
 fault_of (good command bytes) = none
-fault_of (refused number) = some number
+fault_of (refused refusal) = some (number_of refusal)
 
 abbrev pub refusal_of : Read → Option ℕ
-refusal_of (Read.Frame command len) = none
-refusal_of (Read.Refused number) = some number
+refusal_of (Ok frame) = none
+refusal_of (Err refusal) = some (number_of refusal)
 
 abbrev pub write_refusal_of : Written → Option ℕ
-write_refusal_of (Written.Len len) = none
-write_refusal_of (Written.Refused number) = some number
+write_refusal_of (Ok len) = none
+write_refusal_of (Err refusal) = some (number_of refusal)

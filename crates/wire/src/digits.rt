@@ -7,9 +7,6 @@ use crate::Pair;
 
 const TEN: u8 = 10;
 
-// What is returned for a character that is no digit: one more than the largest nibble.
-pub(crate) const NO_NIBBLE: u8 = 16;
-
 // Returns the digit of a nibble.
 pub(crate) fn digit_of(n: u8) -> u8
     requires { n < 16 }

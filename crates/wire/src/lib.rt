@@ -4,35 +4,29 @@
 
 ghost use Rattle.laws.specs.Lists.{every};
 ghost use Rattle.laws.specs.Promise.{Gives};
-ghost use Rattle.wire.specs.Digits.{nibble, is_digit};
-ghost use Rattle.wire.specs.Calls.{pair_of, writing, parsing, parsing_chars};
-ghost use Rattle.wire.specs.declared.Written.{Written};
-ghost use Rattle.wire.specs.declared.Read.{Read};
+ghost use Rattle.wire.specs.Digits.{is_digit};
+ghost use Rattle.wire.specs.Answers.{Written, Read};
+ghost use Rattle.wire.specs.Calls.{pair_of, nibble_of, writing, parsing, parsing_chars};
 ghost use Rattle.std.specs.Prelude.{◌≡◌, length};
+
+use paper::Refusal;
 
 mod digits;
 mod reader;
 mod writer;
 
 // A byte as two digits.
-#[derive(Drop)]
+#[derive(Clone, Copy, PartialEq, Eq)]
 pub struct Pair {
     pub high: u8,
     pub low: u8,
 }
 
-// What a writer answers: the length of what it wrote, or document 01's number of the refusal.
-#[derive(Drop)]
-pub enum Written {
-    Len(usize),
-    Refused(u8),
-}
-
-// What parsing a whole frame answers: the frame's command and how many data bytes it has, or the number of the refusal.
-#[derive(Drop)]
-pub enum Read {
-    Frame { command: u8, len: usize },
-    Refused(u8),
+// What a whole frame says beside its data: its command, and how many data bytes it has.
+#[derive(Clone, Copy, PartialEq, Eq)]
+pub struct Frame {
+    pub command: u8,
+    pub len: usize,
 }
 
 // Returns both digits of a byte, the high nibble first.
@@ -42,14 +36,15 @@ pub fn pair_of(byte: u8) -> Pair
     digits::pair_of(byte)
 }
 
-// Returns the nibble of a digit, and 16 for any other character.
-pub fn nibble_of(c: u8) -> u8
-    ensures { result ≡ nibble c }
+// Returns the nibble of a digit, and none for any other character.
+pub fn nibble_of(c: u8) -> Option<u8>
+    ensures { result ≡ nibble_of c }
 {
-    if !digits::is_digit(c) {
-        return digits::NO_NIBBLE;
+    if digits::is_digit(c) {
+        Some(digits::nibble_of(c))
+    } else {
+        None
     }
-    digits::nibble_of(c)
 }
 
 // Returns whether every character is a digit.
@@ -59,53 +54,50 @@ pub fn all_digits(chars: &[u8]) -> bool
     reader::all_digits(chars)
 }
 
-// Writes the frame of a command and its data to the front of `out`. Refuses 11 under 75 bytes of room, then 12 for a command over 15 or
-// over 35 data bytes; then nothing is written.
-pub fn write_frame(command: u8, bytes: &[u8], out: &mut [u8]) -> Written
+// Writes the frame of a command and its data to the front of `out`, and returns its length. Refuses 11 under 75 bytes of room, then 12 for a
+// command over 15 or over 35 data bytes; then nothing is written.
+pub fn write_frame(command: u8, bytes: &[u8], out: &mut [u8]) -> Result<usize, Refusal>
     ensures { Gives Written (writing command bytes.now (length out.old)) out.old result out.new }
 {
     if out.len() < paper::FRAME_ROOM {
-        return Written::Refused(paper::SHORT_BUFFER);
+        return Err(Refusal::ShortBuffer);
     }
-    if paper::MOST_NIBBLE < command {
-        return Written::Refused(paper::NOT_ALLOWED);
+    if paper::MOST_NIBBLE < command || paper::MOST_DATA < bytes.len() {
+        return Err(Refusal::NotAllowed);
     }
-    if paper::MOST_DATA < bytes.len() {
-        return Written::Refused(paper::NOT_ALLOWED);
-    }
-    Written::Len(writer::put_frame(command, bytes, out))
+    Ok(writer::put_frame(command, bytes, out))
 }
 
 // Reads one whole frame, from its colon to its newline, and puts its data at the front of `into`. Refuses 11 under 35 bytes of room, then 2
 // for a slice that a colon and a newline do not enclose, then 1 to 4 for the characters between.
-pub fn read_frame(frame: &[u8], into: &mut [u8]) -> Read
+pub fn read_frame(frame: &[u8], into: &mut [u8]) -> Result<Frame, Refusal>
     ensures { Gives Read (parsing frame.now (length into.old)) into.old result into.new }
 {
     if into.len() < paper::MOST_DATA {
-        return Read::Refused(paper::SHORT_BUFFER);
+        return Err(Refusal::ShortBuffer);
     }
     if !reader::well_enclosed(frame) {
-        return Read::Refused(paper::NO_DIGIT);
+        return Err(Refusal::NoDigit);
     }
     read_chars(&frame[1..frame.len() - 1], into)
 }
 
 // Reads the characters between a frame's colon and its newline, without those two, and puts the data at the front of `into`. Refuses 11
 // under 35 bytes of room, then 1 to 4 for the characters.
-pub fn read_chars(chars: &[u8], into: &mut [u8]) -> Read
+pub fn read_chars(chars: &[u8], into: &mut [u8]) -> Result<Frame, Refusal>
     ensures { Gives Read (parsing_chars chars.now (length into.old)) into.old result into.new }
 {
     if into.len() < paper::MOST_DATA {
-        return Read::Refused(paper::SHORT_BUFFER);
+        return Err(Refusal::ShortBuffer);
     }
     if paper::MOST_CHARS < chars.len() {
-        return Read::Refused(paper::TOO_LONG);
+        return Err(Refusal::TooLong);
     }
     if !reader::all_digits(chars) {
-        return Read::Refused(paper::NO_DIGIT);
+        return Err(Refusal::NoDigit);
     }
     if reader::bad_count(chars.len()) {
-        return Read::Refused(paper::BAD_COUNT);
+        return Err(Refusal::BadCount);
     }
     reader::read_digits(chars, into)
 }

@@ -5,9 +5,10 @@ ghost use Rattle.laws.specs.Promise.{Gives};
 ghost use Rattle.wire.specs.Digits.{is_digit};
 ghost use Rattle.wire.specs.Parsing.{body_says, bad_count, payload_of};
 ghost use Rattle.wire.specs.Calls.{well_enclosed, read_as};
-ghost use Rattle.wire.specs.declared.Read.{Read};
+ghost use Rattle.wire.specs.Answers.{Read};
 
-use crate::{Read, digits, writer};
+use crate::{Frame, digits, writer};
+use paper::Refusal;
 
 // The data bytes and the check byte.
 const MOST_PAYLOAD: usize = 36;
@@ -57,7 +58,7 @@ fn payload_of(chars: &[u8]) -> [u8; MOST_PAYLOAD]
 }
 
 // Reads an odd number of digits, and puts their data at the front of `into`. Refuses 4 where the sum is wrong; then nothing is written.
-pub(crate) fn read_digits(chars: &[u8], into: &mut [u8]) -> Read
+pub(crate) fn read_digits(chars: &[u8], into: &mut [u8]) -> Result<Frame, Refusal>
     requires { (length chars.now ≤ 73) × (every is_digit chars.now ≡ true) × (bad_count (length chars.now) ≡ false) × (35 ≤ length into.old) }
     ensures { Gives Read (read_as (body_says chars.now)) into.old result into.new }
 {
@@ -65,11 +66,11 @@ pub(crate) fn read_digits(chars: &[u8], into: &mut [u8]) -> Read
     let payload = payload_of(chars);
     let command = digits::nibble_of(chars[0]);
     if (command as usize + writer::sum_of(&payload[..n])) % 256 != paper::FRAME_TOTAL {
-        return Read::Refused(paper::BAD_SUM);
+        return Err(Refusal::BadSum);
     }
     spans::copy(&payload[..n - 1], into);
-    Read::Frame {
+    Ok(Frame {
         command,
         len: n - 1,
-    }
+    })
 }
