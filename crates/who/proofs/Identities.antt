@@ -5,6 +5,7 @@ use mathlib.Core.List.{List, [], ◌∷◌}
 use Prim.Native.Nat.{ℕ, ◌≤◌}
 use borrow.Author.Tests.{leb-true}
 use lib.ListN.{length}
+use Rattle.std.proofs.Common.{Ok, Err}
 use lib.Dec.{leb}
 use Rattle.laws.specs.Lists.{every}
 use Rattle.laws.proofs.Bools.{and_left, and_right, both}
@@ -14,18 +15,17 @@ use Rattle.paper.specs.Numbers.{most_serial, not_allowed}
 use Rattle.who.specs.Calls.{naming}
 use Rattle.who.specs.Laws.{NamedIsAllowed, is_serial, refusal_of, NamedGivenWhen, NamedHoldsIt}
 use Rattle.laws.specs.Refusals.{row, first_of}
-use Rattle.who.specs.declared.Verdict.{Verdict}
 
 pub serial_short : (serial : List ℕ) → serial_fits serial ≡ true → length serial ≤ 32
 unfolding serial_fits
 serial_short serial e = leb-true (length serial) 32 (and_left _ (every printed serial) e)
 
 module _ (product version : ℕ) (serial : List ℕ) where
-  pub named_refused : serial_fits serial ≡ false → naming product version serial ≡ record { identity = no_identity; verdict = Verdict.Refused not_allowed }
+  pub named_refused : serial_fits serial ≡ false → naming product version serial ≡ record { identity = no_identity; verdict = Err not_allowed }
   unfolding naming
   named_refused e = rw e
 
-  pub named_accepted : serial_fits serial ≡ true → naming product version serial ≡ record { identity = identity_of product version serial; verdict = Verdict.Accepted }
+  pub named_accepted : serial_fits serial ≡ true → naming product version serial ≡ record { identity = identity_of product version serial; verdict = Ok tt }
   unfolding naming
   named_accepted e = rw e
 

@@ -18,25 +18,27 @@ use Rattle.endian.proofs.Little.{length_little, bytes_little}
 use Rattle.who.specs.Parts.{printed, serial_of, identity_allowed}
 use Rattle.who.specs.Values.{product_value, serial_value, read_only, read_only_ids, among}
 use Rattle.paper.specs.Numbers.{not_allowed}
-use Rattle.who.specs.Calls.{value_of, no_value, looked_of, reading_out}
-use Rattle.who.specs.Laws.{Small, small_none, small_some, ValuesFit, NothingReadsZero, product, serial_under, serial_full, version, voltage, current, fine, consumed, charge, HeldIsReadOut, Holds, ReadOutIsHeld, is_some, EightAreReadOut, refusal_of, ReadOnlyGivenWhen, RefusedHasNoValue, ReadOnlyAnswersHeld}
+use Rattle.who.specs.Calls.{value_of, looked_of, reading_out}
+use Rattle.who.specs.Laws.{Small, small_none, small_some, ValuesFit, NothingReadsZero, product, serial_under, serial_full, version, voltage, current, fine, consumed, charge, HeldIsReadOut, Holds, ReadOutIsHeld, is_some, EightAreReadOut, refusal_of, ReadOnlyGivenWhen, value_given, RefusedHasNoValue, ReadOnlyAnswersHeld}
 use Rattle.who.specs.declared.Identity.{Identity}
 use Rattle.who.specs.declared.Readings.{Readings}
-use Rattle.who.specs.declared.Verdict.{Verdict}
-use Rattle.who.specs.declared.Looked.{Looked}
+use Rattle.std.proofs.Common.{Ok, Err}
+use Rattle.paper.specs.declared.Refusal.{Refusal}
+use Rattle.who.specs.declared.Value.{Value}
+use Rattle.who.specs.Answers.{Looked}
 use Rattle.who.proofs.Serials.{serial_within}
 
 small_little : (width n : ℕ) → width ≤ 32 → Small (some (little width n))
 small_little width n h = small_some {v = little width n} (rw (length_little width n) h) (bytes_little width n)
 
-pub looked_short : (o : Option (List ℕ)) → Small o → (looked_of o).value.len ≤ 32
-unfolding looked_of no_value value_of
-looked_short none small_none = leb-true 0 32 refl
-looked_short (some v) (small_some short bytes) = short
+pub looked_short : (o : Option (List ℕ)) → Small o → (value : Value) → looked_of o ≡ Ok value → value.len ≤ 32
+unfolding looked_of value_of
+looked_short none small_none value e = let z : ◌≡◌ {A = ℕ} 0 1 = cc in absurd (omega arith)
+looked_short (some v) (small_some short bytes) value e = let is : value_of v ≡ value = cc in subst (λ (w : Value). w.len ≤ 32) is short
 
 -- the call, by whether the identity is allowed
 module _ (identity : Identity) (readings : Readings) (id : ℕ) where
-  pub read_refused : identity_allowed identity ≡ false → no_value not_allowed ≡ reading_out identity readings id
+  pub read_refused : identity_allowed identity ≡ false → Err not_allowed ≡ reading_out identity readings id
   unfolding reading_out
   read_refused e = rw e
 
@@ -163,36 +165,23 @@ eight_out identity readings id =
     (found_or (eqb id 0xED8C) _ _ (found_or (eqb id 0xEEFF) _ _ (found_or (eqb id 0x0FFF) _ none refl)))))))
 
 -- the call's refusals
-found_refusal : (o : Option (List ℕ)) → refusal_of (looked_of o).verdict ≡ cond (not (is_some o)) (some 7) none
-unfolding looked_of no_value
+found_refusal : (o : Option (List ℕ)) → refusal_of (looked_of o) ≡ cond (not (is_some o)) (some 7) none
+unfolding looked_of
 found_refusal none = refl
 found_refusal (some v) = refl
-
-abbrev Silent : Looked → Type 0
-Silent looked = (number : ℕ) → looked.verdict ≡ Verdict.Refused number → looked.value ≡ record { len = 0; bytes = replicate 32 0 }
-
-found_silent : (o : Option (List ℕ)) → Silent (looked_of o)
-unfolding looked_of no_value value_of front_of overlaid
-found_silent none number e = refl
-found_silent (some v) number e = let z : ◌≡◌ {A = ℕ} 0 1 = cc in absurd (omega arith)
-
-none_silent : (n : ℕ) → Silent (no_value n)
-unfolding no_value value_of front_of overlaid
-none_silent n number e = refl
 
 pub read_only_given : ReadOnlyGivenWhen
 unfolding reading_out
 read_only_given identity readings id = by (identity_allowed identity)
   where
     by : (ok : Bool)
-        → refusal_of (cond ok (looked_of (read_only identity readings id)) (no_value 12)).verdict
+        → refusal_of (cond ok (looked_of (read_only identity readings id)) (Err not_allowed))
         ≡ cond (not ok) (some 12) (cond (not (among id read_only_ids)) (some 7) none)
-    by false = unfold no_value in refl
+    by false = refl
     by true = found_refusal (read_only identity readings id) ∙ ap (λ (b : Bool). cond (not b) (some 7) none) (eight_out identity readings id)
 
 pub refused_silent : RefusedHasNoValue
-unfolding reading_out
-refused_silent identity readings id = pick Silent (identity_allowed identity) (found_silent (read_only identity readings id)) (none_silent 12)
+refused_silent identity readings id refusal e = ap value_given e
 
 -- and its answer
 pub read_only_held : ReadOnlyAnswersHeld
@@ -200,4 +189,4 @@ unfolding looked_of value_of
 read_only_held identity readings id value ok holds =
     sym (read_given identity readings id ok)
     ∙ ap looked_of (held_out identity readings id value holds)
-    ∙ ap (λ (bytes : List ℕ). record { verdict = Verdict.Accepted; value = record { len = length value; bytes = bytes } }) (front_is 32 value)
+    ∙ ap (λ (bytes : List ℕ). Ok (record { len = length value; bytes = bytes })) (front_is 32 value)

@@ -9,7 +9,7 @@ use Rattle.laws.proofs.Promise.{equal_same}
 use Rattle.who.specs.declared.Identity.{Identity}
 use Rattle.who.specs.declared.Readings.{Readings}
 use Rattle.who.specs.declared.Named.{Named}
-use Rattle.who.specs.declared.Looked.{Looked}
+use Rattle.who.specs.Answers.{Looked}
 use Rattle.who.proofs.Identity.named.Reads as named
 use Rattle.who.proofs.Identity.is_allowed.Reads as is_allowed
 use Rattle.who.proofs.Readings.nothing.Reads as none

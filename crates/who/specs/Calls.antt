@@ -1,5 +1,5 @@
 -- What each public call answers, for every input. Assumes nothing.
-use Rattle.std.specs.Prelude.{ℕ, cond, List, [], length}
+use Rattle.std.specs.Prelude.{ℕ, cond, List, length, Ok, Err}
 use Rattle.std.proofs.Math.Option.{Option, none, some}
 use Rattle.paper.specs.Numbers.{most_serial, unknown_id, not_allowed}
 use Rattle.laws.specs.Promise.{front_of}
@@ -7,29 +7,25 @@ use Rattle.who.specs.Parts.{serial_fits, identity_of, no_identity, identity_allo
 use Rattle.who.specs.Values.{read_only}
 use Rattle.who.specs.declared.Identity.{Identity}
 use Rattle.who.specs.declared.Readings.{Readings}
-use Rattle.who.specs.declared.Verdict.{Verdict}
 use Rattle.who.specs.declared.Named.{Named}
 use Rattle.who.specs.declared.Value.{Value}
-use Rattle.who.specs.declared.Looked.{Looked}
+use Rattle.who.specs.Answers.{Looked}
 
 -- "A refused start (12) returns product and version 0, an empty serial"
 unfoldable pub naming : ℕ → ℕ → List ℕ → Named
 naming product version serial =
     cond (serial_fits serial)
-    (record { identity = identity_of product version serial; verdict = Verdict.Accepted })
-    (record { identity = no_identity; verdict = Verdict.Refused not_allowed })
+    (record { identity = identity_of product version serial; verdict = Ok tt })
+    (record { identity = no_identity; verdict = Err not_allowed })
 
 -- a value as the program holds it: its bytes at the front of an array, zeros after them
 unfoldable pub value_of : List ℕ → Value
 value_of bytes = record { len = length bytes; bytes = front_of most_serial bytes }
 
-unfoldable pub no_value : ℕ → Looked
-no_value number = record { verdict = Verdict.Refused number; value = value_of [] }
-
 -- The value of a read-only id: 12 for an identity that is not allowed, then 7 for an id that is not read-only.
 unfoldable pub looked_of : Option (List ℕ) → Looked
-looked_of (some bytes) = record { verdict = Verdict.Accepted; value = value_of bytes }
-looked_of none = no_value unknown_id
+looked_of (some bytes) = Ok (value_of bytes)
+looked_of none = Err unknown_id
 
 unfoldable pub reading_out : Identity → Readings → ℕ → Looked
-reading_out identity readings id = cond (identity_allowed identity) (looked_of (read_only identity readings id)) (no_value not_allowed)
+reading_out identity readings id = cond (identity_allowed identity) (looked_of (read_only identity readings id)) (Err not_allowed)

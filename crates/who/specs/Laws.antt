@@ -1,6 +1,6 @@
 -- What is proved of the definitions, as statements to compare with the papers. Each is proved under its name in proofs/Theorems.antt.
 -- Assumes nothing.
-use Rattle.std.specs.Prelude.{ℕ, ◌-◌, ◌/◌, ◌%◌, ◌≤◌, ◌<◌, ◌≡◌, ◌↔◌, Bool, true, false, not, ◌&&◌, List, [], ◌∷◌, ◌++◌, length, replicate, leb}
+use Rattle.std.specs.Prelude.{ℕ, ◌-◌, ◌/◌, ◌%◌, ◌≤◌, ◌<◌, ◌≡◌, ◌↔◌, Bool, true, false, not, ◌&&◌, List, [], ◌∷◌, ◌++◌, length, replicate, leb, Result, Ok, Err}
 use Rattle.std.proofs.Math.Option.{Option, none, some}
 use Rattle.paper.specs.Numbers as paper
 use Rattle.laws.specs.Lists.{every, byte}
@@ -12,8 +12,9 @@ use Rattle.who.specs.Values.{read_only, read_only_ids, among}
 use Rattle.who.specs.Calls.{naming, reading_out}
 use Rattle.who.specs.declared.Identity.{Identity}
 use Rattle.who.specs.declared.Readings.{Readings}
-use Rattle.who.specs.declared.Verdict.{Verdict}
-use Rattle.who.specs.declared.Looked.{Looked}
+use Rattle.who.specs.declared.Value.{Value}
+use Rattle.who.specs.Answers.{Looked}
+use Rattle.paper.specs.declared.Refusal.{Refusal}
 
 -- 1. Every identity that is named is allowed, an accepted and a refused one; the serial of an accepted one is the one that was given.
 abbrev pub NamedIsAllowed : Type 0
@@ -26,9 +27,9 @@ SerialIsKept = (product version : ℕ) (serial : List ℕ) → serial_of (identi
 abbrev pub is_serial : List ℕ → Bool
 is_serial serial = leb (length serial) 32 && every (λ b. leb 0x20 b && leb b 0x7E) serial
 
-abbrev pub refusal_of : Verdict → Option ℕ
-refusal_of Verdict.Accepted = none
-refusal_of (Verdict.Refused number) = some number
+abbrev pub refusal_of : {A : Type 0} → Result A Refusal → Option ℕ
+refusal_of (Ok given) = none
+refusal_of (Err refusal) = some (paper.number_of refusal)
 
 abbrev pub NamedGivenWhen : Type 0
 NamedGivenWhen = (product version : ℕ) (serial : List ℕ) → refusal_of (naming product version serial).verdict ≡ first_of (row 12 (not (is_serial serial)) ∷ [])
@@ -107,17 +108,21 @@ EightAreReadOut = (identity : Identity) (readings : Readings) (id : ℕ) → is_
 abbrev pub ReadOnlyGivenWhen : Type 0
 ReadOnlyGivenWhen =
     (identity : Identity) (readings : Readings) (id : ℕ)
-    → refusal_of (reading_out identity readings id).verdict
+    → refusal_of (reading_out identity readings id)
     ≡ first_of (row 12 (not (identity_allowed identity)) ∷ row 7 (not (among id read_only_ids)) ∷ [])
+
+abbrev pub value_given : Looked → Option Value
+value_given (Ok value) = some value
+value_given (Err refusal) = none
 
 abbrev pub RefusedHasNoValue : Type 0
 RefusedHasNoValue =
-    (identity : Identity) (readings : Readings) (id number : ℕ) → (reading_out identity readings id).verdict ≡ Verdict.Refused number
-    → (reading_out identity readings id).value ≡ record { len = 0; bytes = replicate 32 0 }
+    (identity : Identity) (readings : Readings) (id : ℕ) (refusal : Refusal) → reading_out identity readings id ≡ Err refusal
+    → value_given (reading_out identity readings id) ≡ none
 
 -- Otherwise the value is what document 01 says that the id holds, at the front of the array, with zeros after it.
 abbrev pub holding : List ℕ → Looked
-holding value = record { verdict = Verdict.Accepted; value = record { len = length value; bytes = value ++ replicate (32 - length value) 0 } }
+holding value = Ok (record { len = length value; bytes = value ++ replicate (32 - length value) 0 })
 
 abbrev pub ReadOnlyAnswersHeld : Type 0
 ReadOnlyAnswersHeld =

@@ -6,12 +6,14 @@ ghost use Rattle.std.specs.Prelude.{◌≡◌};
 ghost use Rattle.who.specs.Parts.{identity_allowed, no_readings};
 ghost use Rattle.who.specs.Calls.{naming, reading_out};
 
+use paper::Refusal;
+
 mod names;
 mod numbers;
 mod values;
 
 // Who a board is: product and version of two bytes, and a serial of 0 to 32 bytes; past its length the array is 0.
-#[derive(Clone, Copy)]
+#[derive(Clone, Copy, PartialEq, Eq)]
 pub struct Identity {
     pub product: u16,
     pub version: u16,
@@ -19,22 +21,15 @@ pub struct Identity {
     pub serial: [u8; paper::MOST_SERIAL],
 }
 
-// That something was accepted, or document 01's number of the refusal.
-#[derive(Clone, Copy)]
-pub enum Verdict {
-    Accepted,
-    Refused(u8),
-}
-
 // An identity, and whether the one that was asked for was accepted.
-#[derive(Clone, Copy)]
+#[derive(Clone, Copy, PartialEq, Eq)]
 pub struct Named {
     pub identity: Identity,
-    pub verdict: Verdict,
+    pub verdict: Result<(), Refusal>,
 }
 
 // What a board measures, at the published widths: 0.01 V, 0.1 A, 0.001 A, 0.1 Ah, 0.01 %.
-#[derive(Clone, Copy)]
+#[derive(Clone, Copy, PartialEq, Eq)]
 pub struct Readings {
     pub voltage: i16,
     pub current: i16,
@@ -44,34 +39,29 @@ pub struct Readings {
 }
 
 // A read-only value of up to 32 bytes: they fill the front of the array, and the rest is 0.
-#[derive(Clone, Copy)]
+#[derive(Clone, Copy, PartialEq, Eq)]
 pub struct Value {
     pub len: usize,
     pub bytes: [u8; paper::MOST_SERIAL],
 }
 
-// What an id reads out: its value, or the number of the refusal and no value.
-#[derive(Clone, Copy)]
-pub struct Looked {
-    pub verdict: Verdict,
-    pub value: Value,
-}
-
 impl Identity {
     // Returns the identity of a product, a version and a serial: 12 for a serial over 32 bytes or with a byte outside 0x20..0x7E, and then
     // product and version 0 and an empty serial.
+    #[tactic(auto, unfolding(crate::specs::Calls::naming, crate::specs::Parts::serial_fits, crate::specs::Parts::no_identity))]
     pub fn named(product: u16, version: u16, serial: &[u8]) -> Named
         ensures { result ≡ naming product version serial.now }
     {
-        if !names::serial_fits(serial) {
-            return Named {
-                identity: names::nobody(),
-                verdict: Verdict::Refused(paper::NOT_ALLOWED),
-            };
-        }
-        Named {
-            identity: names::identity_of(product, version, serial),
-            verdict: Verdict::Accepted,
+        if names::serial_fits(serial) {
+            Named {
+                identity: names::identity_of(product, version, serial),
+                verdict: Ok(()),
+            }
+        } else {
+            Named {
+                identity: names::identity_of(0, 0, &[]),
+                verdict: Err(Refusal::NotAllowed),
+            }
         }
     }
 
@@ -99,11 +89,12 @@ impl Readings {
 }
 
 // Returns the value of a read-only id: 12 for an identity that is not allowed, then 7 for an id that is not read-only.
-pub fn read_only(identity: Identity, readings: Readings, id: u16) -> Looked
+#[tactic(auto, unfolding(crate::specs::Calls::reading_out))]
+pub fn read_only(identity: Identity, readings: Readings, id: u16) -> Result<Value, Refusal>
     ensures { result ≡ reading_out identity readings id }
 {
-    if !names::is_identity(identity) {
-        return values::refused(paper::NOT_ALLOWED);
+    if !identity.is_allowed() {
+        return Err(Refusal::NotAllowed);
     }
     values::looked(identity, readings, id)
 }

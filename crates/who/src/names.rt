@@ -3,7 +3,7 @@ ghost use Rattle.std.specs.Prelude.{◌≡◌, ◌&&◌, leb, length, ◌≤◌}
 ghost use Rattle.paper.specs.Numbers.{most_serial};
 ghost use Rattle.laws.specs.Lists.{every};
 ghost use Rattle.laws.specs.Promise.{front_of};
-ghost use Rattle.who.specs.Parts.{serial_fits, identity_of, identity_allowed, no_identity};
+ghost use Rattle.who.specs.Parts.{serial_fits, identity_of, identity_allowed};
 
 use crate::{Identity, numbers};
 
@@ -28,6 +28,7 @@ fn all_within(bytes: &[u8], low: u8, high: u8) -> bool
 }
 
 // Returns whether a board can be started with this serial.
+#[tactic(auto, unfolding(crate::specs::Parts::serial_fits))]
 pub(crate) fn serial_fits(serial: &[u8]) -> bool
     ensures { result ≡ serial_fits serial.now }
 {
@@ -46,6 +47,7 @@ pub(crate) fn front(from: &[u8]) -> [u8; paper::MOST_SERIAL]
 }
 
 // Returns the identity of a product, a version and a serial.
+#[tactic(auto, unfolding(crate::specs::Parts::identity_of))]
 pub(crate) fn identity_of(product: u16, version: u16, serial: &[u8]) -> Identity
     requires { length serial.now ≤ most_serial }
     ensures { result ≡ identity_of product version serial.now }
@@ -55,18 +57,6 @@ pub(crate) fn identity_of(product: u16, version: u16, serial: &[u8]) -> Identity
         version,
         len: serial.len(),
         serial: front(serial),
-    }
-}
-
-// Returns the identity of a board whose start was refused.
-pub(crate) fn nobody() -> Identity
-    ensures { result ≡ no_identity }
-{
-    Identity {
-        product: 0,
-        version: 0,
-        len: 0,
-        serial: [0u8; paper::MOST_SERIAL],
     }
 }
 
