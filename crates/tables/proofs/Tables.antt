@@ -17,8 +17,7 @@ use Rattle.settings.specs.Rules.{in_range, agrees, allowed_for, all_allowed, nea
 use Rattle.paper.specs.Numbers.{not_allowed, number_not_allowed}
 use Rattle.settings.specs.Calls.{placing, allowing, partner_fits, nearing}
 use Rattle.settings.specs.declared.Setting.{Setting}
-use Rattle.settings.specs.declared.Found.{Found}
-use Rattle.settings.specs.declared.Number.{Number}
+use Rattle.std.specs.Prelude.{Some, Ok, Err}
 use Rattle.settings.proofs.Rows.{partner_below, partner_back, place_has}
 use Rattle.settings.proofs.Theorems.{nearest_is_answered}
 use Rattle.settings.proofs.Windows.{nearest_found, allowed_range, allowed_agrees, allowed_both, alone_any}
@@ -27,7 +26,7 @@ use Rattle.tables.specs.Rules.{allowed, number_at, partner_number, changed}
 use Rattle.tables.specs.Calls.{set_to}
 use Rattle.tables.specs.Laws.{refusal_of, SetGivenWhen, SetKeepsAllowed, RefusedKeeps, SetKeepsCount, SetChangesOne, SetStores, EqualIsAccepted, RefusedNamesNearest, PairsHaveAnOrder}
 use Rattle.tables.specs.declared.Table.{Table}
-use Rattle.tables.specs.declared.Answer.{Answer}
+use Rattle.tables.specs.Answers.{denied}
 use Rattle.tables.specs.declared.Change.{Change}
 
 -- what an allowed table holds
@@ -52,10 +51,10 @@ unfolding set_to
 set_given t k n = by (allowed t) (ltb k count) (allowed_for k n (partner_number t k)) _ _ _
   where
     stray : Change
-    stray = record { answer = Answer.Refused 12 0; table = t }
+    stray = record { answer = Err (denied not_allowed 0); table = t }
 
     by : (fit in_table ok : Bool) (nearest : ℕ) (stored kept : Table)
-        → let given : Change = cond (fit && in_table) (cond ok (record { answer = Answer.Accepted; table = stored }) (record { answer = Answer.Refused 10 nearest; table = kept })) stray in
+        → let given : Change = cond (fit && in_table) (cond ok (record { answer = Ok tt; table = stored }) (record { answer = Err (denied number_not_allowed nearest); table = kept })) stray in
         (refusal_of given.answer ≡ cond (not fit || not in_table) (some 12) (cond (not ok) (some 10) none))
         × ((not fit || not in_table) ≡ true → given ≡ stray)
     by false in_table ok nearest stored kept = (refl, λ e. refl)
@@ -64,23 +63,22 @@ set_given t k n = by (allowed t) (ltb k count) (allowed_for k n (partner_number 
     by true true true nearest stored kept = (refl, λ e. absurd (false≢true e))
 
 -- a Set, case by case
-pub set_stray : (t : Table) (k n : ℕ) → allowed t ≡ false → set_to t k n ≡ record { answer = Answer.Refused not_allowed 0; table = t }
+pub set_stray : (t : Table) (k n : ℕ) → allowed t ≡ false → set_to t k n ≡ record { answer = Err (denied not_allowed 0); table = t }
 unfolding set_to
 set_stray t k n e = rw e
 
 module _ (t : Table) (k n : ℕ) (ok : allowed t ≡ true) where
-  pub set_past : count ≤ k → set_to t k n ≡ record { answer = Answer.Refused not_allowed 0; table = t }
+  pub set_past : count ≤ k → set_to t k n ≡ record { answer = Err (denied not_allowed 0); table = t }
   unfolding set_to
   set_past h = rw (ok, le-ltb k count h)
 
   pub set_refused : k < count → allowed_for k n (partner_number t k) ≡ false
-      → set_to t k n ≡ record { answer = Answer.Refused number_not_allowed (nearest_of k n (partner_number t k)); table = t }
+      → set_to t k n ≡ record { answer = Err (denied number_not_allowed (nearest_of k n (partner_number t k))); table = t }
   unfolding set_to
   set_refused h e =
       rw (ok, lt-ltb k count h, e)
-      (ap (λ (l : List ℕ). record { answer = Answer.Refused number_not_allowed (nearest_of k n (partner_number t k)); table = record { numbers = l } }) (set-get_or t.numbers k 0))
 
-  pub set_accepted : k < count → allowed_for k n (partner_number t k) ≡ true → set_to t k n ≡ record { answer = Answer.Accepted; table = changed t k n }
+  pub set_accepted : k < count → allowed_for k n (partner_number t k) ≡ true → set_to t k n ≡ record { answer = Ok tt; table = changed t k n }
   unfolding set_to
   set_accepted h e = rw (ok, lt-ltb k count h, e)
 
@@ -131,14 +129,13 @@ set_allowed t k n long ok = by (ltb k count) (allowed_for k n (partner_number t 
     by false r p q = rw (set_past t k n ok (ltb-false k count p)) ok
 
 pub refused_keeps : RefusedKeeps
-refused_keeps t k n number nearest = by (allowed t) (ltb k count) (allowed_for k n (partner_number t k)) refl refl refl
+refused_keeps t k n why = by (allowed t) (ltb k count) (allowed_for k n (partner_number t k)) refl refl refl
   where
     by : (o s r : Bool) → allowed t ≡ o → ltb k count ≡ s → allowed_for k n (partner_number t k) ≡ r
-        → (set_to t k n).answer ≡ Answer.Refused number nearest → (set_to t k n).table ≡ t
+        → (set_to t k n).answer ≡ Err why → (set_to t k n).table ≡ t
     by false s r o p q e = rw (set_stray t k n o)
     by true true true o p q e =
-        let is : Answer.Accepted ≡ Answer.Refused number nearest = rw (set_accepted t k n o (ltb-true k count p) q) at e in
-        let z : ◌≡◌ {A = ℕ} 0 1 = cc in absurd (omega arith)
+        let is : Ok tt ≡ Err why = rw (set_accepted t k n o (ltb-true k count p) q) at e in cc
     by true true false o p q e = rw (set_refused t k n o (ltb-true k count p) q)
     by true false r o p q e = rw (set_past t k n o (ltb-false k count p))
 
@@ -168,7 +165,7 @@ set_stores t k n long ok h fits =
 pub equal_accepted : EqualIsAccepted
 equal_accepted t k ok h =
     set_accepted t k (number_at t k) ok h (allowed_at t ok k h)
-    ∙ ap (λ (l : List ℕ). record { answer = Answer.Accepted; table = record { numbers = l } }) (set-get_or t.numbers k 0)
+    ∙ ap (λ (l : List ℕ). record { answer = Ok tt; table = record { numbers = l } }) (set-get_or t.numbers k 0)
 
 pub refused_names : RefusedNamesNearest
 refused_names t k n ok h small e =
@@ -185,30 +182,21 @@ pairs_order from to ok ok' k h =
     }
 
 -- a setting of the table, as it is found
-module _ (s : Setting) (is : placing s.index ≡ Found.At s) where
-  pub setting_below : s.index < count
-  setting_below = (place_has s.index s is).0
+module _ (k : ℕ) (s : Setting) (is : placing k ≡ Some s) where
+  pub setting_below : k < count
+  setting_below = (place_has k s is).0
 
-  pub setting_partner : partner_at s.index ≡ s.partner
-  setting_partner = ap (λ (x : Setting). x.partner) (place_has s.index s is).1
+  setting_partner : partner_at k ≡ s.partner
+  setting_partner = ap (λ (x : Setting). x.partner) (place_has k s is).1
 
   pub partner_in : s.partner < count
-  partner_in = rw (sym setting_partner) (partner_below s.index setting_below)
+  partner_in = rw (sym setting_partner) (partner_below k setting_below)
 
-  -- its partner's number, in a table, and what is allowed with it
-  pub partner_held : (t : Table) → partner_number t s.index ≡ number_at t s.partner
-  partner_held t = ap (number_at t) setting_partner
-
-  pub allows_is : (t : Table) (n : ℕ) → allowing s.index n (number_at t s.partner) ≡ allowed_for s.index n (partner_number t s.index)
+  -- what is allowed for it in a table, and the nearest number that is
+  pub allows_is : (t : Table) (n : ℕ) → allowing k n (number_at t s.partner) ≡ allowed_for k n (partner_number t k)
   unfolding allowing
-  allows_is t n = rw (lt-ltb s.index count setting_below, partner_held t)
+  allows_is t n = rw (lt-ltb k count setting_below, setting_partner)
 
-  pub nearest_is : (wished p : ℕ) → partner_fits s.index p ≡ true → nearing s.id wished p ≡ Number.Is (nearest_of s.index wished p)
-  nearest_is wished p fit =
-      ap (λ (x : Setting). nearing x.id wished p) (sym (place_has s.index s is).1) ∙ nearest_is_answered s.index wished p setting_below fit
-
-pub found_index : (k : ℕ) (s : Setting) → placing k ≡ Found.At s → s.index ≡ k
-found_index k s e = sym (ap (λ (x : Setting). x.index) (place_has k s e).1)
-
-pub found_again : (k : ℕ) (s : Setting) → placing k ≡ Found.At s → placing s.index ≡ Found.At s
-found_again k s e = ap placing (found_index k s e) ∙ e
+  pub nearest_is : (t : Table) → allowed t ≡ true → (wished : ℕ) → nearing s.id wished (number_at t s.partner) ≡ Ok (nearest_of k wished (partner_number t k))
+  nearest_is t ok wished =
+      rw (sym (place_has k s is).1) (nearest_is_answered k wished (partner_number t k) setting_below (partner_fits_lem t ok k setting_below))
