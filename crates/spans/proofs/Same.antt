@@ -1,16 +1,37 @@
 -- Two answers that meet a call's own contract are the same, and so are the buffers that they leave. `Post` is what the call ensures, as
 -- its source states it. Assumes nothing.
-use Rattle.std.proofs.Common.{◌≡◌, ℕ, List, sym, ◌∙◌}
+use Rattle.std.proofs.Common.{◌≡◌, ℕ, Bool, List, sym, ◌∙◌}
+use Rattle.std.specs.declared.clone.Clone
+use denote.Param.Laws.{Laws, IsCopy}
+use denote.RattleType.{RattleType}
 use denote.Ref.{Bor}
 use denote.MutBor.{MutBor}
 use contract.Lifetimes.{Lfts}
+use mir.Syntax.{Dict}
+use Rattle.spans.specs.declared.Kind
 use Rattle.spans.proofs.copy.Reads as copy
+use Rattle.spans.proofs.all.Reads as all
+use Rattle.spans.proofs.first.Reads as first
 use Rattle.spans.proofs.find.Reads as find
 
 pub copy_same : (κs : Lfts 2) (from : Bor (List ℕ)) (to left left' : MutBor (List ℕ)) (r r' : ℕ)
     → copy.Post κs (from, (to, tt)) r (from, (left, tt)) → copy.Post κs (from, (to, tt)) r' (from, (left', tt))
     → (r ≡ r') × (left.now ≡ left'.now)
 copy_same κs from to left left' r r' met met' = (met.0 ∙ sym met'.0, met.1 ∙ sym met'.1)
+
+-- at any type of kinds, whatever holds of them
+module _
+    (K : RattleType) (laws : Laws K) (copies : IsCopy K) (holds : Kind.Ghosts K.Denot) (holds-code : Dict) (clone : Clone.Ghosts K.Denot) (clone-code : Dict)
+    (κs : Lfts 2) (bytes : Bor (List ℕ)) (kind : K.Denot) where
+  pub all_same : (r r' : Bool)
+      → all.Post K laws copies holds holds-code clone clone-code κs (bytes, (kind, tt)) r (bytes, (kind, tt))
+      → all.Post K laws copies holds holds-code clone clone-code κs (bytes, (kind, tt)) r' (bytes, (kind, tt)) → r ≡ r'
+  all_same r r' met met' = met ∙ sym met'
+
+  pub first_same : (r r' : ℕ)
+      → first.Post K laws copies holds holds-code clone clone-code κs (bytes, (kind, tt)) r (bytes, (kind, tt))
+      → first.Post K laws copies holds holds-code clone clone-code κs (bytes, (kind, tt)) r' (bytes, (kind, tt)) → r ≡ r'
+  first_same r r' met met' = met.1 ∙ sym met'.1
 
 pub find_same : (κs : Lfts 1) (bytes : Bor (List ℕ)) (wanted r r' : ℕ)
     → find.Post κs (bytes, (wanted, tt)) r (bytes, (wanted, tt)) → find.Post κs (bytes, (wanted, tt)) r' (bytes, (wanted, tt)) → r ≡ r'

@@ -1,15 +1,44 @@
 // Bytes copied and searched. Every call takes anything.
 #![tactic(auto)]
 
-ghost use Rattle.std.specs.Prelude.{◌≤◌, ◌+◌, ◌-◌, ◌≡◌, ◌==◌, length, min, take, drop};
-ghost use Rattle.laws.specs.Lists.{before};
+ghost use Rattle.std.specs.Prelude.{ℕ, Bool, ◌≤◌, ◌≡◌, ◌==◌, ◌&&◌, eqb, leb, length, min, take};
+ghost use Rattle.laws.specs.Lists.{before, every};
 ghost use Rattle.laws.specs.Promise.{overlaid};
 
-// Returns the smaller of two numbers.
-fn least(a: usize, b: usize) -> usize
-    ensures { result ≡ min a b }
-{
-    if a < b { a } else { b }
+// A kind of byte: a test that some bytes pass.
+pub trait Kind: Copy {
+    ghost holds: { Self → ℕ → Bool };
+
+    // Returns whether a byte is of this kind.
+    fn holds(self, b: u8) -> bool
+        ensures { result ≡ holds self b };
+}
+
+// One byte alone.
+#[derive(Clone, Copy, PartialEq, Eq)]
+pub struct Byte(pub u8);
+
+impl Kind for Byte {
+    ghost holds = { λ kind b. eqb kind.0 b };
+
+    fn holds(self, b: u8) -> bool {
+        self.0 == b
+    }
+}
+
+// The bytes from low to high, both included.
+#[derive(Clone, Copy, PartialEq, Eq)]
+pub struct Within {
+    pub low: u8,
+    pub high: u8,
+}
+
+impl Kind for Within {
+    ghost holds = { λ kind b. leb kind.low b && leb b kind.high };
+
+    fn holds(self, b: u8) -> bool {
+        (self.low <= b) & (b <= self.high)
+    }
 }
 
 // Copies bytes over the front of others, as many as there is room for, and returns how many.
@@ -17,9 +46,33 @@ pub fn copy(from: &[u8], to: &mut [u8]) -> usize
     ensures count { result ≡ min (length from.now) (length to.old) }
     ensures copied { to.new ≡ overlaid (take (length to.old) from.now) to.old }
 {
-    let n = least(from.len(), to.len());
+    let n = from.len().min(to.len());
     to[..n].copy_from_slice(&from[..n]);
     n
+}
+
+// Returns whether every byte is of a kind. It has no early return, so that the compiler may look at many bytes at a time.
+pub fn all<K: Kind>(bytes: &[u8], kind: K) -> bool
+    ensures { result ≡ every (K.holds kind) bytes.now }
+{
+    let mut all = true;
+    for b in bytes {
+        all &= kind.holds(*b);
+    }
+    all
+}
+
+// Returns the place of the first byte of a kind, or how many bytes there are where it is none of them.
+pub fn first<K: Kind>(bytes: &[u8], kind: K) -> usize
+    ensures within { result ≤ length bytes.now }
+    ensures first { result ≡ before (K.holds kind) bytes.now }
+{
+    for (i, b) in bytes.iter().enumerate() {
+        if kind.holds(*b) {
+            return i;
+        }
+    }
+    bytes.len()
 }
 
 // Returns the place of the first byte of a value, or how many bytes there are where it is none of them.
@@ -27,10 +80,5 @@ pub fn find(bytes: &[u8], wanted: u8) -> usize
     ensures within { result ≤ length bytes.now }
     ensures first { result ≡ before (λ b. b == wanted) bytes.now }
 {
-    for (i, b) in bytes.iter().enumerate() {
-        if *b == wanted {
-            return i;
-        }
-    }
-    bytes.len()
+    first(bytes, Byte(wanted))
 }

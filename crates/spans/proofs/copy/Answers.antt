@@ -14,4 +14,4 @@ unfolding overlaid
 put from to e f = rw (f, e, swap (length from) (length to), take_min, length-take)
 
 pub returns-clause-copied : goal.returns-clause-copied
-returns-clause-copied c = put c.args.from.now c.args.to.now c.least-n.ensures c.copy_from_slice.ensures.after
+returns-clause-copied c = put c.args.from.now c.args.to.now c.min-n.ensures c.copy_from_slice.ensures.after
