@@ -1,17 +1,16 @@
 -- Laws of a line: what is put after it, cut or not. Assumes nothing.
 use mathlib.Core.Path.{◌≡◌, refl, sym, ap, ap₂, ◌∙◌}
-use mathlib.Core.Bool.{true}
-use mathlib.Core.List.{List, [], ◌∷◌, ◌++◌, append_assoc, append-nil}
+use mathlib.Core.List.{List, [], ◌∷◌, ◌++◌, append_assoc}
 use Prim.Native.Nat.{ℕ, zero, suc, ◌+◌, ◌-◌, ◌≤◌, min}
 use Prim.Native.String.{String}
 use native.Mathlib.Omega.{arith}
 use borrow.Rule.Slice.PartMut.{put_mid}
-use lib.ListN.{length, get_or, take, drop, replicate, length-take, length-drop, length-append, length-replicate}
-use lib.Seq.{length-take-le, take-take, take-append-le}
-use lib.Dec.{eqb}
-use Rattle.laws.specs.Lists.{every}
+use lib.ListN.{length, get_or, take, drop, replicate, length-take, length-append, length-replicate}
+use lib.Seq.{length-take-le, take-take, take-append-le, take-append_seam, drop-append_seam}
+use Rattle.std.proofs.lemmas.List.{take_all, drop-replicate}
+use Rattle.std.proofs.Math.Nat.{min_comm}
 use Rattle.laws.specs.Promise.{overlaid}
-use Rattle.laws.proofs.Lists.{padded, take_min, take_again, every_zero, zeros_behind}
+use Rattle.laws.proofs.Lists.{take_min, take_again, zeros_behind}
 use Rattle.laws.proofs.Fronts.{padded_behind}
 use Rattle.lines.specs.Lines.{most, chars, blank, line_of, text_of, adding, Says}
 use Rattle.lines.specs.Laws.{LineIsText}
@@ -44,14 +43,6 @@ pub adding_line : (text more : List ℕ) → adding (line_of text) more ≡ line
 unfolding adding
 adding_line text more = ap (λ (l : List ℕ). line_of (l ++ more)) (text_back text) ∙ line_again text more
 
--- a tidied line is the one of its text, and what is put after it is put after the line
-pub tidied_same : {l : Line} (t : List ℕ) → l ≡ line_of t → l ≡ line_of (text_of l)
-tidied_same t e = e ∙ sym (line_again t [] ∙ ap line_of (append-nil t)) ∙ ap line_of (append-nil (take most t)) ∙ sym (ap line_of (text_back t)) ∙ ap (λ (k : Line). line_of (text_of k)) (sym e)
-
-pub tidied_more : (l : Line) {m n : Line} (more : List ℕ) → m ≡ line_of (text_of l) → n ≡ adding m more → n ≡ adding l more
-unfolding adding
-tidied_more l more e f = f ∙ ap (λ (k : Line). adding k more) e ∙ adding_line (text_of l) more
-
 -- one text after another
 pub further : (l : Line) {m n : Line} (a b : List ℕ) → m ≡ adding l a → n ≡ adding m b → n ≡ adding l (a ++ b)
 unfolding adding
@@ -62,64 +53,65 @@ further l {m} {n} a b e f =
 pub from_start : {l m : Line} (a : List ℕ) → l ≡ line_of [] → m ≡ adding l a → m ≡ line_of a
 from_start a e f = f ∙ ap (λ (k : Line). adding k a) e ∙ adding_line [] a
 
--- a line's own characters alone
-module _ (l : Line) (long : length l.chars ≡ most) (n : ℕ) (least : n ≡ min l.len most) where
-  pub kept_length : length (take n l.chars) ≡ n
-  kept_length = length-take-le n l.chars (omega arith)
+-- a text put behind another in an array that is 0 behind that one
+behind : (own text zeros last : List ℕ) (k : ℕ) → zeros ≡ replicate k 0 → length own + k ≡ most → last ≡ overlaid (take k text) zeros
+    → put_mid (length own) k (own ++ zeros) last ≡ take most ((own ++ text) ++ blank)
+unfolding blank
+behind own text zeros last k none all e =
+    let room : length zeros ≡ k = ap (λ (l : List ℕ). length l) none ∙ length-replicate k 0 in
+    let less : k ≤ most = omega arith in
+    let same : last ≡ overlaid (take (min (length text) k) text) (take k zeros) =
+    e ∙ ap₂ overlaid (sym (rw min_comm (take_min k text))) (sym (take_all k zeros (omega arith))) in
+    rw (take-append_seam, drop-append_seam)
+    (padded_behind own text zeros last k most none less same ∙ ap (λ (n : ℕ). take n ((own ++ text) ++ blank)) all)
 
-  kept_same : take n l.chars ≡ text_of l
-  kept_same = ap (λ (k : ℕ). take k l.chars) (least ∙ ap (min l.len) (sym long)) ∙ take_min l.len l.chars
+-- a line's own characters copied to the front of an empty array, and a text behind them
+module _ (own text : List ℕ) (few : length own ≤ most) (first : List ℕ) (e : first ≡ overlaid own blank) where
+  rest : List ℕ
+  rest = take (most - length own) (drop (length own) first)
 
-  pub tidy_line : (copied : List ℕ) → copied ≡ overlaid (take n l.chars) blank → line n copied ≡ line_of (text_of l)
-  unfolding line_of overlaid blank
-  tidy_line copied e =
-      let few : n ≤ most = omega arith in
-      let count : min (length (take n l.chars)) most ≡ n = rw kept_length (omega arith) in
-      let same_count : min most (length (text_of l)) ≡ n = rw (← kept_same, kept_length) (omega arith) in
-      let whole : take n (take n l.chars) ≡ take n l.chars = take-take n n l.chars (omega arith) in
-      let all : take most (take n l.chars ++ blank) ≡ take n l.chars ++ drop n blank =
-      sym (padded (take n l.chars) most most (omega arith)) ∙ rw (count, whole) in
-      ap₂ line (sym same_count)
-      (e ∙ ap (λ (k : ℕ). take n l.chars ++ drop k blank) kept_length ∙ sym all ∙ ap (λ (t : List ℕ). take most (t ++ blank)) kept_same)
+  begun : first ≡ own ++ drop (length own) blank
+  unfolding overlaid
+  begun = e
 
--- what a tidy line has past its characters
-module _ (l : Line) (tidy : l ≡ line_of (text_of l)) where
-  pub tidy_few : l.len ≤ most
-  unfolding line_of
-  tidy_few = omega (arith, ap (λ (k : Line). k.len) tidy)
+  zeros : drop (length own) blank ≡ replicate (most - length own) 0
+  unfolding blank
+  zeros = drop-replicate (length own) most 0
 
-  pub tidy_long : length l.chars ≡ most
-  unfolding line_of blank
-  tidy_long = ap (λ (k : Line). length k.chars) tidy ∙ length-take-le most (text_of l ++ blank) (rw (length-append, length-replicate) (omega arith))
+  rest_is : rest ≡ drop (length own) blank
+  unfolding rest
+  rest_is =
+      let after : drop (length own) first ≡ drop (length own) blank = rw begun (drop-append_seam own (drop (length own) blank)) in
+      rw (after, zeros) (take_all (most - length own) (replicate (most - length own) 0) (rw length-replicate (omega arith)))
 
-  tidy_zeros : every (eqb 0) (drop l.len l.chars) ≡ true
-  unfolding line_of blank
-  tidy_zeros = rw tidy (zeros_behind (text_of l) most most (omega arith))
+  rest_length : length rest ≡ most - length own
+  rest_length = rw (rest_is, zeros) (length-replicate (most - length own) 0)
 
-  tidy_rest : drop l.len l.chars ≡ replicate (most - l.len) 0
-  tidy_rest = every_zero (drop l.len l.chars) tidy_zeros ∙ ap (λ (k : ℕ). replicate k 0) (length-drop l.len l.chars ∙ ap (λ (k : ℕ). k - l.len) tidy_long)
+  both_chars : (last : List ℕ) → last ≡ overlaid (take (length rest) text) rest → put_mid (length own) (most - length own) first last ≡ take most ((own ++ text) ++ blank)
+  both_chars last f =
+      rw begun (behind own text (drop (length own) blank) last (most - length own) zeros (omega arith)
+      (f ∙ ap₂ (λ (k : ℕ) (z : List ℕ). overlaid (take k text) z) rest_length rest_is))
 
-  tidy_text : length (text_of l) ≡ l.len
-  tidy_text = length-take-le l.len l.chars (omega (arith, tidy_few, tidy_long))
+-- what `put` makes of them
+module _ (l : Line) (room : length l.chars ≡ most) (m : ℕ) (least : m ≡ min l.len most) where
+  kept : take m l.chars ≡ text_of l
+  kept = ap (λ (k : ℕ). take k l.chars) (least ∙ ap (min l.len) (sym room)) ∙ take_min l.len l.chars
 
-  -- more characters after them, none past the 160th
-  module _ (more : List ℕ) (n : ℕ) (least : n ≡ min (length more) (most - l.len)) where
-    more_len : l.len + n ≡ min most (length (text_of l ++ more))
-    more_len = rw (length-append, tidy_text) (omega (arith, tidy_few))
+  kept_length : length (text_of l) ≡ m
+  kept_length = ap (λ (t : List ℕ). length t) (sym kept) ∙ length-take-le m l.chars (omega arith)
 
-    more_chars : (last : List ℕ) → last ≡ overlaid (take n more) (take (most - l.len) (drop l.len l.chars))
-        → put_mid l.len (most - l.len) l.chars last ≡ take most ((text_of l ++ more) ++ blank)
-    unfolding blank
-    more_chars last e =
-        let all : length (text_of l) + (most - l.len) ≡ most = rw tidy_text (omega (arith, tidy_few)) in
-        let less : most - l.len ≤ most = omega arith in
-        padded_behind (text_of l) more (drop l.len l.chars) last (most - l.len) most tidy_rest less (rw least at e)
-        ∙ ap (λ (k : ℕ). take k ((text_of l ++ more) ++ blank)) all
-
-    pub more_line : (last : List ℕ) → last ≡ overlaid (take n more) (take (most - l.len) (drop l.len l.chars))
-        → line (l.len + n) (put_mid l.len (most - l.len) l.chars last) ≡ adding l more
-    unfolding adding line_of
-    more_line last e = ap₂ line more_len (more_chars last e)
+  pub put_line : (own more : ℕ) (text : List ℕ) {first last : List ℕ} → own ≡ min (length (take m l.chars)) most → first ≡ overlaid (take most (take m l.chars)) blank
+      → more ≡ min (length text) (length (take (most - own) (drop own first)))
+      → last ≡ overlaid (take (length (take (most - own) (drop own first))) text) (take (most - own) (drop own first))
+      → line (own + more) (put_mid own (most - own) first last) ≡ adding l text
+  unfolding adding line_of rest
+  put_line own more text {first} {last} e f g h =
+      let few : length (text_of l) ≤ most = omega (arith, kept_length) in
+      let size : own ≡ length (text_of l) = rw kept at e ∙ omega (arith, kept_length) in
+      let begun : first ≡ overlaid (text_of l) blank = f ∙ ap (λ (t : List ℕ). overlaid t blank) (take_all most (take m l.chars) (rw kept few) ∙ kept) in
+      let more_is : more ≡ min (length text) (most - length (text_of l)) = rw (size, rest_length (text_of l) text few first begun) at g in
+      ap₂ line (rw length-append (omega arith))
+      (ap (λ (k : ℕ). put_mid k (most - k) first last) size ∙ both_chars (text_of l) text few first begun last (rw size at h))
 
 -- Words that a line has are words of its text, also where that is cut.
 

@@ -10,17 +10,13 @@ use lib.Dec.{eqb, ltb, leb}
 use Rattle.laws.specs.Lists.{every, before}
 use Rattle.laws.proofs.Bools.{pick, and_left, and_right, both}
 use Rattle.laws.proofs.Lists.{every_append}
-use Rattle.lines.specs.Numbers.{last_digit, decimal_from, decimal, steps, fraction, pointed}
+use Rattle.lines.specs.Numbers.{last_digit, last_digits, decimal_from, decimal, steps, fraction, pointed}
 use Rattle.lines.specs.Laws.{read_on, is_digit, AreDigits, DecimalIsRead, point, without_point, after_point, ArePointed, PointedIsRead}
 
 pub one_digit : (more n : ℕ) → n < 10 → decimal_from more n ≡ last_digit n
 unfolding decimal_from
 one_digit zero n h = refl
 one_digit (suc more) n h = rw (lt-ltb n 10 h)
-
-pub no_more : (more n : ℕ) → more ≡ 0 → decimal_from more n ≡ last_digit n
-unfolding decimal_from
-no_more more n h = rw h
 
 pub more_digits : (more n : ℕ) → ((more ≡ 0) → ⊥) → 10 ≤ n → decimal_from more n ≡ decimal_from (more - 1) (n / 10) ++ last_digit n
 unfolding decimal_from
@@ -34,6 +30,10 @@ pub steps_some : (decimals : ℕ) → 0 < steps decimals
 steps_some decimals =
     pick (λ (n : ℕ). 0 < n) (eqb decimals 0) (omega arith)
     (pick (λ (n : ℕ). 0 < n) (eqb decimals 1) (omega arith) (pick (λ (n : ℕ). 0 < n) (eqb decimals 2) (omega arith) (omega arith)))
+
+pub digit_more : (decimals n : ℕ) → ((decimals ≡ 0) → ⊥) → last_digits decimals n ≡ last_digits (decimals - 1) (n / 10) ++ last_digit n
+digit_more zero n some = absurd (some refl)
+digit_more (suc more) n some = let less : suc more - 1 ≡ more = omega arith in rw less
 
 -- Read back.
 
@@ -114,6 +114,15 @@ first_zero (suc more) n h e = by (ltb n 10) refl (first_zero more (n / 10) (omeg
         let none : n / 10 ≡ 0 = less (sym (first_append (decimal_from more (n / 10)) (last_digit n) (digits_some more (n / 10))) ∙ f) in
         absurd (omega arith)
 
+-- where there is room for its digits, one more that can be made changes nothing
+room_enough : (more n : ℕ) → n < room more → decimal_from (suc more) n ≡ decimal_from more n
+unfolding decimal_from
+room_enough zero n h = one_digit 1 n h
+room_enough (suc more) n h = rw (room_enough more (n / 10) (omega arith))
+
+pub tenth_and_last : (n : ℕ) → n < 100000000000000000000 → 10 ≤ n → decimal n ≡ decimal (n / 10) ++ last_digit n
+tenth_and_last n few h = more_digits 19 n (λ z. absurd (omega arith)) h ∙ ap (λ (l : List ℕ). l ++ last_digit n) (sym (room_enough 18 (n / 10) (omega arith)))
+
 pub decimal_read : DecimalIsRead
 decimal_read n h =
     record {
@@ -171,7 +180,7 @@ pointed_read n (suc zero) h k = pointed_parts (n / 10) n 1 (fraction 1 n) (omega
 pointed_read n (suc (suc zero)) h k =
     pointed_parts (n / 100) n 2 (fraction 2 n) (omega arith) (both _ _ (digit_is (n / 10)) (last_is n)) (omega arith) refl refl (λ z. absurd (omega arith))
 pointed_read n (suc (suc (suc zero))) h k =
-    let hundreds : n / 1000 * 10 + n / 100 % 10 ≡ n / 100 = omega arith in
-    let tens : n / 100 * 10 + n / 10 % 10 ≡ n / 10 = omega arith in
-    pointed_parts (n / 1000) n 3 (fraction 3 n) (omega arith) (both _ _ (digit_is (n / 100)) (both _ _ (digit_is (n / 10)) (last_is n))) (omega arith) refl refl (λ z. absurd (omega arith))
+    let hundreds : n / 1000 * 10 + n / 10 / 10 % 10 ≡ n / 10 / 10 = omega arith in
+    let tens : n / 10 / 10 * 10 + n / 10 % 10 ≡ n / 10 = omega arith in
+    pointed_parts (n / 1000) n 3 (fraction 3 n) (omega arith) (both _ _ (digit_is (n / 10 / 10)) (both _ _ (digit_is (n / 10)) (last_is n))) (omega arith) refl refl (λ z. absurd (omega arith))
 pointed_read n (suc (suc (suc (suc decimals)))) h k = absurd (omega arith)

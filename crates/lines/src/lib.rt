@@ -2,21 +2,31 @@
 // takes anything, and its promise fixes its answer (specs/Lines.antt, specs/Numbers.antt).
 #![tactic(auto)]
 
-ghost use Rattle.std.specs.Prelude.{◌≡◌, []};
-ghost use Rattle.lines.specs.Lines.{line_of, adding};
-ghost use Rattle.lines.specs.Numbers.{decimal, pointed};
-
-mod copied;
-mod numbers;
+ghost use Rattle.std.specs.Prelude.{◌≡◌, [], ◌++◌};
+ghost use Rattle.lines.specs.Lines.{chars, line_of, adding};
+ghost use Rattle.lines.specs.Numbers.{last_digit, last_digits, decimal, steps, pointed};
 
 // The most characters of a line. What a text has past them is cut off.
 pub const MOST: usize = 160;
 
-// The characters of a line, and 0 past them.
+// The characters of a line, and 0 past them. A length beside an array: the promises fix the whole value, zeros too (`line_of`), and callers
+// may make up any.
 #[derive(Clone, Copy)]
 pub struct Line {
     pub len: usize,
     pub chars: [u8; MOST],
+}
+
+// Returns how many steps a unit of this many decimals has.
+fn steps_of(decimals: u8) -> usize
+    ensures { result ≡ steps decimals }
+{
+    match decimals {
+        0 => 1,
+        1 => 10,
+        2 => 100,
+        _ => 1000,
+    }
 }
 
 impl Line {
@@ -26,32 +36,58 @@ impl Line {
     {
         Line {
             len: 0,
-            chars: [0u8; MOST],
+            chars: [0; MOST],
         }
     }
 
-    // Returns the line with a text after it.
+    // Returns the line with a text after it. Only its own characters are taken over, so any line that a caller makes up is safe.
     pub fn put(self, text: &[u8]) -> Line
         ensures { result ≡ adding self text.now }
     {
-        copied::put(self, text)
+        let mut chars = [0; MOST];
+        let own = spans::copy(&self.chars[..self.len.min(MOST)], &mut chars);
+        let more = spans::copy(text, &mut chars[own..]);
+        Line {
+            len: own + more,
+            chars,
+        }
+    }
+
+    // Returns the line with the last decimal digit of a number after it.
+    fn put_digit(self, n: usize) -> Line
+        ensures { result ≡ adding self (last_digit n) }
+    {
+        self.put(&[b'0' + (n % 10) as u8])
     }
 
     // Returns the line with a number after it, in decimal digits without leading zeros.
     pub fn put_number(self, n: usize) -> Line
         ensures { result ≡ adding self (decimal n) }
     {
-        numbers::put_digits(self, n, numbers::MOST_DIGITS - 1)
+        if n < 10 {
+            return self.put_digit(n);
+        }
+        self.put_number(n / 10).put_digit(n)
+    }
+
+    // Returns the line with a point after it and as many of a number's last digits.
+    fn put_fraction(self, n: usize, decimals: u8) -> Line
+        ensures { result ≡ adding self (chars "." ++ last_digits decimals n) }
+    {
+        if decimals == 0 {
+            return self.put(b".");
+        }
+        self.put_fraction(n / 10, decimals - 1).put_digit(n)
     }
 
     // Returns the line with a whole number of steps after it, in the unit that the steps divide: 0 to 3 decimals, and more count as 3.
     pub fn put_pointed(self, n: usize, decimals: u8) -> Line
         ensures { result ≡ adding self (pointed n decimals) }
     {
-        let whole = self.put_number(n / numbers::steps_of(decimals));
+        let whole = self.put_number(n / steps_of(decimals));
         if decimals == 0 {
             return whole;
         }
-        numbers::put_fraction(whole, n, decimals)
+        whole.put_fraction(n, decimals.min(3))
     }
 }
