@@ -2,11 +2,11 @@
 // argument and a text are bytes; the standard library opens a path only if it is UTF-8. No contract can say what a file or a line gives.
 #![tactic(auto)]
 
-ghost use Rattle.std.specs.Prelude.{◌≡◌, ◌≤◌, ◌-◌, length, take, IfOk};
+ghost use Rattle.std.specs.Prelude.{◌≡◌, ◌≤◌, ◌-◌, length, take, IfOk, IfSome};
 
 use std::env::{Env, FillError};
 use std::fs::{File, OpenOptions, Permissions};
-use std::io::{Error, ErrorKind, IsTerminal, Read, Seek, SeekFrom, Stderr, Stdout, Write};
+use std::io::{Error, ErrorKind, IsTerminal, Read, Seek, Stderr, Stdout, Write};
 use std::os::unix::fs::{OpenOptionsExt, PermissionsExt};
 use std::random::RandomSource;
 use std::{fs, io};
@@ -14,12 +14,7 @@ use std::{fs, io};
 // The system, which `main` is given.
 pub type System = HostRuntime;
 
-// The system's numbers for: nothing is there, it is a folder.
-pub const NOTHING_THERE: i32 = 2;
-
-pub const A_FOLDER: i32 = 21;
-
-// Its numbers for bytes that are no text, and for an argument that it can only refuse.
+// The system's numbers for bytes that are no text, and for an argument that it can only refuse.
 const NO_TEXT: i32 = 84;
 
 const INVALID: i32 = 22;
@@ -38,33 +33,24 @@ pub fn large_buffer() -> [u8; 65536]
     [0; 65536]
 }
 
-// Puts an argument at the front of `out` and returns its length: 0 where there is none, or where it is longer.
-pub fn arg(system: System, place: usize, out: &mut [u8]) -> usize
-    ensures { result ≤ length out.new }
+// Copies an argument into a buffer and returns it: none where there is none, or where it is longer than the buffer.
+pub fn arg<'a>(system: System, place: usize, into: &'a mut [u8]) -> Option<&'a [u8]>
+    ensures { IfSome result (λ word. length word.now ≤ length into.old) }
 {
-    match system.arg(place, out) {
-        Ok(len) => len,
-        Err(_) => 0,
-    }
+    let len = system.arg(place, into).ok()?;
+    Some(&into[..len])
 }
 
 // Returns whether there is an argument at a place.
 fn has_arg(system: System, place: usize) -> bool {
-    match system.arg(place, &mut [0u8; 1]) {
-        Ok(_) => true,
-        Err(FillError::TooLong) => true,
-        Err(FillError::NotPresent) => false,
-    }
+    !matches!(system.arg(place, &mut [0; 1]), Err(FillError::NotPresent))
 }
 
 // Returns how many arguments there are, the program's own name among them.
 pub fn arg_count(system: System) -> usize {
-    for place in 0..usize::MAX {
-        if !has_arg(system, place) {
-            return place;
-        }
-    }
-    usize::MAX
+    (0..usize::MAX)
+        .find(|place| !has_arg(system, *place))
+        .unwrap_or(usize::MAX)
 }
 
 // Where a program writes its report, its bytes or its complaints.
@@ -84,103 +70,45 @@ pub fn error(system: System) -> Report {
     Report::Error(system.stderr())
 }
 
-// Returns how many bytes were moved, no more than there are, and none where that failed.
-fn moved(got: io::Result<usize>, most: usize) -> usize
-    ensures { result ≤ most }
-{
-    match got {
-        Ok(n) => n.min(most),
-        Err(_) => 0,
-    }
-}
-
-// Writes all of a text, or stops at the first write that takes nothing or fails.
-fn write_whole<W: Write>(to: &mut W, text: &[u8]) -> io::Result<()> {
-    let mut done = 0;
-    while done < text.len() {
-        let most = text.len() - done;
-        let n = to.write(&text[done..])?.min(most);
-        if n == 0 {
-            return Err(Error::from(ErrorKind::WriteZero));
-        }
-        done += n;
-    }
-    Ok(())
-}
-
-// Writes all of a text, or stops at the first write that takes nothing or fails and returns false.
-fn write_to<W: Write>(to: &mut W, text: &[u8]) -> bool {
-    write_whole(to, text).is_ok()
-}
-
-// Writes all of a text to a report, likewise.
-pub fn write_all(report: Report, text: &[u8]) -> bool {
+// Writes all of a text to a report.
+pub fn write_all(report: Report, text: &[u8]) -> io::Result<()> {
     match report {
-        Report::Output(stdout) => {
-            let mut to = stdout;
-            write_to(&mut to, text)
-        }
-        Report::Error(stderr) => {
-            let mut to = stderr;
-            write_to(&mut to, text)
-        }
+        Report::Output(mut stdout) => stdout.write_all(text),
+        Report::Error(mut stderr) => stderr.write_all(text),
     }
 }
 
-// A serial line, standard input and output in its place, or none.
+// A serial line, or standard input and output in its place.
 #[derive(Drop)]
 pub enum Port {
-    None,
     Standard(System),
     Device(File),
 }
 
-// Reads once, and returns how many bytes are at the front of a buffer, or nothing where that failed.
-fn read_from<R: Read>(from: &mut R, into: &mut [u8]) -> Option<usize> {
-    from.read(into).ok()
-}
-
-// Reads once from a line, likewise.
-pub fn read(port: &Port, into: &mut [u8]) -> Option<usize> {
+// Reads once from a line, and returns how many bytes are at the front of a buffer.
+pub fn read(port: &Port, into: &mut [u8]) -> io::Result<usize>
+    ensures { IfOk result (λ n. n ≤ length into.new) }
+{
     match port {
-        Port::None => None,
-        Port::Standard(system) => {
-            let mut stdin = system.stdin();
-            read_from(&mut stdin, into)
-        }
+        Port::Standard(system) => system.stdin().read(into),
         Port::Device(file) => {
             let mut from = file;
-            read_from(&mut from, into)
+            from.read(into)
         }
     }
 }
 
-// Returns how many bytes a read has put at the front of a buffer, no more than it has.
-pub fn count(got: Option<usize>, buffer: &[u8]) -> usize
-    ensures { result ≤ length buffer.now }
-{
-    match got {
-        Some(n) => n.min(buffer.len()),
-        None => 0,
-    }
-}
-
-// Writes all of a text to a line; false where that failed.
-pub fn send(port: &Port, text: &[u8]) -> bool {
+// Writes all of a text to a line.
+pub fn send(port: &Port, text: &[u8]) -> io::Result<()> {
     match port {
-        Port::None => false,
         Port::Standard(system) => write_all(output(*system), text),
-        Port::Device(file) => {
-            let mut to = file;
-            write_to(&mut to, text)
-        }
+        Port::Device(file) => write_file(file, text),
     }
 }
 
 // Returns whether a line is a terminal, as serial lines are.
 pub fn is_terminal(port: &Port) -> bool {
     match port {
-        Port::None => false,
         Port::Standard(system) => system.stdin().is_terminal(),
         Port::Device(file) => file.is_terminal(),
     }
@@ -188,10 +116,7 @@ pub fn is_terminal(port: &Port) -> bool {
 
 // The path of bytes, or the system's reason for one that is no text.
 fn path_of(path: &[u8]) -> io::Result<&str> {
-    match std::str::from_utf8(path) {
-        Ok(text) => Ok(text),
-        Err(_) => Err(Error::from_raw_os_error(NO_TEXT)),
-    }
+    str::from_utf8(path).map_err(|_| Error::from_raw_os_error(NO_TEXT))
 }
 
 // Opens a file for reading.
@@ -211,49 +136,38 @@ pub fn open_overwrite(system: System, path: &[u8]) -> io::Result<File> {
     fs::create(&system, path_of(path)?)
 }
 
-// Reads until a buffer is full, the file ends or a read fails, and returns how many bytes are at its front.
-pub fn read_full(file: &File, into: &mut [u8]) -> usize
-    ensures { result ≤ length into.new }
+// Reads until a buffer is full, the file ends or a read fails, and returns what was read.
+pub fn read_full<'a>(file: &File, into: &'a mut [u8]) -> &'a [u8]
+    ensures { length result.now ≤ length into.old }
 {
     let mut from = file;
-    let mut done = 0;
-    while done < into.len() {
-        let most = into.len() - done;
-        let n = moved(from.read(&mut into[done..]), most);
-        if n == 0 {
-            break;
-        }
-        done += n;
+    let mut len = 0;
+    while let Ok(n @ 1..) = from.read(&mut into[len..]) {
+        len += n;
     }
-    done
+    &into[..len]
 }
 
 // Returns whether a file has nothing more to read: a read gives nothing, and does not fail.
-pub fn is_at_end(file: &File) -> bool {
-    let mut from = file;
-    matches!(read_from(&mut from, &mut [0u8; 1]), Some(0))
+pub fn is_at_end(mut file: &File) -> bool {
+    matches!(file.read(&mut [0; 1]), Ok(0))
 }
 
 // Returns whether what was opened has a position, as a file on a disk and no serial line.
-pub fn is_file(file: &File) -> bool {
-    let mut here = file;
-    here.seek(SeekFrom::Current(0)).is_ok()
+pub fn is_file(mut file: &File) -> bool {
+    file.stream_position().is_ok()
 }
 
 // Returns whether what was opened is a file on a disk: it has a position and can be seen to the disk.
 pub fn is_plain(file: &File) -> bool {
-    is_file(file) & file.sync_all().is_ok()
+    is_file(file) && file.sync_all().is_ok()
 }
 
 // Returns whether a path is a link.
 pub fn is_link(system: System, path: &[u8]) -> bool {
-    let Ok(path) = path_of(path) else {
-        return false;
-    };
-    match fs::symlink_metadata(&system, path) {
-        Ok(found) => found.is_symlink(),
-        Err(_) => false,
-    }
+    path_of(path)
+        .and_then(|path| fs::symlink_metadata(&system, path))
+        .is_ok_and(|found| found.is_symlink())
 }
 
 // Writes a text to a new file, sets who may read and write it, and makes sure that it is on the disk.
@@ -264,9 +178,8 @@ pub fn fill(file: &File, text: &[u8], mode: u32) -> io::Result<()> {
 }
 
 // Writes all of a text to a file.
-pub fn write_file(file: &File, text: &[u8]) -> io::Result<()> {
-    let mut to = file;
-    write_whole(&mut to, text)
+pub fn write_file(mut file: &File, text: &[u8]) -> io::Result<()> {
+    file.write_all(text)
 }
 
 // Opens a new file by its whole name, which only its owner may read and write.
@@ -281,12 +194,9 @@ pub fn rename(system: System, from: &[u8], to: &[u8]) -> io::Result<()> {
     fs::rename(&system, path_of(from)?, path_of(to)?)
 }
 
-// Removes a file, if it can be removed.
-pub fn remove(system: System, name: &[u8]) -> bool {
-    match path_of(name) {
-        Ok(path) => fs::remove_file(&system, path).is_ok(),
-        Err(_) => false,
-    }
+// Removes a file.
+pub fn remove(system: System, name: &[u8]) -> io::Result<()> {
+    fs::remove_file(&system, path_of(name)?)
 }
 
 // Makes sure that the names in a folder are on the disk.
@@ -296,10 +206,7 @@ pub fn sync_folder(system: System, path: &[u8]) -> io::Result<()> {
 
 // Returns the system's number for an error. What the system was not asked, since it can only refuse it, is an invalid argument.
 pub fn number_of(error: Error) -> i32 {
-    match error.raw_os_error() {
-        Some(number) => number,
-        None => INVALID,
-    }
+    error.raw_os_error().unwrap_or(INVALID)
 }
 
 // How many names are tried for a temporary file, and how many of their characters are drawn.
@@ -355,31 +262,18 @@ pub fn create_temp(system: System, name: &mut [u8]) -> io::Result<File>
     created
 }
 
-// Returns how much of an error's text, with zeros after it, is the system's reason: a blank and its number in brackets may follow.
-fn reason_len(text: &[u8]) -> usize
-    ensures { result ≤ length text.now }
-{
-    for (i, c) in text.iter().enumerate() {
-        if *c == 0 {
-            return i;
-        }
-        if *c == b'(' {
-            return i.saturating_sub(1);
-        }
-    }
-    text.len()
+// Returns the system's reason in an error's text, with zeros after it: a blank and the reason's number in brackets may follow it.
+fn reason_in(text: &[u8]) -> &[u8] {
+    let end = text.iter().position(|c| matches!(c, 0 | b'('));
+    text[..end.unwrap_or(text.len())].trim_ascii_end()
 }
 
-// Writes a line to standard error: what failed, a colon, and the system's reason.
+// Writes a line to standard error: what failed, a colon, and the system's reason. Nobody would hear that this cannot be written.
 pub fn fail(system: System, what: &[u8], error: Error) {
     let reason = Error::from_raw_os_error(number_of(error));
-    let mut text = [0u8; 128];
-    let mut rest = &mut text[..];
-    let _ = write!(rest, "{reason}");
-    let len = reason_len(&text);
-    let to = Report::Error(system.stderr());
-    write_all(to, what);
-    write_all(to, b": ");
-    write_all(to, &text[..len]);
-    write_all(to, b"\n");
+    let mut text = [0; 128];
+    let _ = write!(&mut text[..], "{reason}");
+    for part in [what, b": ", reason_in(&text), b"\n"] {
+        let _ = write_all(self::error(system), part);
+    }
 }
