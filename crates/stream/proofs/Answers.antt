@@ -7,6 +7,7 @@ use borrow.Author.Tests.{lt-ltb, le-ltb}
 use lib.ListN.{take}
 use lib.Dec.{ltb}
 use Rattle.laws.specs.Promise.{Given}
+use Rattle.paper.specs.Numbers.{short_buffer, not_allowed}
 use Rattle.wire.specs.Parsing.{Ended, good, refused}
 use Rattle.stream.specs.Stream.{frames_from, taken}
 use Rattle.stream.specs.Calls.{hearing, unheard, heard_of, allowed, unfinished, event_of, data_of_first}
@@ -14,11 +15,11 @@ use Rattle.stream.specs.Laws.{CallIsRefused, is_frame, OnlyAFrameIsWritten}
 use Rattle.stream.specs.declared.Held.{Held}
 use Rattle.stream.specs.declared.Heard.{Heard}
 
-pub hearing_short : (held : Held) (piece : List ℕ) (room : ℕ) → room < 35 → hearing held piece room ≡ unheard held 11
+pub hearing_short : (held : Held) (piece : List ℕ) (room : ℕ) → room < 35 → hearing held piece room ≡ unheard held short_buffer
 unfolding hearing
 hearing_short held piece room h = simp (lt-ltb room 35 h)
 
-pub hearing_stray : (held : Held) (piece : List ℕ) (room : ℕ) → 35 ≤ room → allowed held ≡ false → hearing held piece room ≡ unheard held 12
+pub hearing_stray : (held : Held) (piece : List ℕ) (room : ℕ) → 35 ≤ room → allowed held ≡ false → hearing held piece room ≡ unheard held not_allowed
 unfolding hearing
 hearing_stray held piece room h e = simp (le-ltb room 35 h, e)
 
@@ -41,7 +42,7 @@ unfolding hearing
 only_frame held piece room = by (ltb room 35) (not (allowed held))
   where
     given : Bool → Bool → Given Heard
-    given short stray = cond short (unheard held 11) (cond stray (unheard held 12) (heard_of (unfinished held) piece))
+    given short stray = cond short (unheard held short_buffer) (cond stray (unheard held not_allowed) (heard_of (unfinished held) piece))
 
     by : (short stray : Bool) → is_frame (given short stray).answer.event ≡ false → (given short stray).written ≡ []
     by true stray e = refl

@@ -14,7 +14,7 @@ use Rattle.laws.specs.Promise.{Given}
 use Rattle.laws.specs.Cutting.{Step, Offer, calls}
 use Rattle.laws.proofs.Cutting as cutting
 use Rattle.wire.specs.Digits.{is_digit}
-use Rattle.paper.specs.Numbers.{colon, newline}
+use Rattle.paper.specs.Numbers.{colon, newline, number_of}
 use Rattle.wire.specs.Parsing.{Ended, good, refused, data_of, bad_count, sums_up, body_says, broken_says}
 use Rattle.wire.specs.Calls.{read_as}
 use Rattle.wire.proofs.Answers.{body_long, body_strange, body_count, body_sum, body_good, broken_long, broken_short}
@@ -22,7 +22,8 @@ use Rattle.stream.specs.Stream.{Unfinished, outside, inside, next, ended_by, end
 use Rattle.stream.specs.Calls.{held_of, unfinished, allowed, heard_of, event_of, event_from, data_of_first}
 use Rattle.stream.specs.Laws.{frame_in, step_of, hears, AnyCutting, FirstAt, FirstEndIsFirst, to_the_end, HearsToTheEnd, AllIsTaken, EmptyChangesNothing, RefusedIsSmall}
 use Rattle.stream.specs.declared.Held.{Held}
-use Rattle.stream.specs.declared.Event.{Event}
+use Rattle.paper.specs.declared.Refusal.{Refusal}
+use Rattle.std.specs.Prelude.{Err}
 use Rattle.stream.specs.declared.Heard.{Heard}
 use Rattle.stream.proofs.Streams.{left_append, frames_append, none_ends, taken_within}
 use Rattle.stream.proofs.Answers.{hearing_short, hearing_stray, hearing_heard}
@@ -83,20 +84,20 @@ call_seen u (b ∷ rest) = by (ends u b) refl (call_seen (next u b) rest)
 
 -- so a frame's number is at most 4
 pub refused_small : RefusedIsSmall
-refused_small held piece room number ok enough e =
+refused_small held piece room refusal ok enough e =
     by (frames_from u (take (taken u piece) piece)) (call_seen u piece) (rw (hearing_heard held piece room enough ok) at e)
   where
     u : Unfinished
     u = unfinished held
 
-    small : (n : ℕ) (rest : List Ended) (t : Bool) → ltb 4 n ≡ t → seen (refused n ∷ rest) ≡ refused n ∷ rest → n ≤ 4
-    small n rest true p s = let z : ◌≡◌ {A = ℕ} 0 (suc (length rest)) = ap length (rw p at s) in absurd (omega arith)
-    small n rest false p s = ltb-false 4 n p
+    small : (r : Refusal) (rest : List Ended) (t : Bool) → ltb 4 (number_of r) ≡ t → seen (refused r ∷ rest) ≡ refused r ∷ rest → number_of r ≤ 4
+    small r rest true p s = let z : ◌≡◌ {A = ℕ} 0 (suc (length rest)) = ap length (rw p at s) in absurd (omega arith)
+    small r rest false p s = ltb-false 4 (number_of r) p
 
-    by : (fs : List Ended) → seen fs ≡ fs → event_of fs ≡ Event.Refused number → number ≤ 4
-    by [] s is = let z : ◌≡◌ {A = ℕ} 0 1 = cc in absurd (omega arith)
-    by (good command bytes ∷ rest) s is = let z : ◌≡◌ {A = ℕ} 0 1 = cc in absurd (omega arith)
-    by (refused n ∷ rest) s is = let same : n ≡ number = cc in rw (sym same) (small n rest (ltb 4 n) refl s)
+    by : (fs : List Ended) → seen fs ≡ fs → event_of fs ≡ Err refusal → number_of refusal ≤ 4
+    by [] s is = let impossible : ⊥ = cc in absurd impossible
+    by (good command bytes ∷ rest) s is = let impossible : ⊥ = cc in absurd impossible
+    by (refused r ∷ rest) s is = let same : r ≡ refusal = cc in rw (sym same) (small r rest (ltb 4 (number_of r)) refl s)
 
 pub first_end_lem : FirstEndIsFirst
 first_end_lem u [] = record { none_before = refl; one_there = λ h. absurd (not-suc-le-zero h) }

@@ -15,11 +15,11 @@ use Rattle.laws.proofs.Lists.{before_first}
 use Rattle.paper.specs.Numbers.{colon, newline}
 use Rattle.wire.specs.Parsing.{Ended, body_says, broken_says}
 use Rattle.wire.specs.Calls.{read_as, parsing_chars}
-use Rattle.wire.specs.declared.Read.{Read}
+use Rattle.wire.specs.Answers.{Read}
+use Rattle.std.specs.Prelude.{Ok, None}
 use Rattle.wire.proofs.Answers.{broken_silent, chars_read}
 use Rattle.stream.specs.Stream.{Unfinished, outside, inside, next, ended_by, ends_frame, frames_from, left_from, ends, taken}
 use Rattle.stream.specs.Calls.{allowed, held_of, unfinished, heard_of, event_from, stays}
-use Rattle.stream.specs.declared.Event.{Event}
 use Rattle.stream.specs.declared.Held.{Held}
 use Rattle.stream.specs.declared.Heard.{Heard}
 use Rattle.stream.proofs.Helds.{body_capped, broken_capped, held_chars, held_same, unfinished_inside, unfinished_outside}
@@ -27,7 +27,7 @@ use Rattle.stream.proofs.Streams.{left_append, frames_append, quiet_all, quiet_t
 
 -- no frame ends: the whole piece is taken
 abbrev pub heard_nothing : Unfinished → ℕ → Given Heard
-heard_nothing u n = record { answer = record { held = held_of u; event = Event.Nothing; taken = n }; written = [] }
+heard_nothing u n = record { answer = record { held = held_of u; event = Ok None; taken = n }; written = [] }
 
 pub hear_nothing : (u : Unfinished) (piece : List ℕ) → frames_from u piece ≡ [] → heard_of u piece ≡ heard_nothing (left_from u piece) (length piece)
 hear_nothing u piece e = rw (quiet_all u piece e, take-length piece, e)
@@ -94,7 +94,7 @@ begun_more piece b held is e = rw is at e
 
 module _ (piece : List ℕ) (end : ℕ) (first : end ≡ before ends_frame piece) where
   pub fresh_nothing : (held : Held) → held ≡ held_of (inside piece) → end ≡ length piece
-      → heard_of (inside []) piece ≡ record { answer = record { held = held; event = Event.Nothing; taken = end }; written = [] }
+      → heard_of (inside []) piece ≡ record { answer = record { held = held; event = Ok None; taken = end }; written = [] }
   fresh_nothing held is all = rw (is, all) (inside_nothing [] piece (sym first ∙ all))
 
   module _ (some : end < length piece) where
@@ -144,7 +144,7 @@ module _ (piece : List ℕ) where
 
 module _ (h : Held) (in-it : h.inside ≡ true) (piece : List ℕ) (end : ℕ) (first : end ≡ before ends_frame piece)
     (whole : Held) (kept : whole ≡ held_of (inside (take h.len h.chars ++ take end piece))) where
-  pub call_nothing : end ≡ length piece → heard_of (unfinished h) piece ≡ record { answer = record { held = whole; event = Event.Nothing; taken = end }; written = [] }
+  pub call_nothing : end ≡ length piece → heard_of (unfinished h) piece ≡ record { answer = record { held = whole; event = Ok None; taken = end }; written = [] }
   call_nothing all =
       rw (unfinished_inside h in-it, kept, all, take-length piece)
       (inside_nothing (take h.len h.chars) piece (sym first ∙ all))
@@ -171,7 +171,7 @@ module _ (h : Held) (in-it : h.inside ≡ true) (piece : List ℕ) (end : ℕ) (
 -- The call outside a frame: `skipped` is the place of the first colon.
 
 module _ (h : Held) (ok : allowed h ≡ true) (long : length h.chars ≡ 74) (out : h.inside ≡ false) (piece : List ℕ) (skipped : ℕ) (first : skipped ≡ before colon_at piece) where
-  pub call_skipped : skipped ≡ length piece → heard_of (unfinished h) piece ≡ record { answer = record { held = h; event = Event.Nothing; taken = skipped }; written = [] }
+  pub call_skipped : skipped ≡ length piece → heard_of (unfinished h) piece ≡ record { answer = record { held = h; event = Ok None; taken = skipped }; written = [] }
   call_skipped all =
       let same : held_of outside ≡ h = rw (unfinished_outside h out) at (held_same h ok long) in
       rw (unfinished_outside h out) (outside_nothing piece (sym first ∙ all) ∙ rw (same, all))

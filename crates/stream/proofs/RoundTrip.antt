@@ -6,6 +6,7 @@ use Prim.Native.Nat.{ℕ, ◌≤◌}
 use lib.ListN.{length}
 use lib.Dec.{ltb, eqb}
 use Rattle.laws.specs.Lists.{every, Bytes}
+use Rattle.paper.specs.Numbers as paper
 use Rattle.paper.specs.Numbers.{colon, newline, most_chars}
 use Rattle.wire.specs.Frame.{body, frame}
 use Rattle.wire.specs.Parsing.{Ended, good, refused, body_says, broken_says}
@@ -49,13 +50,13 @@ body_writable chars rest others = by (body_says chars) refl
     by (good command bytes) e =
         let s : Said chars command bytes = said chars command bytes e in
         whole (record { nibble = said_nibble chars command bytes s; few = said_few chars command bytes s; small = said_small chars command bytes s }) others
-    by (refused number) e = broken others
+    by (refused refusal) e = broken others
 
 broken_writable : (count : ℕ) (rest : List Ended) → Writables rest → Writables (broken_says count ∷ rest)
 unfolding broken_says
 broken_writable count rest others = by (ltb most_chars count)
   where
-    by : (long : Bool) → Writables (cond long (refused 1) (refused 2) ∷ rest)
+    by : (long : Bool) → Writables (cond long (refused paper.too_long) (refused paper.no_digit) ∷ rest)
     by true = broken others
     by false = broken others
 

@@ -1,14 +1,15 @@
 -- What each public call answers, for every input. Document 01, "Numbers of refusal": "The order is 11, 12, then 1 to 10 as listed."
 -- Assumes nothing.
-use Rattle.std.specs.Prelude.{ℕ, zero, min, Bool, true, false, cond, not, ◌&&◌, ◌||◌, List, [], ◌∷◌, ◌++◌, length, take, drop, replicate, ltb, leb, eqb}
+use Rattle.std.specs.Prelude.{ℕ, zero, min, Bool, true, false, cond, Some, None, Ok, Err, not, ◌&&◌, ◌||◌, List, [], ◌∷◌, ◌++◌, length, take, drop, replicate, ltb, leb, eqb}
 use Rattle.laws.specs.Lists.{every}
 use Rattle.laws.specs.Promise.{Given}
+use Rattle.paper.specs.declared.Refusal.{Refusal}
 use Rattle.paper.specs.Numbers.{most_data, short_buffer, not_allowed}
 use Rattle.wire.specs.Parsing.{Ended}
 use Rattle.wire.specs.Calls.{read_as}
-use Rattle.wire.specs.declared.Read.{Read}
+use Rattle.wire.specs.Answers.{Read}
 use Rattle.stream.specs.Stream.{Unfinished, outside, inside, ends_frame, frames_from, left_from, taken}
-use Rattle.stream.specs.declared.Event.{Event}
+use Rattle.stream.specs.Answers.{Event}
 use Rattle.stream.specs.declared.Held.{Held}
 use Rattle.stream.specs.declared.Heard.{Heard}
 
@@ -42,17 +43,17 @@ allowed held =
 -- a whole frame refuse 11 if the data buffer is under 35 bytes"; then 12 for a state that no bytes could have left. "Under 11 and 12 a state
 -- handed in comes back as it was, with counts and lengths 0."
 
-abbrev pub unheard : Held → ℕ → Given Heard
-unheard held number = record { answer = record { held = held; event = Event.Refused number; taken = zero }; written = [] }
+abbrev pub unheard : Held → Refusal → Given Heard
+unheard held refusal = record { answer = record { held = held; event = Err refusal; taken = zero }; written = [] }
 
 -- an ended frame as an event of the stream
 abbrev pub event_from : Read → Event
-event_from (Read.Frame command len) = Event.Frame command len
-event_from (Read.Refused number) = Event.Refused number
+event_from (Ok frame) = Ok (Some frame)
+event_from (Err refusal) = Err refusal
 
 -- what happened, by the frames that ended: a call ends one at most
 abbrev pub event_of : List Ended → Event
-event_of [] = Event.Nothing
+event_of [] = Ok None
 event_of (e ∷ rest) = event_from (read_as e).answer
 
 abbrev pub data_of_first : List Ended → List ℕ

@@ -1,16 +1,17 @@
 -- What is proved of the definitions, as statements to compare with the papers. Each is proved under its name in proofs/Theorems.antt.
 -- Assumes nothing.
-use Rattle.std.specs.Prelude.{ℕ, suc, ◌+◌, ◌≤◌, ◌<◌, ◌≡◌, Bool, true, false, not, cond, ◌||◌, ◌↔◌, ◌≢◌, List, [], ◌∷◌, ◌++◌, length, take, ltb, leb, eqb}
+use Rattle.std.specs.Prelude.{ℕ, suc, ◌+◌, ◌≤◌, ◌<◌, ◌≡◌, Bool, true, false, not, cond, ◌||◌, ◌↔◌, ◌≢◌, Some, None, Ok, Err, List, [], ◌∷◌, ◌++◌, length, take, ltb, leb, eqb}
 use Rattle.laws.specs.Promise.{Given}
 use Rattle.laws.specs.Cutting.{Step, Offer, calls, ready}
-use Rattle.paper.specs.Numbers.{colon, newline, most_nibble, most_data}
+use Rattle.paper.specs.declared.Refusal.{Refusal}
+use Rattle.paper.specs.Numbers.{colon, newline, most_nibble, most_data, short_buffer, not_allowed, number_of}
 use Rattle.wire.specs.Frame.{frame}
 use Rattle.wire.specs.Parsing.{Ended, good, refused, body_says, broken_says}
 use Rattle.laws.specs.Lists.{every, Bytes}
 use Rattle.wire.specs.Laws.{Writable}
 use Rattle.stream.specs.Stream.{Unfinished, outside, inside, ended_by, frames_from, left_from, frames_of, left_by, first_end, taken}
 use Rattle.stream.specs.Calls.{most_held, held_of, unfinished, allowed, hearing}
-use Rattle.stream.specs.declared.Event.{Event}
+use Rattle.stream.specs.Answers.{Event}
 use Rattle.stream.specs.declared.Held.{Held}
 use Rattle.stream.specs.declared.Heard.{Heard}
 
@@ -37,7 +38,7 @@ HeardFromAnywhere =
 -- what is heard on the stream is within what the writer takes
 pub data Writables : List Ended → Type 0 where
   nothing : Writables []
-  broken : {number : ℕ} {rest : List Ended} → Writables rest → Writables (refused number ∷ rest)
+  broken : {refusal : Refusal} {rest : List Ended} → Writables rest → Writables (refused refusal ∷ rest)
   whole : {command : ℕ} {bytes : List ℕ} {rest : List Ended} → Writable command bytes → Writables rest → Writables (good command bytes ∷ rest)
 
 abbrev pub HeardIsWritable : Type 0
@@ -76,11 +77,12 @@ abbrev pub NoColonIsSkipped : Type 0
 NoColonIsSkipped = (bytes : List ℕ) → every (λ b. not (eqb b colon)) bytes ≡ true → (left_by bytes ≡ outside) × (frames_of bytes ≡ [])
 
 -- 2. The stream in any cutting. What a call on the stream comes to: a frame with its data, of the length that is said (one of another length
--- is none that a stream has); a frame's refusal (1 to 4); or no frame (under 11 and 12 too, which are the call's).
+-- is none that a stream has: it counts as refused 12, which no frame is); a frame's refusal (1 to 4); or no frame (under 11 and 12 too, which
+-- are the call's).
 abbrev pub frame_in : Event → List ℕ → List Ended
-frame_in Event.Nothing written = []
-frame_in (Event.Frame command len) written = cond (eqb len (length written)) (good command written) (refused 0) ∷ []
-frame_in (Event.Refused number) written = cond (ltb 4 number) [] (refused number ∷ [])
+frame_in (Ok None) written = []
+frame_in (Ok (Some frame)) written = cond (eqb frame.len (length written)) (good frame.command written) (refused not_allowed) ∷ []
+frame_in (Err refusal) written = cond (ltb 4 (number_of refusal)) [] (refused refusal ∷ [])
 
 abbrev pub step_of : Given Heard → Step Held Ended
 step_of given =
@@ -121,25 +123,25 @@ AllIsTaken =
 -- A frame is refused by one of 1 to 4, and no higher number is a frame's.
 abbrev pub RefusedIsSmall : Type 0
 RefusedIsSmall =
-    (held : Held) (piece : List ℕ) (room number : ℕ) → allowed held ≡ true → most_data ≤ room
-    → (hearing held piece room).answer.event ≡ Event.Refused number → number ≤ 4
+    (held : Held) (piece : List ℕ) (room : ℕ) (refusal : Refusal) → allowed held ≡ true → most_data ≤ room
+    → (hearing held piece room).answer.event ≡ Err refusal → number_of refusal ≤ 4
 
 -- "Under 11 and 12 a state handed in comes back as it was, with counts and lengths 0", and no byte is written: "11 if the data buffer is under
 -- 35 bytes", then 12 for a state that is not allowed.
-abbrev pub refused_by : ℕ → Held → Given Heard
-refused_by number held = record { answer = record { held = held; event = Event.Refused number; taken = 0 }; written = [] }
+abbrev pub refused_by : Refusal → Held → Given Heard
+refused_by refusal held = record { answer = record { held = held; event = Err refusal; taken = 0 }; written = [] }
 
 abbrev pub CallIsRefused : Type 0
 CallIsRefused =
     (held : Held) (piece : List ℕ) (room : ℕ)
-    → (room < 35 → hearing held piece room ≡ refused_by 11 held)
-    × (35 ≤ room → allowed held ≡ false → hearing held piece room ≡ refused_by 12 held)
+    → (room < 35 → hearing held piece room ≡ refused_by short_buffer held)
+    × (35 ≤ room → allowed held ≡ false → hearing held piece room ≡ refused_by not_allowed held)
 
 -- "The data fill the front of the buffer only when 1 to 4 are passed": under any refusal, and where no frame ended, nothing is written.
 abbrev pub is_frame : Event → Bool
-is_frame Event.Nothing = false
-is_frame (Event.Frame command len) = true
-is_frame (Event.Refused number) = false
+is_frame (Ok None) = false
+is_frame (Ok (Some frame)) = true
+is_frame (Err refusal) = false
 
 abbrev pub OnlyAFrameIsWritten : Type 0
 OnlyAFrameIsWritten =
@@ -155,7 +157,7 @@ CuttingChangesNothing =
 abbrev pub EmptyChangesNothing : Type 0
 EmptyChangesNothing =
     (held : Held) (room : ℕ) → length held.chars ≡ most_held → allowed held ≡ true → most_data ≤ room
-    → hearing held [] room ≡ record { answer = record { held = held; event = Event.Nothing; taken = 0 }; written = [] }
+    → hearing held [] room ≡ record { answer = record { held = held; event = Ok None; taken = 0 }; written = [] }
 
 -- The end that a call stops at is the first: no frame ends before it, and where it is within the piece one ends there.
 pub record FirstAt (u : Unfinished) (piece : List ℕ) : Type 0 where

@@ -8,32 +8,27 @@ ghost use Rattle.stream.specs.Stream.{outside};
 ghost use Rattle.stream.specs.declared.Heard.{Heard};
 ghost use Rattle.std.specs.Prelude.{◌≡◌, length};
 
+use paper::Refusal;
+use wire::Frame;
+
 mod numbers;
 mod pieces;
 mod unfinished;
 
 // The unfinished frame between two calls: whether there is one, and the characters since its colon. 74 of them mean "over 73".
-#[derive(Clone, Copy)]
+#[derive(Clone, Copy, PartialEq, Eq)]
 pub struct Held {
     pub inside: bool,
     pub len: usize,
     pub chars: [u8; numbers::MOST_HELD],
 }
 
-// What happened in a call on the stream: no frame ended; a frame with its command and the number of its data bytes; or a refusal, 1 to 4
-// of the frame that ended, 11 or 12 of the call.
-#[derive(Clone, Copy)]
-pub enum Event {
-    Nothing,
-    Frame { command: u8, len: usize },
-    Refused(u8),
-}
-
-// What a call on the stream answers: the advanced state, what happened, and how many bytes of the piece it took.
-#[derive(Clone, Copy)]
+// What a call on the stream answers: the advanced state, the frame that ended if one did, and how many bytes of the piece it took. A
+// refusal is 1 to 4 of the frame that ended, or 11 or 12 of the call.
+#[derive(Clone, Copy, PartialEq, Eq)]
 pub struct Heard {
     pub held: Held,
-    pub event: Event,
+    pub event: Result<Option<Frame>, Refusal>,
     pub taken: usize,
 }
 
@@ -62,10 +57,10 @@ impl Held {
         ensures { Gives Heard (hearing self piece.now (length into.old)) into.old result into.new }
     {
         if into.len() < paper::MOST_DATA {
-            return pieces::refused(self, paper::SHORT_BUFFER);
+            return pieces::refused(self, Refusal::ShortBuffer);
         }
         if !unfinished::is_allowed(self) {
-            return pieces::refused(self, paper::NOT_ALLOWED);
+            return pieces::refused(self, Refusal::NotAllowed);
         }
         pieces::heard(self, piece, into)
     }

@@ -2,22 +2,21 @@
 ghost use Rattle.std.specs.Prelude.{◌≤◌, ◌≡◌, true, ◌||◌, [], length, eqb};
 ghost use Rattle.laws.specs.Lists.{before};
 ghost use Rattle.laws.specs.Promise.{Gives};
-ghost use Rattle.wire.specs.Parsing.{broken_says};
-ghost use Rattle.wire.specs.Calls.{read_as};
+ghost use Rattle.wire.specs.Parsing.{refused, broken_says};
 ghost use Rattle.stream.specs.Stream.{inside};
-ghost use Rattle.stream.specs.Calls.{allowed, unfinished, heard_of, unheard, event_from};
+ghost use Rattle.stream.specs.Calls.{allowed, unfinished, heard_of, unheard};
 ghost use Rattle.stream.specs.declared.Heard.{Heard};
 
-use crate::{Event, Heard, Held, unfinished};
-use wire::Read;
+use crate::{Heard, Held, unfinished};
+use paper::Refusal;
 
 // Refuses a call: the state comes back as it was, and nothing is taken.
-pub(crate) fn refused(held: Held, number: u8) -> Heard
-    ensures { result ≡ (unheard held number).answer }
+pub(crate) fn refused(held: Held, refusal: Refusal) -> Heard
+    ensures { result ≡ (unheard held refusal).answer }
 {
     Heard {
         held,
-        event: Event::Refused(number),
+        event: Err(refusal),
         taken: 0,
     }
 }
@@ -40,24 +39,15 @@ fn first_of(piece: &[u8], one: u8, other: u8) -> usize
     i
 }
 
-// Returns what happened on the stream when a frame has ended.
-fn event_of(read: Read) -> Event
-    ensures { result ≡ event_from read }
-{
-    match read {
-        Read::Frame { command, len } => Event::Frame { command, len },
-        Read::Refused(number) => Event::Refused(number),
-    }
-}
-
 // Returns the refusal of a frame that a colon broke after this many characters: 1 if they are over 73, else 2.
-fn broken(len: usize) -> Event
-    ensures { result ≡ event_from (read_as (broken_says len)).answer }
+fn broken(len: usize) -> Refusal
+    ensures { refused result ≡ broken_says len }
 {
     if paper::MOST_CHARS < len {
-        return Event::Refused(paper::TOO_LONG);
+        Refusal::TooLong
+    } else {
+        Refusal::NoDigit
     }
-    Event::Refused(paper::NO_DIGIT)
 }
 
 // Reads a piece inside a frame: the characters up to the next newline or colon belong to that frame.
@@ -70,7 +60,7 @@ fn in_frame(held: Held, piece: &[u8], into: &mut [u8]) -> Heard
     if end == piece.len() {
         return Heard {
             held: whole,
-            event: Event::Nothing,
+            event: Ok(None),
             taken: end,
         };
     }
@@ -80,7 +70,7 @@ fn in_frame(held: Held, piece: &[u8], into: &mut [u8]) -> Heard
         let next = unfinished::begun();
         return Heard {
             held: next,
-            event: broken(len),
+            event: Err(broken(len)),
             taken,
         };
     }
@@ -88,7 +78,7 @@ fn in_frame(held: Held, piece: &[u8], into: &mut [u8]) -> Heard
     let read = wire::read_chars(&chars[..len], into);
     Heard {
         held: Held::outside(),
-        event: event_of(read),
+        event: read.map(Some),
         taken,
     }
 }
@@ -102,7 +92,7 @@ fn fresh(piece: &[u8], into: &mut [u8]) -> Heard
     if last == piece.len() {
         return Heard {
             held: unfinished::with_more(unfinished::begun(), piece),
-            event: Event::Nothing,
+            event: Ok(None),
             taken: last,
         };
     }
@@ -110,14 +100,14 @@ fn fresh(piece: &[u8], into: &mut [u8]) -> Heard
     if piece[last] == paper::COLON {
         return Heard {
             held: unfinished::begun(),
-            event: broken(last),
+            event: Err(broken(last)),
             taken,
         };
     }
     let read = wire::read_chars(&piece[..last], into);
     Heard {
         held: Held::outside(),
-        event: event_of(read),
+        event: read.map(Some),
         taken,
     }
 }
@@ -134,7 +124,7 @@ pub(crate) fn heard(held: Held, piece: &[u8], into: &mut [u8]) -> Heard
     if skipped == piece.len() {
         return Heard {
             held,
-            event: Event::Nothing,
+            event: Ok(None),
             taken: skipped,
         };
     }

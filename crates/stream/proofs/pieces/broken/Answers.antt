@@ -5,5 +5,5 @@ use Rattle.stream.proofs.pieces.broken.Goals as goal
 pub returns-then-len-gt-MOST_CHARS : goal.returns-then-len-gt-MOST_CHARS
 returns-then-len-gt-MOST_CHARS c = rw (broken_long _ c.if-len-gt-MOST_CHARS.true)
 
-pub returns : goal.returns
-returns c = rw (broken_short _ c.if-len-gt-MOST_CHARS.false)
+pub returns-else-len-gt-MOST_CHARS : goal.returns-else-len-gt-MOST_CHARS
+returns-else-len-gt-MOST_CHARS c = rw (broken_short _ c.if-len-gt-MOST_CHARS.false)

@@ -5,9 +5,11 @@ use mathlib.Core.List.{[]}
 use native.Mathlib.Omega.{arith}
 use lib.ListN.{length, length-take}
 use Rattle.laws.proofs.Lists.{before_first}
+use Rattle.std.proofs.lemmas.Grind.{common_steps}
 use Rattle.laws.proofs.Promise.{gives_none, gives_bytes}
 use Rattle.stream.specs.Stream.{ends_frame}
-use Rattle.stream.specs.Calls.{held_of}
+use mathlib.Core.Path.{◌≡◌}
+use Rattle.stream.specs.Calls.{held_of, event_from}
 use Rattle.stream.proofs.Helds.{allowed_inside}
 use Rattle.stream.proofs.Hearing.{begun_more, fresh_nothing, fresh_colon, fresh_newline, chars_said}
 use Rattle.stream.proofs.pieces.fresh.Goals as goal
@@ -33,7 +35,8 @@ bounds-piece-last c = some (goal.at.bounds-piece-last c).Else-last-piece
 
 pub returns-then-piece-last-eq-COLON : goal.returns-then-piece-last-eq-COLON
 returns-then-piece-last-eq-COLON c =
-    rw (c.begun-then-piece-last-eq-COLON.ensures, c.broken.ensures) (gives_none _ (fresh_colon _ _ c.first_of-last.ensures (some (goal.at.returns-then-piece-last-eq-COLON c).Else-last-piece) c.if-piece-last-eq-COLON.true))
+    rw c.begun-then-piece-last-eq-COLON.ensures
+    (gives_none _ (rw (← c.broken.ensures) at (fresh_colon _ _ c.first_of-last.ensures (some (goal.at.returns-then-piece-last-eq-COLON c).Else-last-piece) c.if-piece-last-eq-COLON.true)))
 
 pub slice_bounds-read_chars-end : goal.slice_bounds-read_chars-end
 slice_bounds-read_chars-end c =
@@ -42,7 +45,8 @@ slice_bounds-read_chars-end c =
 pub returns : goal.returns
 returns c =
     let read = chars_said _ _ c.requires c.read_chars-read.ensures in
-    rw (c.outside.ensures, c.event_of.ensures, read.answered)
+    let event : c.map.result ≡ event_from c.read_chars-read.result = grind (arith, common_steps) in
+    rw (c.outside.ensures, event, read.answered)
     (gives_bytes _ _ _ (fresh_newline _ _ c.first_of-last.ensures (some (goal.at.returns c).Else-last-piece) c.if-piece-last-eq-COLON.false) read.left)
 
 pub overflow_add-taken : goal.overflow_add-taken

@@ -3,8 +3,11 @@ use Prim.Native.Nat.{◌≤◌, ◌<◌}
 use native.Mathlib.Omega.{arith}
 use lib.ListN.{length, length-take}
 use Rattle.laws.proofs.Lists.{before_first}
+use Rattle.std.proofs.lemmas.Grind.{common_steps}
 use Rattle.laws.proofs.Promise.{gives_none, gives_bytes}
 use Rattle.stream.specs.Stream.{ends_frame}
+use mathlib.Core.Path.{◌≡◌}
+use Rattle.stream.specs.Calls.{event_from}
 use Rattle.stream.proofs.Helds.{held_fits}
 use Rattle.stream.proofs.Hearing.{call_nothing, call_colon, call_newline, chars_said}
 use Rattle.stream.proofs.pieces.in_frame.Goals as goal
@@ -34,10 +37,10 @@ bounds-piece-end c = some (goal.at.bounds-piece-end c).Else-end-piece
 pub returns-then-piece-end-eq-COLON : goal.returns-then-piece-end-eq-COLON
 returns-then-piece-end-eq-COLON c =
     let inside = (goal.at.returns-then-piece-end-eq-COLON c).Else-end-piece in
-    rw (c.begun-next.ensures, c.broken.ensures)
+    rw c.begun-next.ensures
     (gives_none _
-    (call_colon _ c.requires.1 _ _ c.first_of-end.ensures _
-    c.with_more-whole.ensures (some inside) c.if-piece-end-eq-COLON.true))
+    (rw (← c.broken.ensures) at (call_colon _ c.requires.1 _ _ c.first_of-end.ensures _
+    c.with_more-whole.ensures (some inside) c.if-piece-end-eq-COLON.true)))
 
 pub slice_bounds-chars-end : goal.slice_bounds-chars-end
 slice_bounds-chars-end c =
@@ -51,7 +54,8 @@ pub returns : goal.returns
 returns c =
     let inside = (goal.at.returns c).Else-end-piece in
     let read = chars_said _ _ c.requires.2 c.read_chars-read.ensures in
-    rw (c.outside.ensures, c.event_of.ensures, read.answered)
+    let event : c.map.result ≡ event_from c.read_chars-read.result = grind (arith, common_steps) in
+    rw (c.outside.ensures, event, read.answered)
     (gives_bytes _ _ _
     (call_newline _ c.requires.1 _ _ c.first_of-end.ensures _
     c.with_more-whole.ensures (some inside) c.if-piece-end-eq-COLON.false)
