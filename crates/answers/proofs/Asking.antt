@@ -6,12 +6,13 @@ use mathlib.Core.Option.{some}
 use Prim.Native.Nat.{ℕ, zero, suc, ◌^◌, ◌≤◌, ◌<◌}
 use native.Mathlib.Omega.{arith}
 use lib.ListN.{length}
+use Rattle.std.proofs.Common.{Some, None}
 use Rattle.endian.proofs.Little.{length_little}
 use Rattle.endian.proofs.Theorems.{little_is_read}
 use Rattle.settings.specs.Columns.{count, id_at, width_at}
 use Rattle.tables.specs.Rules.{partner_number}
 use Rattle.settings.specs.Calls.{setting_at, finding}
-use Rattle.settings.specs.declared.Found.{Found}
+use Rattle.settings.specs.Answers.{Found}
 use Rattle.settings.proofs.Theorems.{rows_hold, find_is_found, allowed_has_room}
 use Rattle.tables.proofs.Theorems.{refused_names_nearest}
 use Rattle.tables.proofs.Tables.{set_accepted}
@@ -40,7 +41,7 @@ unfolding frame_answer
 get_read_only core id value held =
     let out : read_only core.identity core.readings id ≡ some value = held_is_read_out core.identity core.readings id value held in
     let known : is_read_only id ≡ true = sym (read_only_is core id) ∙ ap is_some out in
-    let none_found : finding id ≡ Found.Nothing = found_is id ∙ rw (read_only_other id known) in
+    let none_found : finding id ≡ None = found_is id ∙ rw (read_only_other id known) in
     let two : id ≡ from_little (little 2 id) = sym (little_is_read 2 id (read_only_small id known)) in
     sym (gets_is core (said id 0 []) refl refl two none_found) ∙ ap (gets_other core id) out
 

@@ -8,68 +8,51 @@ use Prim.Native.Nat.{ℕ, ◌≤◌, ◌<◌}
 use native.Mathlib.Omega.{arith}
 use borrow.Author.Tests.{lt-ltb, le-ltb, eq-eqb, ne_eqb}
 use lib.ListN.{length, take, drop, get_or}
+use Rattle.std.proofs.Common.{Ok, Err}
 use Rattle.laws.proofs.Bools.{and_left, and_right}
 use Rattle.settings.specs.Calls.{finding}
 use Rattle.tables.specs.Calls.{set_to}
 use Rattle.tables.specs.Rules.{allowed}
 use Rattle.settings.specs.declared.Setting.{Setting}
-use Rattle.settings.specs.declared.Found.{Found}
-use Rattle.tables.specs.declared.Answer.{Answer}
+use Rattle.settings.specs.Answers.{Found}
 use Rattle.tables.specs.declared.Change.{Change}
-use Rattle.paper.specs.Numbers.{get_code, set_code, not_allowed}
-use Rattle.answers.specs.Answers.{core_allowed, with_table, silent, sent, staying, malformed, unknown_id, not_supported, wrong_width, gets_other, gets_found, get_answer, sets_other, stored, sets_setting, sets_found, set_answer, frame_answer}
+use Rattle.paper.specs.Numbers.{get_code, set_code, most_serial, not_allowed}
+use Rattle.answers.specs.Answers.{core_allowed, with_table, silent, staying, good, malformed, unknown_id, not_supported, wrong_width, gets_other, gets_found, get_answer, sets_other, stored, sets_setting, sets_found, set_answer, frame_answer}
 use Rattle.who.specs.Parts.{identity_allowed}
 use Rattle.endian.specs.Numbers.{from_little, said}
-use Rattle.who.specs.Calls.{value_of, no_value, looked_of}
+use Rattle.who.specs.Calls.{value_of, looked_of}
+use Rattle.who.specs.declared.Value.{Value}
+use Rattle.laws.proofs.Fronts.{front_taken}
 use Rattle.answers.specs.Calls.{answering}
-use Rattle.answers.specs.AsHeld.{message_of, said_of, replying, decided_of}
 use Rattle.answers.specs.declared.Core.{Core}
-use Rattle.who.specs.declared.Verdict.{Verdict}
+use Rattle.paper.specs.declared.Refusal.{Refusal}
 use Rattle.answers.specs.declared.Outcome.{Outcome}
-use Rattle.answers.specs.declared.Message.{Message}
-use Rattle.answers.proofs.Fronts.{said_is}
 
-module _ (core : Core) where
-  pub sends_is : (outcome : Outcome) (command : ℕ) (bytes : List ℕ)
-      → replying core outcome (message_of command bytes) ≡ decided_of (staying core outcome (sent command bytes))
-  unfolding replying decided_of
-  sends_is outcome command bytes = refl
-
-  pub says_is : (outcome : Outcome) (command id flag : ℕ) (v : List ℕ)
-      → replying core outcome (said_of command id flag (value_of v)) ≡ decided_of (staying core outcome (sent command (said id flag v)))
-  unfolding replying decided_of
-  says_is outcome command id flag v = ap (λ (reply : Message). replying core outcome reply) (said_is command id flag v)
-
-  -- a look-up among the read-only ids: its answer, by whether it found one
-  pub gets_none : (id : ℕ) (o : Option (List ℕ)) {n : ℕ} → (looked_of o).verdict ≡ Verdict.Refused n → unknown_id core get_code id ≡ gets_other core id o
+-- a look-up among the read-only ids: its answer, by whether it found one
+module _ (core : Core) (id : ℕ) where
+  pub gets_none : (o : Option (List ℕ)) {r : Refusal} → looked_of o ≡ Err r → unknown_id core get_code id ≡ gets_other core id o
   unfolding looked_of
-  gets_none id none e = refl
-  gets_none id (some v) e = let z : ◌≡◌ {A = ℕ} 0 1 = cc in absurd (omega arith)
+  gets_none none e = refl
+  gets_none (some v) e = let z : ◌≡◌ {A = ℕ} 0 1 = cc in absurd (omega arith)
 
-  pub gets_some : (id : ℕ) (o : Option (List ℕ)) → (looked_of o).verdict ≡ Verdict.Accepted
-      → replying core Outcome.Answered (said_of get_code id 0 (looked_of o).value) ≡ decided_of (gets_other core id o)
-  unfolding looked_of no_value
-  gets_some id none e = let z : ◌≡◌ {A = ℕ} 0 1 = cc in absurd (omega arith)
-  gets_some id (some v) e = says_is Outcome.Answered get_code id 0 v
+  pub gets_some : (o : Option (List ℕ)) {value : Value} → looked_of o ≡ Ok value → good core get_code id (take value.len value.bytes) ≡ gets_other core id o
+  unfolding looked_of value_of
+  gets_some none e = let z : ◌≡◌ {A = ℕ} 0 1 = cc in absurd (omega arith)
+  gets_some (some v) {value} e =
+      let is : value ≡ value_of v = cc in
+      rw is (ap (good core get_code id) (front_taken most_serial v))
 
-  pub sets_none : (id : ℕ) (o : Option (List ℕ)) {n : ℕ} → (looked_of o).verdict ≡ Verdict.Refused n → unknown_id core set_code id ≡ sets_other core id o
+  pub sets_none : (o : Option (List ℕ)) {r : Refusal} → looked_of o ≡ Err r → unknown_id core set_code id ≡ sets_other core id o
   unfolding looked_of
-  sets_none id none e = refl
-  sets_none id (some v) e = let z : ◌≡◌ {A = ℕ} 0 1 = cc in absurd (omega arith)
+  sets_none none e = refl
+  sets_none (some v) e = let z : ◌≡◌ {A = ℕ} 0 1 = cc in absurd (omega arith)
 
-  pub sets_some : (id : ℕ) (o : Option (List ℕ)) → (looked_of o).verdict ≡ Verdict.Accepted → not_supported core id ≡ sets_other core id o
-  unfolding looked_of no_value
-  sets_some id none e = let z : ◌≡◌ {A = ℕ} 0 1 = cc in absurd (omega arith)
-  sets_some id (some v) e = refl
-
-pub value_short : (v : List ℕ) → length v ≤ 32 → (value_of v).len ≤ 32
-unfolding value_of
-value_short v h = h
+  pub sets_some : (o : Option (List ℕ)) {value : Value} → looked_of o ≡ Ok value → not_supported core id ≡ sets_other core id o
+  unfolding looked_of
+  sets_some none e = let z : ◌≡◌ {A = ℕ} 0 1 = cc in absurd (omega arith)
+  sets_some (some v) e = refl
 
 -- a Set of a setting, by the width of the value and by what the table makes of the number
-pub stored_is : (core : Core) (s : Setting) (n : ℕ) {a b : Answer} → a ≡ b → decided_of (stored core s n b) ≡ decided_of (stored core s n a)
-stored_is core s n e = ap (λ (x : Answer). decided_of (stored core s n x)) (sym e)
-
 module _ (core : Core) (s : Setting) (value : List ℕ) where
   pub sets_wrong : length value ≢ s.width → wrong_width core s ≡ sets_setting core s value
   unfolding sets_setting

@@ -8,14 +8,15 @@ use native.Mathlib.Omega.{arith}
 use borrow.Author.Tests.{lt-ltb, leb-true}
 use lib.Dec.{eqb, ltb}
 use lib.ListN.{length, take, drop, get_or}
+use Rattle.std.proofs.Common.{Some, None, Ok, Err}
 use Rattle.laws.specs.Lists.{every, byte}
 use Rattle.laws.proofs.Bools.{both, pick}
 use Rattle.wire.specs.Laws.{Writable}
 use Rattle.settings.specs.Calls.{finding}
 use Rattle.tables.specs.Calls.{set_to}
 use Rattle.settings.specs.declared.Setting.{Setting}
-use Rattle.settings.specs.declared.Found.{Found}
-use Rattle.tables.specs.declared.Answer.{Answer}
+use Rattle.settings.specs.Answers.{Found}
+use Rattle.tables.specs.Answers.{Answer}
 use Rattle.who.specs.Parts.{identity_allowed}
 use Rattle.endian.specs.Numbers.{little, from_little, said}
 use Rattle.endian.proofs.Little.{length_little, bytes_little}
@@ -24,7 +25,7 @@ use Rattle.who.specs.Laws.{Small, small_some}
 use Rattle.who.proofs.Theorems.{values_fit}
 use Rattle.paper.specs.Numbers.{get_code, set_code, ping_code, version_code, product_code, restart_code, async_code}
 use Rattle.answers.specs.Answers.{sent, Decision, tells, restarts, gets_other, gets_found, get_answer, sets_other, stored, sets_setting, sets_found, set_answer, frame_answer}
-use Rattle.answers.specs.AsHeld.{Settled}
+use Rattle.answers.specs.Settled.{Settled}
 use Rattle.answers.specs.Laws.{Fits, nothing, a_frame, an_error, RepliesFit}
 use Rattle.answers.specs.declared.Core.{Core}
 use Rattle.answers.proofs.Found.{found_settled}
@@ -84,8 +85,8 @@ module _ (core : Core) where
   fits_sets_other id (some v) = fits_none set_code id _ eight (leb-true _ 256 refl)
 
   fits_gets_found : identity_allowed core.identity ≡ true → (id : ℕ) (f : Found) → finding id ≡ f → Replies (gets_found core id f)
-  fits_gets_found ok id (Found.At s) e = fits_number get_code s _ _ (found_settled id s e) seven (leb-true _ 256 refl)
-  fits_gets_found ok id Found.Nothing e = fits_gets_other id (read_only core.identity core.readings id) (values_fit core.identity core.readings id ok)
+  fits_gets_found ok id (Some s) e = fits_number get_code s _ _ (found_settled id s e) seven (leb-true _ 256 refl)
+  fits_gets_found ok id None e = fits_gets_other id (read_only core.identity core.readings id) (values_fit core.identity core.readings id ok)
 
   fits_gets : identity_allowed core.identity ≡ true → (bytes : List ℕ) → Replies (get_answer core bytes)
   unfolding get_answer
@@ -93,8 +94,8 @@ module _ (core : Core) where
       pick Replies (eqb (length bytes) 3) (pick Replies (eqb (get_or bytes 2 0) 0) (fits_gets_found ok _ (finding (from_little (take 2 bytes))) refl) an_error) an_error
 
 fits_stored : (core : Core) (s : Setting) (n : ℕ) (a : Answer) → Settled s → Replies (stored core s n a)
-fits_stored core s n Answer.Accepted settled = fits_number set_code s _ n settled eight (leb-true _ 256 refl)
-fits_stored core s n (Answer.Refused number nearest) settled = fits_number set_code s _ nearest settled eight (leb-true _ 256 refl)
+fits_stored core s n (Ok accepted) settled = fits_number set_code s _ n settled eight (leb-true _ 256 refl)
+fits_stored core s n (Err denied) settled = fits_number set_code s _ denied.nearest settled eight (leb-true _ 256 refl)
 
 module _ (core : Core) where
   fits_sets_setting : (s : Setting) (value : List ℕ) → Settled s → Replies (sets_setting core s value)
@@ -104,8 +105,8 @@ module _ (core : Core) where
       (fits_number set_code s _ _ settled eight (leb-true _ 256 refl))
 
   fits_sets_found : (id : ℕ) (value : List ℕ) (f : Found) → finding id ≡ f → Replies (sets_found core id value f)
-  fits_sets_found id value (Found.At s) e = fits_sets_setting s value (found_settled id s e)
-  fits_sets_found id value Found.Nothing e = fits_sets_other core id (read_only core.identity core.readings id)
+  fits_sets_found id value (Some s) e = fits_sets_setting s value (found_settled id s e)
+  fits_sets_found id value None e = fits_sets_other core id (read_only core.identity core.readings id)
 
   fits_sets : (bytes : List ℕ) → Replies (set_answer core bytes)
   unfolding set_answer

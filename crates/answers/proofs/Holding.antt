@@ -2,11 +2,11 @@
 use mathlib.Core.Path.{refl}
 use Rattle.laws.specs.Promise.{overlaid, front_of}
 use Rattle.answers.specs.Answers.{Sent, silent, sent, error}
-use Rattle.answers.specs.AsHeld.{message_of, sends_of, message_in, decided_of}
+use Rattle.answers.specs.AsHeld.{message_of, sends_of, decided_of}
 use Rattle.answers.specs.Calls.{answering}
 use Rattle.answers.specs.Laws as laws
 
-held : (reply : Sent) → laws.HeldAs reply (sends_of reply) (message_in reply)
+held : (reply : Sent) → laws.HeldAs reply (sends_of reply)
 unfolding message_of front_of overlaid
 held silent = laws.HeldAs.nothing
 held error = laws.HeldAs.an_error

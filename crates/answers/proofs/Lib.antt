@@ -1,5 +1,4 @@
 -- Laws of the definitions of specs/, and what the proofs of the functions cite.
-pub mod Fronts
 pub mod Found
 pub mod Deciding
 pub mod Fitting

@@ -9,14 +9,17 @@ use native.Mathlib.Omega.{arith}
 use borrow.Author.Tests.{ltb-true, ltb-false, eqb-true, lt-leb, le-leb}
 use lib.Dec.{eqb, ltb, leb}
 use lib.ListN.{length, take, drop, get_or}
+use Rattle.std.proofs.Common.{Some, None, Ok, Err}
 use Rattle.laws.proofs.Bools.{pick}
 use Rattle.settings.specs.Columns.{count}
 use Rattle.tables.specs.Rules.{allowed}
 use Rattle.settings.specs.Calls.{finding}
 use Rattle.tables.specs.declared.Table.{Table}
 use Rattle.settings.specs.declared.Setting.{Setting}
-use Rattle.settings.specs.declared.Found.{Found}
-use Rattle.tables.specs.declared.Answer.{Answer}
+use Rattle.settings.specs.Answers.{Found}
+use Rattle.tables.specs.Answers.{Answer}
+use Rattle.tables.specs.declared.Denied.{Denied}
+use Rattle.paper.specs.declared.Refusal.{Refusal}
 use Rattle.tables.proofs.Theorems.{set_keeps_allowed, set_keeps_count, refused_keeps_it}
 use Rattle.endian.specs.Numbers.{from_little}
 use Rattle.who.specs.Values.{read_only}
@@ -31,7 +34,7 @@ module _ (core : Core) where
   record Leaves (table : Table) (d : Decision) : Type 0 where
     identity_is : d.core.identity ≡ core.identity
     table_is : d.core.table ≡ table
-    refused_is : (number : ℕ) → d.outcome ≡ Outcome.Refused number → d.core ≡ core
+    refused_is : (refusal : Refusal) → d.outcome ≡ Outcome.Refused refusal → d.core ≡ core
     readings_are : d.outcome ≢ Outcome.Restarted → d.core.readings ≡ core.readings
 
   abbrev Spares : Decision → Type 0
@@ -61,8 +64,8 @@ module _ (core : Core) where
   get_other_spares id (some v) = spared
 
   get_found_spares : (id : ℕ) (f : Found) → Spares (gets_found core id f)
-  get_found_spares id (Found.At s) = spared
-  get_found_spares id Found.Nothing = get_other_spares id (read_only core.identity core.readings id)
+  get_found_spares id (Some s) = spared
+  get_found_spares id None = get_other_spares id (read_only core.identity core.readings id)
 
   gets_spare : (bytes : List ℕ) → Spares (get_answer core bytes)
   unfolding get_answer
@@ -80,23 +83,23 @@ module _ (core : Core) where
       (rw e (pick Spares (eqb command async_code) spared spared))))))
 
   -- a Set
-  stored_leaves : (s : Setting) (n : ℕ) (table : Table) (a : Answer) → ((number nearest : ℕ) → a ≡ Answer.Refused number nearest → table ≡ core.table)
+  stored_leaves : (s : Setting) (n : ℕ) (table : Table) (a : Answer) → ((denied : Denied) → a ≡ Err denied → table ≡ core.table)
       → Leaves table (stored (with_table core table) s n a)
-  stored_leaves s n table Answer.Accepted same =
+  stored_leaves s n table (Ok accepted) same =
       record {
         identity_is = refl;
         table_is = refl;
         refused_is = λ number e. let z : ◌≡◌ {A = ℕ} 0 1 = cc in absurd (omega arith);
         readings_are = λ other. refl;
       }
-  stored_leaves s n table (Answer.Refused number nearest) same =
-      record { identity_is = refl; table_is = refl; refused_is = λ m e. ap (with_table core) (same number nearest refl); readings_are = λ other. refl }
+  stored_leaves s n table (Err denied) same =
+      record { identity_is = refl; table_is = refl; refused_is = λ m e. ap (with_table core) (same denied refl); readings_are = λ other. refl }
 
-  setting_leaves : (s : Setting) (value : List ℕ) → Leaves (makes_found core.table value (Found.At s)) (sets_setting core s value)
+  setting_leaves : (s : Setting) (value : List ℕ) → Leaves (makes_found core.table value (Some s)) (sets_setting core s value)
   unfolding sets_setting
   setting_leaves s value = by (eqb (length value) s.width) refl
     where
-      by : (b : Bool) → eqb (length value) s.width ≡ b → Leaves (makes_found core.table value (Found.At s)) (sets_setting core s value)
+      by : (b : Bool) → eqb (length value) s.width ≡ b → Leaves (makes_found core.table value (Some s)) (sets_setting core s value)
       by true e = rw e (stored_leaves s _ _ _ (refused_keeps_it core.table s.index (from_little value)))
       by false e = rw e spared
 
@@ -105,8 +108,8 @@ module _ (core : Core) where
   set_other_spares id (some v) = spared
 
   set_found_leaves : (id : ℕ) (value : List ℕ) (f : Found) → Leaves (makes_found core.table value f) (sets_found core id value f)
-  set_found_leaves id value (Found.At s) = setting_leaves s value
-  set_found_leaves id value Found.Nothing = set_other_spares id (read_only core.identity core.readings id)
+  set_found_leaves id value (Some s) = setting_leaves s value
+  set_found_leaves id value None = set_other_spares id (read_only core.identity core.readings id)
 
   sets_leave : (bytes : List ℕ) → Leaves (makes core.table set_code bytes) (set_answer core bytes)
   unfolding set_answer makes
@@ -140,14 +143,14 @@ refused_stays core command bytes = (answer_leaves core command bytes).refused_is
 
 module _ (table : Table) (long : length table.numbers ≡ count) where
   found_allowed : allowed table ≡ true → (value : List ℕ) (f : Found) → allowed (makes_found table value f) ≡ true
-  found_allowed ok value (Found.At s) =
+  found_allowed ok value (Some s) =
       pick (λ (t : Table). allowed t ≡ true) (eqb (length value) s.width) (set_keeps_allowed table s.index (from_little value) long ok) ok
-  found_allowed ok value Found.Nothing = ok
+  found_allowed ok value None = ok
 
   found_count : (value : List ℕ) (f : Found) → length (makes_found table value f).numbers ≡ count
-  found_count value (Found.At s) =
+  found_count value (Some s) =
       pick (λ (t : Table). length t.numbers ≡ count) (eqb (length value) s.width) (set_keeps_count table s.index (from_little value) ∙ long) long
-  found_count value Found.Nothing = long
+  found_count value None = long
 
 -- what a frame makes of an allowed table is allowed, and as many
 pub makes_allowed : MakesKeepsAllowed

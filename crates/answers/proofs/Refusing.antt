@@ -9,16 +9,18 @@ use native.Mathlib.Omega.{arith}
 use borrow.Author.Tests.{eqb-true, eq-eqb, ltb-true, lt-ltb, le-leb, not-true}
 use lib.Dec.{eqb, ltb}
 use lib.ListN.{length, get_or}
+use Rattle.std.proofs.Common.{Some, None}
 use Rattle.laws.specs.Lists.{before, every}
 use Rattle.laws.proofs.Bools.{and_left, and_right, or_second, same_test, pick}
 use Rattle.laws.specs.Refusals.{first_of}
 use Rattle.settings.specs.Columns.{count, ids, width_at, place_of}
 use Rattle.settings.specs.Rules.{allowed_for}
 use Rattle.settings.specs.Calls.{setting_at, placing, finding}
-use Rattle.settings.specs.declared.Found.{Found}
+use Rattle.settings.specs.Answers.{Found}
 use Rattle.tables.specs.Rules.{allowed, partner_number}
 use Rattle.tables.specs.Calls.{set_to}
 use Rattle.tables.proofs.Tables.{set_accepted, set_refused}
+use Rattle.paper.specs.Numbers.{not_allowed}
 use Rattle.endian.specs.Numbers.{from_little}
 use Rattle.who.specs.Parts.{identity_allowed}
 use Rattle.who.specs.Values.{read_only, read_only_ids, among}
@@ -65,9 +67,9 @@ among_every p id (x ∷ l) e f = by (eqb id x) refl f (λ g. among_every p id l 
     by true is g later = rw (eqb-true id x is) (and_left (p x) (every p l) e)
     by false is g later = later g
 
-pub found_is : (id : ℕ) → finding id ≡ cond (is_setting id) (Found.At (setting_at (place_of id))) Found.Nothing
+pub found_is : (id : ℕ) → finding id ≡ cond (is_setting id) (Some (setting_at (place_of id))) None
 unfolding finding placing place_of is_setting
-found_is id = ap (λ (b : Bool). cond b (Found.At (setting_at (place_of id))) Found.Nothing) (place_among id ids)
+found_is id = ap (λ (b : Bool). cond b (Some (setting_at (place_of id))) None) (place_among id ids)
 
 pub setting_written : (id : ℕ) → is_setting id ≡ true → is_read_only id ≡ false
 unfolding is_setting is_read_only
@@ -125,7 +127,7 @@ module _ (core : Core) (bytes : List ℕ) where
   gets_found_lem : (id : ℕ) → number_of (answers.gets_found core id (finding id)).outcome ≡ cond (not (is_setting id || is_read_only id)) (some 7) none
   gets_found_lem id = rw (found_is id) (by (is_setting id))
     where
-      by : (b : Bool) → number_of (answers.gets_found core id (cond b (Found.At (setting_at (place_of id))) Found.Nothing)).outcome
+      by : (b : Bool) → number_of (answers.gets_found core id (cond b (Some (setting_at (place_of id))) None)).outcome
           ≡ cond (not (b || is_read_only id)) (some 7) none
       by true = refl
       by false = rw (sym (read_only_is core id)) (gets_other_lem id (read_only core.identity core.readings id))
@@ -180,7 +182,7 @@ module _ (core : Core) (bytes : List ℕ) where
     sets_found_lem id value = rw (found_is id) (by (is_setting id) refl)
       where
         by : (b : Bool) → is_setting id ≡ b
-            → number_of (answers.sets_found core id value (cond b (Found.At (setting_at (place_of id))) Found.Nothing)).outcome
+            → number_of (answers.sets_found core id value (cond b (Some (setting_at (place_of id))) None)).outcome
             ≡ cond (not (b || is_read_only id)) (some 7) (cond (is_read_only id) (some 8)
             (cond (b && not (eqb (length value) (width_at (place_of id)))) (some 9)
             (cond (b && not (allowed_for (place_of id) (from_little value) (partner_number core.table (place_of id)))) (some 10) none)))
@@ -221,7 +223,7 @@ unfolding answering core_allowed
 refusal_given core command bytes = by (identity_allowed core.identity && allowed core.table) refl
   where
     by : (b : Bool) → core_allowed core ≡ b
-        → number_of (cond b (frame_answer core command bytes) (staying core (Outcome.Refused 12) silent)).outcome ≡ cond (not b) (some 12) (first_of (rows core command bytes))
+        → number_of (cond b (frame_answer core command bytes) (staying core (Outcome.Refused not_allowed) silent)).outcome ≡ cond (not b) (some 12) (first_of (rows core command bytes))
     by true e = frame_rows core bytes (table_allowed core e) command
     by false e = refl
 
@@ -242,7 +244,7 @@ unfolding answering
 allowed_answered core command bytes = by (core_allowed core) refl
   where
     by : (b : Bool) → core_allowed core ≡ b
-        → (b ≡ false) ↔ (number_of (cond b (frame_answer core command bytes) (staying core (Outcome.Refused 12) silent)).outcome ≡ some 12)
+        → (b ≡ false) ↔ (number_of (cond b (frame_answer core command bytes) (staying core (Outcome.Refused not_allowed) silent)).outcome ≡ some 12)
     by true e = (
       λ f. absurd (false≢true (sym f)),
       λ f. absurd (no_row_12 core command bytes (sym (frame_rows core bytes (table_allowed core e) command) ∙ f)),

@@ -8,13 +8,14 @@ use native.Mathlib.Omega.{arith}
 use borrow.Author.Tests.{eqb-true, ltb-true}
 use lib.Dec.{eqb, ltb}
 use lib.ListN.{length, get_or}
+use Rattle.std.proofs.Common.{Some, None}
 use Rattle.laws.specs.Lists.{every, Bytes}
 use Rattle.laws.proofs.Bools.{and_left, and_right, pick}
 use Rattle.laws.proofs.Lists.{every_drop}
 use Rattle.settings.specs.Columns.{count, id_at, width_at, place_of}
 use Rattle.settings.specs.Rules.{allowed_for}
 use Rattle.settings.specs.Calls.{setting_at, finding}
-use Rattle.settings.specs.declared.Found.{Found}
+use Rattle.settings.specs.Answers.{Found}
 use Rattle.settings.proofs.Theorems.{rows_hold, found_has_id}
 use Rattle.tables.specs.Rules.{partner_number}
 use Rattle.tables.specs.Calls.{set_to}
@@ -66,7 +67,7 @@ module _ (core : Core) (ok : core_allowed core ≡ true) (bytes : List ℕ) (sma
   get_found : Tells 7 (answers.gets_found core (id_in bytes) (finding (id_in bytes)))
   get_found = rw (found_is (id_in bytes)) (by (is_setting (id_in bytes)) refl)
     where
-      by : (b : Bool) → is_setting (id_in bytes) ≡ b → Tells 7 (answers.gets_found core (id_in bytes) (cond b (Found.At (setting_at (place_of (id_in bytes)))) Found.Nothing))
+      by : (b : Bool) → is_setting (id_in bytes) ≡ b → Tells 7 (answers.gets_found core (id_in bytes) (cond b (Some (setting_at (place_of (id_in bytes)))) None))
       by true e = a_get refl (place_of (id_in bytes)) (setting_within (id_in bytes) e) (setting_id (id_in bytes) e)
       by false e = get_other _ refl
 
@@ -105,7 +106,7 @@ module _ (core : Core) (ok : core_allowed core ≡ true) (bytes : List ℕ) (sma
   set_found = rw (found_is (id_in bytes)) (by (is_setting (id_in bytes)) refl)
     where
       by : (b : Bool) → is_setting (id_in bytes) ≡ b
-          → Tells 8 (answers.sets_found core (id_in bytes) (value_in bytes) (cond b (Found.At (setting_at (place_of (id_in bytes)))) Found.Nothing))
+          → Tells 8 (answers.sets_found core (id_in bytes) (value_in bytes) (cond b (Some (setting_at (place_of (id_in bytes)))) None))
       by true e = set_setting (place_of (id_in bytes)) (setting_within (id_in bytes) e) (setting_id (id_in bytes) e)
       by false e = set_other (read_only core.identity core.readings (id_in bytes))
 

@@ -1,6 +1,6 @@
 -- The answer to a whole frame, from what a board is and holds, command and data. Document 01, "Numbers of refusal", rows 5 to 10 in their
 -- order, and the two paragraphs below them. Assumes nothing.
-use Rattle.std.specs.Prelude.{ℕ, Bool, cond, ◌&&◌, List, [], ◌∷◌, length, take, drop, get_or, eqb, ltb, leb}
+use Rattle.std.specs.Prelude.{ℕ, Bool, cond, ◌&&◌, Some, None, Ok, Err, List, [], ◌∷◌, length, take, drop, get_or, eqb, ltb, leb}
 use Rattle.std.proofs.Math.Option.{Option, none, some}
 use Rattle.paper.specs.Numbers as paper
 use Rattle.paper.specs.Numbers.{ping_code, version_code, product_code, restart_code, get_code, set_code, async_code}
@@ -9,8 +9,9 @@ use Rattle.tables.specs.Calls.{set_to}
 use Rattle.tables.specs.Rules.{allowed, number_at}
 use Rattle.tables.specs.declared.Table.{Table}
 use Rattle.settings.specs.declared.Setting.{Setting}
-use Rattle.settings.specs.declared.Found.{Found}
-use Rattle.tables.specs.declared.Answer.{Answer}
+use Rattle.settings.specs.Answers.{Found}
+use Rattle.tables.specs.Answers.{Answer}
+use Rattle.paper.specs.declared.Refusal.{Refusal}
 use Rattle.who.specs.Parts.{identity_allowed, no_readings}
 use Rattle.endian.specs.Numbers.{little, from_little, said}
 use Rattle.who.specs.Values.{read_only}
@@ -71,8 +72,8 @@ module _ (core : Core) where
   wrong_width s = staying (Outcome.Refused paper.wrong_width) (sent set_code (said s.id paper.parameter_flag (now_held s)))
 
   -- 10: "Set, id, flag 04, nearest allowed number"
-  abbrev pub refused_to : Setting → ℕ → ℕ → Decision
-  refused_to s number nearest = staying (Outcome.Refused number) (sent set_code (said s.id paper.parameter_flag (little s.width nearest)))
+  abbrev pub refused_to : Setting → Refusal → ℕ → Decision
+  refused_to s refusal nearest = staying (Outcome.Refused refusal) (sent set_code (said s.id paper.parameter_flag (little s.width nearest)))
 
   -- "A good Get or Set answers its own code, id, flag 00, value."
   abbrev pub good : ℕ → ℕ → List ℕ → Decision
@@ -89,8 +90,8 @@ module _ (core : Core) where
   gets_other id none = unknown_id get_code id
 
   abbrev pub gets_found : ℕ → Found → Decision
-  gets_found id (Found.At s) = good get_code s.id (now_held s)
-  gets_found id Found.Nothing = gets_other id (read_only core.identity core.readings id)
+  gets_found id (Some s) = good get_code s.id (now_held s)
+  gets_found id None = gets_other id (read_only core.identity core.readings id)
 
   -- 6: "Get with other than 3 data bytes; [..] request flags not 0"
   unfoldable pub get_answer : List ℕ → Decision
@@ -106,8 +107,8 @@ module _ (core : Core) where
 
 -- A Set of a setting: what the table makes of the number, and the answer that goes with it.
 abbrev pub stored : Core → Setting → ℕ → Answer → Decision
-stored core s n Answer.Accepted = good core set_code s.id (little s.width n)
-stored core s n (Answer.Refused number nearest) = refused_to core s number nearest
+stored core s n (Ok accepted) = good core set_code s.id (little s.width n)
+stored core s n (Err denied) = refused_to core s denied.refusal denied.nearest
 
 module _ (core : Core) where
   -- "Restart (6) gives no reply, keeps the settings, sets all readings to 0 and is reported." 6 with data
@@ -121,8 +122,8 @@ module _ (core : Core) where
       (wrong_width core s)
 
   abbrev pub sets_found : ℕ → List ℕ → Found → Decision
-  sets_found id value (Found.At s) = sets_setting s value
-  sets_found id value Found.Nothing = sets_other core id (read_only core.identity core.readings id)
+  sets_found id value (Some s) = sets_setting s value
+  sets_found id value None = sets_other core id (read_only core.identity core.readings id)
 
   -- 6: "Set with under 3; request flags not 0"
   unfoldable pub set_answer : List ℕ → Decision
@@ -144,8 +145,8 @@ module _ (core : Core) where
 
 -- What a frame makes of a table: a complete, valid Set makes of it what the table makes of its number, and any other frame nothing.
 abbrev pub makes_found : Table → List ℕ → Found → Table
-makes_found table value (Found.At s) = cond (eqb (length value) s.width) (set_to table s.index (from_little value)).table table
-makes_found table value Found.Nothing = table
+makes_found table value (Some s) = cond (eqb (length value) s.width) (set_to table s.index (from_little value)).table table
+makes_found table value None = table
 
 unfoldable pub makes : Table → ℕ → List ℕ → Table
 makes table command bytes =

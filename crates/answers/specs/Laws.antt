@@ -18,6 +18,7 @@ use Rattle.answers.specs.Answers.{core_allowed, with_table, Sent, silent, sent, 
 use Rattle.answers.specs.Refusals.{rows, number_of, Told}
 use Rattle.answers.specs.Calls.{answering}
 use Rattle.answers.specs.AsHeld.{decided_of}
+use Rattle.paper.specs.declared.Refusal.{Refusal}
 use Rattle.answers.specs.declared.Core.{Core}
 use Rattle.answers.specs.declared.Outcome.{Outcome}
 use Rattle.answers.specs.declared.Message.{Message}
@@ -38,8 +39,8 @@ RepliesFit =
 -- 2. "On 1 to 10 the settings and readings stay."
 abbrev pub RefusedStays : Type 0
 RefusedStays =
-    (core : Core) (command : ℕ) (bytes : List ℕ) (number : ℕ)
-    → (frame_answer core command bytes).outcome ≡ Outcome.Refused number → (frame_answer core command bytes).core ≡ core
+    (core : Core) (command : ℕ) (bytes : List ℕ) (refusal : Refusal)
+    → (frame_answer core command bytes).outcome ≡ Outcome.Refused refusal → (frame_answer core command bytes).core ≡ core
 
 -- 3. The table afterwards is what a complete, valid Set makes of it, whatever else the frame is; it stays allowed, and the board who it was.
 abbrev pub AnswerMakes : Type 0
@@ -96,19 +97,19 @@ abbrev pub AllowedIsAnswered : Type 0
 AllowedIsAnswered = (core : Core) (command : ℕ) (bytes : List ℕ) → (core_allowed core ≡ false) ↔ (number_of (answering core command bytes).outcome ≡ some 12)
 
 -- 7. The public call's answer holds what is decided: the outcome, the core, and the reply as nothing, as the error frame, or as a command with
--- its data at the front of an array of 35 bytes; all else in it is 0.
+-- its data at the front of an array of 35 bytes, the rest of which is 0.
 abbrev pub held : ℕ → List ℕ → Message
 held command bytes = record { command = command; len = length bytes; bytes = bytes ++ drop (length bytes) (replicate 35 0) }
 
-pub data HeldAs : Sent → Sends → Message → Type 0 where
-  nothing : HeldAs silent Sends.Nothing (held 0 [])
-  an_error : HeldAs error Sends.Error (held 0 [])
-  a_frame : {command : ℕ} {bytes : List ℕ} → HeldAs (sent command bytes) Sends.Frame (held command bytes)
+pub data HeldAs : Sent → Sends → Type 0 where
+  nothing : HeldAs silent Sends.Nothing
+  an_error : HeldAs error Sends.Error
+  a_frame : {command : ℕ} {bytes : List ℕ} → HeldAs (sent command bytes) (Sends.Frame (held command bytes))
 
 pub record Holding (d : Decision) (answer : Decided) : Type 0 where
   pub outcome_is : answer.outcome ≡ d.outcome
   pub core_is : answer.core ≡ d.core
-  pub reply_is : HeldAs d.reply answer.sends answer.reply
+  pub reply_is : HeldAs d.reply answer.sends
 
 abbrev pub AnswerHolds : Type 0
 AnswerHolds = (core : Core) (command : ℕ) (bytes : List ℕ) → let d = answering core command bytes in Holding d (decided_of d)

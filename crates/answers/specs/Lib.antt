@@ -2,5 +2,6 @@
 pub mod Answers
 pub mod Refusals
 pub mod AsHeld
+pub mod Settled
 pub mod Calls
 pub mod Laws

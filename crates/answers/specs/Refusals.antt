@@ -2,6 +2,7 @@
 -- outcome. Nothing here is the definition that the code is proved equal to (Answers.antt). Assumes nothing.
 use Rattle.std.specs.Prelude.{ℕ, ◌<◌, ◌≡◌, Bool, true, not, ◌&&◌, ◌||◌, List, [], ◌∷◌, length, take, drop, get_or, eqb, ltb, leb}
 use Rattle.std.proofs.Math.Option.{Option, none, some}
+use Rattle.paper.specs.Numbers as paper
 use Rattle.laws.specs.Refusals.{Row, row}
 use Rattle.settings.specs.Columns.{count, ids, id_at, width_at, place_of}
 use Rattle.settings.specs.Rules.{allowed_for, Nearest}
@@ -78,7 +79,7 @@ number_of Outcome.Nothing = none
 number_of Outcome.Answered = none
 number_of Outcome.Restarted = none
 number_of Outcome.Ignored = none
-number_of (Outcome.Refused number) = some number
+number_of (Outcome.Refused refusal) = some (paper.number_of refusal)
 
 -- The outcome, the reply and the board afterwards belong together: what a board with this core says of a whole frame.
 pub data Told (core : Core) (command : ℕ) (bytes : List ℕ) : Outcome → Sent → Core → Type 0 where
@@ -98,18 +99,18 @@ pub data Told (core : Core) (command : ℕ) (bytes : List ℕ) : Outcome → Sen
   a_set : command ≡ 8 → (k n : ℕ) → k < count → id_at k ≡ id_in bytes → n ≡ from_little (value_in bytes)
       → Told core command bytes Outcome.Answered (sent 8 (said (id_at k) 0 (little (width_at k) n))) (with_table core (changed core.table k n))
   -- 5: "response 3, one data byte: the command"
-  row_5 : Told core command bytes (Outcome.Refused 5) (sent 3 (command ∷ [])) core
+  row_5 : Told core command bytes (Outcome.Refused paper.unknown_command) (sent 3 (command ∷ [])) core
   -- 6: "error frame"
-  row_6 : Told core command bytes (Outcome.Refused 6) error core
+  row_6 : Told core command bytes (Outcome.Refused paper.malformed) error core
   -- 7: "same command, id, flag 01, no value"
-  row_7 : is_get_or_set command ≡ true → Told core command bytes (Outcome.Refused 7) (sent command (said (id_in bytes) 1 [])) core
+  row_7 : is_get_or_set command ≡ true → Told core command bytes (Outcome.Refused paper.unknown_id) (sent command (said (id_in bytes) 1 [])) core
   -- 8: "Set, id, flag 02, no value"
-  row_8 : Told core command bytes (Outcome.Refused 8) (sent 8 (said (id_in bytes) 2 [])) core
+  row_8 : Told core command bytes (Outcome.Refused paper.read_only_id) (sent 8 (said (id_in bytes) 2 [])) core
   -- 9: "Set, id, flag 04, value now held"
   row_9 : (k : ℕ) → k < count → id_at k ≡ id_in bytes
-      → Told core command bytes (Outcome.Refused 9) (sent 8 (said (id_at k) 4 (little (width_at k) (number_at core.table k)))) core
+      → Told core command bytes (Outcome.Refused paper.wrong_width) (sent 8 (said (id_at k) 4 (little (width_at k) (number_at core.table k)))) core
   -- 10: "Set, id, flag 04, nearest allowed number"
   row_10 : (k m : ℕ) → k < count → id_at k ≡ id_in bytes → Nearest k (from_little (value_in bytes)) (partner_number core.table k) m
-      → Told core command bytes (Outcome.Refused 10) (sent 8 (said (id_at k) 4 (little (width_at k) m))) core
+      → Told core command bytes (Outcome.Refused paper.number_not_allowed) (sent 8 (said (id_at k) 4 (little (width_at k) m))) core
   -- 12: "none"
-  row_12 : Told core command bytes (Outcome.Refused 12) silent core
+  row_12 : Told core command bytes (Outcome.Refused paper.not_allowed) silent core

@@ -1,23 +1,25 @@
 // What a board answers to a whole frame, from what it is and holds. Every call takes anything, and its promise fixes its answer
 // (specs/Calls.antt).
-#![tactic(auto)]
+#![tactic(auto, unfolding(crate::specs::AsHeld::decided_of))]
 
-ghost use Rattle.std.specs.Prelude.{◌≡◌};
+ghost use Rattle.std.specs.Prelude.{◌≡◌, true};
+ghost use Rattle.who.specs.Parts.{identity_allowed};
 ghost use Rattle.answers.specs.Answers.{core_allowed};
 ghost use Rattle.answers.specs.AsHeld.{decided_of};
 ghost use Rattle.answers.specs.Calls.{answering};
 
+use paper::Refusal;
 use tables::Table;
 use who::{Identity, Readings};
 
 mod decisions;
 mod gets;
+mod known;
 mod messages;
 mod sets;
-mod values;
 
 // What a board is and holds, whatever its serial line has brought: who it is, its settings and its readings.
-#[derive(Clone, Copy)]
+#[derive(Clone, Copy, PartialEq, Eq)]
 pub struct Core {
     pub identity: Identity,
     pub table: Table,
@@ -25,42 +27,42 @@ pub struct Core {
 }
 
 // What became of a piece of input: no frame ended, or what the board did about the one that did.
-#[derive(Clone, Copy)]
+#[derive(Clone, Copy, PartialEq, Eq)]
 pub enum Outcome {
     Nothing,
     Answered,
     Restarted,
     Ignored,
-    Refused(u8),
-}
-
-// What is sent in reply: nothing, the frame of a `Message`, or the error frame.
-#[derive(Clone, Copy)]
-pub enum Sends {
-    Nothing,
-    Frame,
-    Error,
+    Refused(Refusal),
 }
 
 // A command, and its data at the front of the array, with zeros after them.
-#[derive(Clone, Copy)]
+#[derive(Clone, Copy, PartialEq, Eq)]
 pub struct Message {
     pub command: u8,
     pub len: usize,
     pub bytes: [u8; paper::MOST_DATA],
 }
 
+// What is sent in reply: nothing, a message in a frame, or the error frame.
+#[derive(Clone, Copy, PartialEq, Eq)]
+pub enum Sends {
+    Nothing,
+    Frame(Message),
+    Error,
+}
+
 // What a board decides: the outcome, what it sends, and what it is and holds afterwards.
-#[derive(Clone, Copy)]
+#[derive(Clone, Copy, PartialEq, Eq)]
 pub struct Decided {
     pub outcome: Outcome,
     pub sends: Sends,
-    pub reply: Message,
     pub core: Core,
 }
 
 impl Core {
     // Returns whether identity and settings are allowed; readings at their widths always are.
+    #[tactic(auto, unfolding(crate::specs::Answers::core_allowed))]
     pub fn is_allowed(self) -> bool
         ensures { result ≡ core_allowed self }
     {
@@ -70,12 +72,20 @@ impl Core {
     }
 }
 
+// A core whose identity is allowed, so that its read-only values fit a reply.
+#[derive(Clone, Copy)]
+pub(crate) struct Sound {
+    pub(crate) core: Core,
+    ghost sound: { identity_allowed core.identity ≡ true },
+}
+
 // Returns the answer to a whole frame: 12 for an identity or a table that is not allowed, then 5 to 10.
+#[tactic(auto, unfolding(crate::specs::Calls::answering, crate::specs::Answers::core_allowed))]
 pub fn answer(core: Core, command: u8, bytes: &[u8]) -> Decided
     ensures { result ≡ decided_of (answering core command bytes.now) }
 {
     if !core.is_allowed() {
-        return decisions::silent(core, Outcome::Refused(paper::NOT_ALLOWED));
+        return core.silent(Outcome::Refused(Refusal::NotAllowed));
     }
-    decisions::frame_answer(core, command, bytes)
+    Sound { core }.answer(command, bytes)
 }

@@ -1,84 +1,42 @@
-ghost use Rattle.std.specs.Prelude.{◌≡◌, [], ◌∷◌, ◌++◌, ◌≤◌, take};
-ghost use Rattle.endian.specs.Numbers.{little, said};
-ghost use Rattle.answers.specs.AsHeld.{message_of, said_of};
+ghost use Rattle.std.specs.Prelude.{◌≡◌, ◌≤◌, length};
+ghost use Rattle.paper.specs.Numbers.{most_data, most_serial};
+ghost use Rattle.endian.specs.Numbers.{said};
+ghost use Rattle.answers.specs.AsHeld.{message_of};
 
 use crate::Message;
-use who::Value;
 
-// Returns an empty message, for where none is sent.
-pub(crate) fn none() -> Message
-    ensures { result ≡ message_of 0 [] }
-{
-    Message {
-        command: 0,
-        len: 0,
-        bytes: [0u8; paper::MOST_DATA],
+impl Message {
+    // Returns a message of a command and its data.
+    #[tactic(auto, unfolding(crate::specs::AsHeld::message_of))]
+    pub(crate) fn new(command: u8, from: &[u8]) -> Message
+        requires { length from.now ≤ most_data }
+        ensures { result ≡ message_of command from.now }
+    {
+        let mut bytes = [0u8; paper::MOST_DATA];
+        spans::copy(from, &mut bytes);
+        Message {
+            command,
+            len: from.len(),
+            bytes,
+        }
     }
-}
 
-// Returns a message of one byte: the command that is not known.
-pub(crate) fn one(command: u8, byte: u8) -> Message
-    ensures { result ≡ message_of command (byte ∷ []) }
-{
-    let mut bytes = [0u8; paper::MOST_DATA];
-    bytes[0] = byte;
-    Message {
-        command,
-        len: 1,
-        bytes,
-    }
-}
-
-// Returns a message of one number: a version, a product or an id.
-pub(crate) fn number(command: u8, n: u16) -> Message
-    ensures { result ≡ message_of command (little 2 n) }
-{
-    let mut bytes = [0u8; paper::MOST_DATA];
-    let low_first = endian::bytes_16(n);
-    bytes[0] = low_first[0];
-    bytes[1] = low_first[1];
-    Message {
-        command,
-        len: 2,
-        bytes,
-    }
-}
-
-// Returns a message of an id and a flag, with no value.
-pub(crate) fn bare(command: u8, id: u16, flag: u8) -> Message
-    ensures { result ≡ message_of command (said id flag []) }
-{
-    let named = number(command, id);
-    let mut bytes = named.bytes;
-    bytes[2] = flag;
-    Message {
-        command,
-        len: 3,
-        bytes,
-    }
-}
-
-// Returns the first three bytes of `front`, and the 32 of `rest` after them.
-fn joined(front: [u8; paper::MOST_DATA], rest: [u8; paper::MOST_SERIAL]) -> [u8; paper::MOST_DATA]
-    ensures { result ≡ take 3 front ++ rest }
-{
-    let mut whole = front;
-    spans::copy(&rest, &mut whole[paper::FRONT..]);
-    whole
-}
-
-// Returns a message of an id, a flag and a value.
-pub(crate) fn saying(command: u8, id: u16, flag: u8, value: Value) -> Message
-    requires { value.len ≤ 32 }
-    ensures { result ≡ said_of command id flag value }
-{
-    let said = bare(command, id, flag);
-    let front = said.bytes;
-    let len = value.len;
-    let rest = value.bytes;
-    Message {
-        command,
-        len: len + 3,
-        bytes: joined(front, rest),
+    // Returns a message of an id, a flag and a value.
+    #[tactic(auto, unfolding(crate::specs::AsHeld::message_of))]
+    pub(crate) fn saying(command: u8, id: u16, flag: u8, value: &[u8]) -> Message
+        requires { length value.now ≤ most_serial }
+        ensures { result ≡ message_of command (said id flag value.now) }
+    {
+        let [low, high] = endian::bytes_16(id);
+        let mut bytes = [0u8; paper::MOST_DATA];
+        bytes[0] = low;
+        bytes[1] = high;
+        bytes[2] = flag;
+        spans::copy(value, &mut bytes[paper::FRONT..]);
+        Message {
+            command,
+            len: paper::FRONT + value.len(),
+            bytes,
+        }
     }
 }
