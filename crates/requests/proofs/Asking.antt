@@ -1,25 +1,27 @@
 -- The requests: their data, and what the calls make of them. Assumes nothing.
 use mathlib.Core.Path.{◌≡◌, refl, sym, ap, ◌∙◌}
-use mathlib.Core.Bool.{Bool, true, false, cond, ◌||◌, false≢true}
-use mathlib.Core.List.{List, [], ◌∷◌}
+use mathlib.Core.Bool.{Bool, true, false, cond, ◌||◌}
+use mathlib.Core.List.{[], ◌∷◌}
 use Prim.Native.Nat.{ℕ, zero, suc, ◌+◌, ◌/◌, ◌%◌, ◌^◌, ◌≤◌, ◌<◌}
 use native.Mathlib.Omega.{arith}
-use borrow.Author.Tests.{lt-ltb, le-ltb, ltb-true, ltb-false}
+use borrow.Author.Tests.{lt-ltb, le-ltb}
 use lib.ListN.{length, take}
 use lib.Dec.{ltb, eqb}
-use Rattle.laws.specs.Promise.{Gives}
-use Rattle.paper.specs.Numbers.{frame_room, short_buffer, not_allowed, get_code, set_code}
+use Rattle.paper.specs.Numbers.{frame_room, short_buffer, get_code, set_code}
 use Rattle.wire.specs.Frame.{frame}
 use Rattle.endian.specs.Numbers.{little, said}
 use Rattle.wire.specs.Calls.{unwritten, written_as, writing}
-use Rattle.wire.specs.declared.Written.{Written}
+use Rattle.std.specs.Prelude.{Some, None}
+use Rattle.std.specs.Bool.{then_some}
 use Rattle.settings.specs.Columns.{count, id_at, width_at}
-use Rattle.settings.specs.Calls.{setting_at, placing}
+use Rattle.settings.specs.Calls.{placing}
 use Rattle.settings.specs.declared.Setting.{Setting}
-use Rattle.settings.specs.declared.Found.{Found}
+use Rattle.settings.specs.Answers.{Found}
+use Rattle.settings.proofs.Rows.{place_has}
+use Rattle.settings.proofs.Theorems.{rows_hold}
 use Rattle.endian.proofs.Little.{length_little}
 use Rattle.requests.specs.Requests.{get_request}
-use Rattle.requests.specs.Calls.{get_written, set_of, set_written}
+use Rattle.requests.specs.Calls.{get_written, set_of, set_found, set_written, named}
 use Rattle.requests.specs.Laws.{get_frame, SetIsRequest}
 
 -- with room a Get is written as its bytes
@@ -52,72 +54,67 @@ data_is (suc (suc zero)) id n some few = refl
 data_is (suc (suc (suc w))) id n some few = absurd (omega arith)
 
 module _ (id width n : ℕ) where
-  pub set_wide : ltb n (256 ^ width) ≡ false → set_of id width n ≡ unwritten not_allowed
-  unfolding set_of
-  set_wide e = rw e
-
-  pub set_held : ltb n (256 ^ width) ≡ true → set_of id width n ≡ written_as (frame set_code (said id 0 (little width n)))
-  unfolding set_of
-  set_held e = rw e
-
-  pub set_of_is : (room : ℕ) → width ≤ 2 → frame_room ≤ room → ltb n (256 ^ width) ≡ true → writing set_code (said id 0 (little width n)) room ≡ set_of id width n
-  unfolding set_of writing
-  set_of_is room few enough e =
+  pub set_of_is : (room : ℕ) → width ≤ 2 → frame_room ≤ room
+      → writing set_code (said id 0 (little width n)) room ≡ written_as (frame set_code (said id 0 (little width n)))
+  unfolding writing
+  set_of_is room few enough =
       let short : length (said id 0 (little width n)) ≤ 35 = omega (arith, length_little width n) in
-      rw (le-ltb room frame_room enough, e, le-ltb 35 (length (said id 0 (little width n))) short)
+      rw (le-ltb room frame_room enough, le-ltb 35 (length (said id 0 (little width n))) short)
 
-module _ (k n room : ℕ) where
-  pub set_short : room < frame_room → set_written k n room ≡ unwritten short_buffer
-  unfolding set_written
+module _ (found : Found) (n room : ℕ) where
+  pub set_short : room < frame_room → set_found found n room ≡ unwritten short_buffer
+  unfolding set_found
   set_short h = rw (lt-ltb room frame_room h)
 
-  pub set_past : frame_room ≤ room → count ≤ k → set_written k n room ≡ unwritten not_allowed
-  unfolding set_written
-  set_past enough h = rw (le-ltb room frame_room enough, le-ltb k count h)
-
-  pub set_here : frame_room ≤ room → k < count → set_written k n room ≡ set_of (id_at k) (width_at k) n
-  unfolding set_written
-  set_here enough h = rw (le-ltb room frame_room enough, lt-ltb k count h)
+  pub set_roomy : frame_room ≤ room → set_found found n room ≡ set_of found n
+  unfolding set_found
+  set_roomy enough = rw (le-ltb room frame_room enough)
 
 pub set_request_lem : SetIsRequest
-set_request_lem k n room h fits enough = set_here k n room enough h ∙ set_held (id_at k) (width_at k) n (lt-ltb n (256 ^ width_at k) fits)
+unfolding set_written placing
+set_request_lem k n room h fits enough =
+    set_roomy (placing k) n room enough ∙ rw (lt-ltb k count h, lt-ltb n (256 ^ width_at k) fits)
 
--- what is at a place
-pub record Stands (k : ℕ) (s : Setting) : Type 0 where
-  pub within : k < count
-  pub is : s ≡ setting_at k
+-- the setting at a place has that place, so what a look-up there finds is at its own
+pub found_again : (k : ℕ) (s : Setting) → placing k ≡ Some s → placing s.index ≡ Some s
+found_again k s e = ap placing (ap (λ (x : Setting). x.index) (sym (place_has k s e).1)) ∙ e
 
-pub at_found : (k : ℕ) (s : Setting) → placing k ≡ Found.At s → Stands k s
-unfolding placing
-at_found k s = by (ltb k count) refl
+-- one that is handed in, by what is at its place
+module _ (t : Setting) where
+  pub named_none : placing t.index ≡ None → named t ≡ None
+  unfolding named
+  named_none e = by (eqb (id_at t.index) t.id)
+    where
+      by : (b : Bool) → cond b (placing t.index) None ≡ None
+      by true = e
+      by false = refl
+
+  pub named_some : (here : Setting) → placing t.index ≡ Some here → named t ≡ then_some (eqb here.id t.id) here
+  unfolding named
+  named_some here e =
+      let id : here.id ≡ id_at t.index = ap (λ (x : Setting). x.id) (sym (place_has t.index here e).1) in
+      ap (λ (f : Found). cond (eqb (id_at t.index) t.id) f None) e ∙ by (eqb (id_at t.index) t.id) ∙ ap (λ (i : ℕ). then_some (eqb i t.id) here) (sym id)
+    where
+      by : (b : Bool) → cond b (Some here) None ≡ then_some b here
+      by true = refl
+      by false = refl
+
+pub named_again : (t s : Setting) → named t ≡ Some s → placing s.index ≡ Some s
+unfolding named
+named_again t s = by (eqb (id_at t.index) t.id)
   where
-    setting_of : Found → Setting
-    setting_of (Found.At here) = here
-    setting_of Found.Nothing = s
+    by : (b : Bool) → cond b (placing t.index) None ≡ Some s → placing s.index ≡ Some s
+    by true e = found_again t.index s e
+    by false e = cc
 
-    is_found : Found → Bool
-    is_found (Found.At here) = true
-    is_found Found.Nothing = false
+-- the width of a setting
+pub record Width (width : ℕ) : Type 0 where
+  pub some : 1 ≤ width
+  pub few : width ≤ 2
 
-    by : (b : Bool) → ltb k count ≡ b → cond b (Found.At (setting_at k)) Found.Nothing ≡ Found.At s → Stands k s
-    by true h e = record { within = ltb-true _ _ h; is = sym (ap setting_of e) }
-    by false h e = absurd (false≢true (ap is_found e))
-
-pub at_none : (k : ℕ) → placing k ≡ Found.Nothing → count ≤ k
-unfolding placing
-at_none k = by (ltb k count) refl
-  where
-    is_found : Found → Bool
-    is_found (Found.At here) = true
-    is_found Found.Nothing = false
-
-    by : (b : Bool) → ltb k count ≡ b → cond b (Found.At (setting_at k)) Found.Nothing ≡ Found.Nothing → count ≤ k
-    by true h e = absurd (false≢true (sym (ap is_found e)))
-    by false h e = ltb-false _ _ h
-
--- what a Set of the setting that is there gives is what is written for its place
-pub found_gives : (k n : ℕ) (s : Setting) (buffer l : List ℕ) (r : Written) → Stands k s → frame_room ≤ length buffer
-    → Gives Written (set_of s.id s.width n) buffer r l → Gives Written (set_written k n (length buffer)) buffer r l
-found_gives k n s buffer l r at enough g =
-    let same : set_of s.id s.width n ≡ set_of (id_at k) (width_at k) n = ap (λ (t : Setting). set_of t.id t.width n) at.is in
-    rw (set_here k n (length buffer) enough at.within, sym same) g
+pub width_of : (s : Setting) → placing s.index ≡ Some s → Width s.width
+width_of s e =
+    let here = place_has s.index s e in
+    let row = rows_hold s.index here.0 in
+    let is : width_at s.index ≡ s.width = ap (λ (x : Setting). x.width) here.1 in
+    record { some = rw is at row.width_some; few = rw is at row.width_most }

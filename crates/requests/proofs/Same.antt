@@ -6,7 +6,7 @@ use Prim.Native.Nat.{ℕ}
 use denote.MutBor.{MutBor}
 use contract.Lifetimes.{Lfts}
 use Rattle.laws.proofs.Promise.{gives_same}
-use Rattle.wire.specs.declared.Written.{Written}
+use Rattle.wire.specs.Answers.{Written}
 use Rattle.requests.proofs.get.Reads as get
 use Rattle.requests.specs.declared.Request.{Request}
 use Rattle.requests.proofs.set.Reads as set

@@ -1,12 +1,14 @@
 -- What each public call answers, for every input. Assumes nothing.
-use Rattle.std.specs.Prelude.{ℕ, ◌^◌, cond, ltb, eqb}
+use Rattle.std.specs.Prelude.{ℕ, ◌^◌, Some, None, cond, ltb, eqb}
 use Rattle.laws.specs.Promise.{Given}
 use Rattle.paper.specs.Numbers.{frame_room, short_buffer, not_allowed, set_code}
 use Rattle.wire.specs.Frame.{frame}
 use Rattle.endian.specs.Numbers.{little, said}
 use Rattle.wire.specs.Calls.{unwritten, written_as}
-use Rattle.wire.specs.declared.Written.{Written}
-use Rattle.settings.specs.Columns.{count, id_at, width_at}
+use Rattle.wire.specs.Answers.{Written}
+use Rattle.settings.specs.Columns.{id_at}
+use Rattle.settings.specs.Answers.{Found}
+use Rattle.settings.specs.Calls.{placing}
 use Rattle.settings.specs.declared.Setting.{Setting}
 use Rattle.requests.specs.Requests.{get_request}
 use Rattle.requests.specs.declared.Request.{Request}
@@ -15,22 +17,24 @@ use Rattle.requests.specs.declared.Request.{Request}
 unfoldable pub get_written : ℕ → ℕ → Given Written
 get_written id room = cond (ltb room frame_room) (unwritten short_buffer) (written_as (get_request id))
 
--- a Set of an id to a number in this many bytes, where there is room: 12 where they do not hold it
-unfoldable pub set_of : ℕ → ℕ → ℕ → Given Written
-set_of id width n = cond (ltb n (256 ^ width)) (written_as (frame set_code (said id 0 (little width n)))) (unwritten not_allowed)
+-- a Set of what a look-up finds, where there is room: 12 where that is nothing or its width does not hold the number
+abbrev pub set_of : Found → ℕ → Given Written
+set_of None n = unwritten not_allowed
+set_of (Some s) n = cond (ltb n (256 ^ s.width)) (written_as (frame set_code (said s.id 0 (little s.width n)))) (unwritten not_allowed)
 
--- a Set of a setting: 11, then 12 where there is no setting at the place or its width does not hold the number; it is the request of
+unfoldable pub set_found : Found → ℕ → ℕ → Given Written
+set_found found n room = cond (ltb room frame_room) (unwritten short_buffer) (set_of found n)
+
+-- a Set of the setting at a place: 11, then 12 where there is none or its width does not hold the number; it is the request of
 -- specs/Requests (the law SetIsRequest)
 unfoldable pub set_written : ℕ → ℕ → ℕ → Given Written
-set_written k n room =
-    cond (ltb room frame_room) (unwritten short_buffer)
-    (cond (ltb k count) (set_of (id_at k) (width_at k) n) (unwritten not_allowed))
+set_written k n room = set_found (placing k) n room
 
--- the place of a setting that is handed in, and one past the table where its place and its id do not belong together
-unfoldable pub place_in : Setting → ℕ
-place_in s = cond (eqb (id_at s.index) s.id) s.index count
+-- the setting at the place of one that is handed in, and none where that place and the id do not belong together
+unfoldable pub named : Setting → Found
+named s = cond (eqb (id_at s.index) s.id) (placing s.index) None
 
 -- either of them: what is asked of a board is of the id that the request names
 unfoldable pub writing : Request → ℕ → Given Written
 writing (Request.Get id) room = get_written id room
-writing (Request.Set due) room = set_written (place_in due.setting) due.number room
+writing (Request.Set due) room = set_found (named due.setting) due.number room

@@ -1,10 +1,12 @@
 -- What is proved of the definitions. Each is proved under its name in proofs/Theorems.antt. Assumes nothing.
-use Rattle.std.specs.Prelude.{ℕ, ◌/◌, ◌%◌, ◌^◌, ◌≤◌, ◌<◌, ◌≡◌, Bool, true, not, ◌&&◌, List, [], ◌∷◌, length, ltb, eqb}
+use Rattle.std.specs.Prelude.{ℕ, ◌/◌, ◌%◌, ◌^◌, ◌≤◌, ◌<◌, ◌≡◌, Ok, Err, Bool, true, not, ◌&&◌, List, [], ◌∷◌, length, ltb, eqb}
 use Rattle.std.proofs.Math.Option.{Option, none, some}
+use Rattle.paper.specs.Numbers.{number_of}
+use Rattle.paper.specs.declared.Refusal.{Refusal}
 use Rattle.laws.specs.Promise.{Given}
 use Rattle.laws.specs.Refusals.{Row, row, first_of}
 use Rattle.wire.specs.Frame.{frame}
-use Rattle.wire.specs.declared.Written.{Written}
+use Rattle.wire.specs.Answers.{Written}
 use Rattle.settings.specs.Columns.{count, id_at, width_at}
 use Rattle.requests.specs.Requests.{set_request}
 use Rattle.settings.specs.declared.Setting.{Setting}
@@ -13,13 +15,13 @@ use Rattle.requests.specs.declared.Request.{Request}
 
 -- 1. Which refusal is given: its number is that of the first row whose condition holds, and none where no condition holds; under a
 -- refusal no byte is written.
-abbrev pub number_of : Written → Option ℕ
-number_of (Written.Len len) = none
-number_of (Written.Refused number) = some number
+abbrev pub refusal_of : Written → Option ℕ
+refusal_of (Ok len) = none
+refusal_of (Err r) = some (number_of r)
 
 pub record Refuses (given : Given Written) (rows : List Row) : Type 0 where
-  pub number_is : number_of given.answer ≡ first_of rows
-  pub none_written : (number : ℕ) → given.answer ≡ Written.Refused number → given.written ≡ []
+  pub number_is : refusal_of given.answer ≡ first_of rows
+  pub none_written : (r : Refusal) → given.answer ≡ Err r → given.written ≡ []
 
 -- 11: "lent buffer too short", which is under 75 bytes
 abbrev pub is_short : ℕ → Row
@@ -45,7 +47,7 @@ WriteGivenWhen = (request : Request) (room : ℕ) → Refuses (writing request r
 
 -- 2. What is written with room: these bytes, and their number is the answer.
 abbrev pub Writes : Given Written → List ℕ → Type 0
-Writes given bytes = given ≡ record { answer = Written.Len (length bytes); written = bytes }
+Writes given bytes = given ≡ record { answer = Ok (length bytes); written = bytes }
 
 -- a Get of an id: code 7, the two bytes of the id, the low one first, and flags 00
 abbrev pub get_frame : ℕ → List ℕ

@@ -3,23 +3,24 @@
 #![tactic(auto)]
 
 ghost use Rattle.std.specs.Prelude.{◌≡◌, ◌≤◌, ◌^◌, ltb, length};
-ghost use Rattle.paper.specs.Numbers.{frame_room};
+ghost use Rattle.std.specs.Option.{ForSome};
 ghost use Rattle.laws.specs.Promise.{Gives};
-ghost use Rattle.wire.specs.declared.Written.{Written};
-ghost use Rattle.requests.specs.Calls.{get_written, set_of, set_written, place_in, writing};
+ghost use Rattle.wire.specs.Answers.{Written};
+ghost use Rattle.settings.specs.Calls.{placing};
+ghost use Rattle.requests.specs.Calls.{get_written, set_found, set_written, named, writing};
 
-use settings::{Found, Setting};
-use wire::Written;
+use paper::Refusal;
+use settings::Setting;
 
 // A Set: the setting, and the number that is wanted for it.
-#[derive(Clone, Copy)]
+#[derive(Clone, Copy, PartialEq, Eq)]
 pub struct Wanted {
     pub setting: Setting,
     pub number: u16,
 }
 
 // What the box asks: a Get of an id, or a Set.
-#[derive(Clone, Copy)]
+#[derive(Clone, Copy, PartialEq, Eq)]
 pub enum Request {
     Get(u16),
     Set(Wanted),
@@ -27,47 +28,55 @@ pub enum Request {
 
 // Writes a request to the front of `out`. Refuses 11 under 75 bytes of room, then 12 for a Set of no setting, of one whose place and id do
 // not belong together, or of a number that its width does not hold.
-pub fn write(request: Request, out: &mut [u8]) -> Written
+pub fn write(request: Request, out: &mut [u8]) -> Result<usize, Refusal>
     ensures { Gives Written (writing request (length out.old)) out.old result out.new }
 {
     match request {
         Request::Get(id) => get(id, out),
-        Request::Set(wanted) => set(place_of(wanted.setting), wanted.number, out),
+        Request::Set(wanted) => set_found(named(wanted.setting), wanted.number, out),
     }
 }
 
-// Returns the place of a setting, and a place past the table where its place and its id do not belong together.
-fn place_of(setting: Setting) -> usize
-    ensures { result ≡ place_in setting }
+// Returns the setting at the place of one that is handed in, if it has its id.
+fn named(setting: Setting) -> Option<Setting>
+    ensures { result ≡ named setting }
 {
-    let index = setting.index;
-    if settings::setting_at(index).id == setting.id {
-        return index;
-    }
-    settings::COUNT
+    let here = settings::at(setting.index)?;
+    (here.id == setting.id).then_some(here)
 }
 
 // Writes a Get of an id to the front of `out`. Refuses 11 under 75 bytes of room.
-pub fn get(id: u16, out: &mut [u8]) -> Written
+pub fn get(id: u16, out: &mut [u8]) -> Result<usize, Refusal>
     ensures { Gives Written (get_written id (length out.old)) out.old result out.new }
 {
-    let which = endian::bytes_16(id);
-    let bytes = [which[0], which[1], paper::NO_FLAGS];
-    wire::write_frame(paper::GET_CODE, &bytes, out)
+    let [low, high] = endian::bytes_16(id);
+    wire::write_frame(paper::GET_CODE, &[low, high, paper::NO_FLAGS], out)
 }
 
 // Writes a Set of the setting at a place to the front of `out`. Refuses 11 under 75 bytes of room, then 12 for a place past the table or a
 // number that the setting's width does not hold.
-pub fn set(index: usize, number: u16, out: &mut [u8]) -> Written
+pub fn set(index: usize, number: u16, out: &mut [u8]) -> Result<usize, Refusal>
     ensures { Gives Written (set_written index number (length out.old)) out.old result out.new }
 {
+    set_found(settings::at(index), number, out)
+}
+
+// Writes a Set of what a look-up has found.
+fn set_found(found: Option<Setting>, number: u16, out: &mut [u8]) -> Result<usize, Refusal>
+    requires { ForSome found (λ s. placing s.index ≡ Some s) }
+    ensures { Gives Written (set_found found number (length out.old)) out.old result out.new }
+{
     if out.len() < paper::FRAME_ROOM {
-        return Written::Refused(paper::SHORT_BUFFER);
+        return Err(Refusal::ShortBuffer);
     }
-    match settings::at(index) {
-        Found::At(setting) => set_of(setting.id, setting.width, number, out),
-        Found::Nothing => Written::Refused(paper::NOT_ALLOWED),
+    let setting = found.ok_or(Refusal::NotAllowed)?;
+    if !holds(setting.width, number) {
+        return Err(Refusal::NotAllowed);
     }
+    let [low, high] = endian::bytes_16(setting.id);
+    let [first, second] = endian::bytes_16(number);
+    let bytes = [low, high, paper::NO_FLAGS, first, second];
+    wire::write_frame(paper::SET_CODE, &bytes[..paper::FRONT + setting.width], out)
 }
 
 // Returns whether a width of one or two bytes holds a number.
@@ -76,18 +85,4 @@ fn holds(width: usize, number: u16) -> bool
     ensures { result ≡ ltb number (256 ^ width) }
 {
     (width == 2) | (number < 256)
-}
-
-// Writes a Set of an id to a number in one or two bytes, where there is room for every frame.
-fn set_of(id: u16, width: usize, number: u16, out: &mut [u8]) -> Written
-    requires { (1 ≤ width) × (width ≤ 2) × (frame_room ≤ length out.old) }
-    ensures { Gives Written (set_of id width number) out.old result out.new }
-{
-    if !holds(width, number) {
-        return Written::Refused(paper::NOT_ALLOWED);
-    }
-    let which = endian::bytes_16(id);
-    let value = endian::bytes_16(number);
-    let bytes = [which[0], which[1], paper::NO_FLAGS, value[0], value[1]];
-    wire::write_frame(paper::SET_CODE, &bytes[..paper::FRONT + width], out)
 }

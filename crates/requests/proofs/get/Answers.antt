@@ -1,9 +1,7 @@
 -- `requests::get` meets its contract. Assumes nothing.
-use mathlib.Core.Path.{sym}
-use lib.ListN.{length}
+use Rattle.std.proofs.Common.{sym, length}
 use Rattle.requests.proofs.Asking.{get_is}
 use Rattle.requests.proofs.get.Goals as goal
 
 pub returns : goal.returns
-returns c =
-    rw (sym (get_is c.args.id (length c.args.out.now))) (rw c.bytes_16-which.ensures at c.write_frame.ensures)
+returns c = rw (sym (get_is c.args.id (length c.args.out.now))) (rw c.bytes_16.ensures at c.write_frame.ensures)
