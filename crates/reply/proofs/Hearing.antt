@@ -7,28 +7,28 @@ use borrow.Author.Tests.{le-ltb}
 use lib.ListN.{length}
 use Rattle.endian.specs.Numbers.{little, from_little, said}
 use Rattle.endian.proofs.Theorems.{little_is_read}
-use Rattle.reply.specs.Replies.{flag_of, fronted, front, telling, naming, numbering}
+use Rattle.std.specs.Prelude.{Ok}
+use Rattle.reply.specs.Replies.{flag_of, status_of, front, telling, named, numbered}
 use Rattle.reply.specs.Calls.{parsing}
 use Rattle.reply.specs.Laws.{SaidIsRead, DoneIsRead, UnknownIsRead, ErrorIsRead, PingIsRead}
 use Rattle.reply.specs.declared.Status.{Status}
 use Rattle.reply.specs.declared.Reply.{Reply}
-use Rattle.reply.specs.declared.kinds.Front.{Front}
 
 -- each status has a flag of its own
-flag_back : (status : Status) (id : ℕ) → fronted id (flag_of status) ≡ Front.Says status id
-unfolding fronted
-flag_back Status.Good id = refl
-flag_back Status.UnknownId id = refl
-flag_back Status.NotSupported id = refl
-flag_back Status.ParameterError id = refl
+flag_back : (status : Status) → status_of (flag_of status) ≡ Ok status
+unfolding status_of
+flag_back Status.Good = refl
+flag_back Status.UnknownId = refl
+flag_back Status.NotSupported = refl
+flag_back Status.ParameterError = refl
 
 told_back : (kind : Status → ℕ → Reply) (status : Status) (id : ℕ) (value : List ℕ) → id < 256 ^ 2
-    → telling kind (said id (flag_of status) value) ≡ kind status id
-unfolding telling front
+    → telling kind (said id (flag_of status) value) ≡ Ok (kind status id)
+unfolding front
 told_back kind status id value h =
     let long : 3 ≤ suc (suc (suc (length value))) = omega arith in
     let number : from_little (little 2 id) ≡ id = little_is_read 2 id h in
-    rw (le-ltb _ 3 long, number, flag_back status id)
+    rw (le-ltb _ 3 long, number, flag_back status)
 
 pub said_read : SaidIsRead
 unfolding parsing
@@ -45,13 +45,13 @@ unfolding parsing
 done_read bytes = refl
 
 pub unknown_read : UnknownIsRead
-unfolding parsing naming
+unfolding parsing named
 unknown_read command = refl
 
 pub error_read : ErrorIsRead
-unfolding parsing numbering
-error_read code h = ap Reply.Error (little_is_read 2 code h)
+unfolding parsing numbered
+error_read code h = ap (λ n. Ok (Reply.Error n)) (little_is_read 2 code h)
 
 pub ping_read : PingIsRead
-unfolding parsing numbering
-ping_read version h = ap Reply.Ping (little_is_read 2 version h)
+unfolding parsing numbered
+ping_read version h = ap (λ n. Ok (Reply.Ping n)) (little_is_read 2 version h)

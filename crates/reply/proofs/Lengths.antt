@@ -7,29 +7,31 @@ use borrow.Author.Tests.{ltb-false}
 use lib.ListN.{length}
 use lib.Dec.{eqb, ltb}
 use Rattle.laws.proofs.Bools.{pick}
-use Rattle.reply.specs.Replies.{front, telling, naming, numbering, about}
+use Rattle.std.specs.Prelude.{None, Result}
+use Rattle.paper.specs.declared.Refusal.{Refusal}
+use Rattle.reply.specs.Answers.{Parsed, Heeded}
+use Rattle.reply.specs.Replies.{front, kinded, telling, named, numbered, about_parsed}
 use Rattle.reply.specs.Calls.{parsing, heeding}
 use Rattle.reply.specs.Laws.{HeededIsLong}
 use Rattle.reply.specs.declared.Status.{Status}
 use Rattle.reply.specs.declared.Reply.{Reply}
-use Rattle.reply.specs.declared.Heeded.{Heeded}
 
 module _ (code id command : ℕ) (bytes : List ℕ) (short : ltb (length bytes) 3 ≡ true) where
-  abbrev Waits : Reply → Type 0
-  Waits r = about id r ≡ Heeded.Waits
+  abbrev Waits : Parsed → Type 0
+  Waits r = about_parsed id r ≡ None
 
   none_told : (kind : Status → ℕ → Reply) → Waits (telling kind bytes)
-  unfolding telling front
+  unfolding front
   none_told kind = rw short
 
-  short_waits : heeding code id command bytes ≡ Heeded.Waits
-  unfolding heeding parsing naming numbering
+  short_waits : heeding code id command bytes ≡ None
+  unfolding heeding parsing named numbered
   short_waits =
-      pick (λ h. h ≡ Heeded.Waits) (eqb command code)
+      pick (λ (h : Heeded). h ≡ None) (eqb command code)
       (pick Waits (eqb command 1) refl
-      (pick Waits (eqb command 3) (pick Waits (eqb (length bytes) 1) refl refl)
-      (pick Waits (eqb command 4) (pick Waits (eqb (length bytes) 2) refl refl)
-      (pick Waits (eqb command 5) (pick Waits (eqb (length bytes) 2) refl refl)
+      (pick Waits (eqb command 3) (pick (λ (r : Result ℕ Refusal). Waits (kinded Reply.Unknown r)) (eqb (length bytes) 1) refl refl)
+      (pick Waits (eqb command 4) (pick (λ (r : Result ℕ Refusal). Waits (kinded Reply.Error r)) (eqb (length bytes) 2) refl refl)
+      (pick Waits (eqb command 5) (pick (λ (r : Result ℕ Refusal). Waits (kinded Reply.Ping r)) (eqb (length bytes) 2) refl refl)
       (pick Waits (eqb command 7) (none_told Reply.Get)
       (pick Waits (eqb command 8) (none_told Reply.Set)
       (pick Waits (eqb command 0xA) (none_told Reply.Async) refl)))))))

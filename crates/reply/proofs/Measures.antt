@@ -17,6 +17,8 @@ use Rattle.endian.proofs.Theorems.{little_is_read, complement_is_read}
 use Rattle.reply.specs.Calls.{showing}
 use Rattle.who.specs.Values.{read_only}
 use Rattle.who.specs.declared.Readings.{Readings}
+use Rattle.std.specs.Prelude.{Ok}
+use Rattle.reply.specs.Answers.{Showed}
 use Rattle.reply.specs.declared.Shown.{Shown}
 use Rattle.reply.specs.Laws.{quotient, Shows, in_volts_lem, in_amperes_lem, in_fine_amperes_lem, in_amp_hours_lem, in_percent_lem, measured, BoardIsShown}
 use Rattle.reply.proofs.Showing.{shown_as}
@@ -37,25 +39,25 @@ wide_back : (x : ℤ) → 2 * mag x < 256 ^ 4 → signed 4 (from_little (little 
 wide_back x h = ap (signed 4) (little_is_read 4 (complement 4 x) (wide_within x h)) ∙ complement_is_read 4 x (leb-true 1 4 refl) h
 
 -- the value that a board sends, as it is shown
-sent_shown : (id width n : ℕ) (answer : Shown) → Shows id (little width n) answer → showing id (little width n) ≡ answer
+sent_shown : (id width n : ℕ) (answer : Showed) → Shows id (little width n) answer → showing id (little width n) ≡ answer
 sent_shown id width n answer = (shown_as id (little width n) answer (record { below = bytes_little width n })).1
 
 module _ (x : ℤ) (h : 2 * mag x < 256 ^ 2) where
-  volts_shown : showing paper.voltage_id (little 2 (complement 2 x)) ≡ Shown.Volts (quotient x 100)
-  volts_shown = sent_shown _ 2 _ _ (in_volts_lem refl refl) ∙ ap (λ (z : ℤ). Shown.Volts (quotient z 100)) (narrow_back x h)
+  volts_shown : showing paper.voltage_id (little 2 (complement 2 x)) ≡ Ok (Shown.Volts (quotient x 100))
+  volts_shown = sent_shown _ 2 _ _ (in_volts_lem refl refl) ∙ ap (λ (z : ℤ). Ok (Shown.Volts (quotient z 100))) (narrow_back x h)
 
-  amperes_shown : showing paper.current_id (little 2 (complement 2 x)) ≡ Shown.Amperes (quotient x 10)
-  amperes_shown = sent_shown _ 2 _ _ (in_amperes_lem refl refl) ∙ ap (λ (z : ℤ). Shown.Amperes (quotient z 10)) (narrow_back x h)
+  amperes_shown : showing paper.current_id (little 2 (complement 2 x)) ≡ Ok (Shown.Amperes (quotient x 10))
+  amperes_shown = sent_shown _ 2 _ _ (in_amperes_lem refl refl) ∙ ap (λ (z : ℤ). Ok (Shown.Amperes (quotient z 10))) (narrow_back x h)
 
 module _ (x : ℤ) (h : 2 * mag x < 256 ^ 4) where
-  fine_shown : showing paper.fine_id (little 4 (complement 4 x)) ≡ Shown.Amperes (quotient x 1000)
-  fine_shown = sent_shown _ 4 _ _ (in_fine_amperes_lem refl refl) ∙ ap (λ (z : ℤ). Shown.Amperes (quotient z 1000)) (wide_back x h)
+  fine_shown : showing paper.fine_id (little 4 (complement 4 x)) ≡ Ok (Shown.Amperes (quotient x 1000))
+  fine_shown = sent_shown _ 4 _ _ (in_fine_amperes_lem refl refl) ∙ ap (λ (z : ℤ). Ok (Shown.Amperes (quotient z 1000))) (wide_back x h)
 
-  amp_hours_shown : showing paper.consumed_id (little 4 (complement 4 x)) ≡ Shown.AmpHours (quotient x 10)
-  amp_hours_shown = sent_shown _ 4 _ _ (in_amp_hours_lem refl refl) ∙ ap (λ (z : ℤ). Shown.AmpHours (quotient z 10)) (wide_back x h)
+  amp_hours_shown : showing paper.consumed_id (little 4 (complement 4 x)) ≡ Ok (Shown.AmpHours (quotient x 10))
+  amp_hours_shown = sent_shown _ 4 _ _ (in_amp_hours_lem refl refl) ∙ ap (λ (z : ℤ). Ok (Shown.AmpHours (quotient z 10))) (wide_back x h)
 
-percent_shown : (n : ℕ) → n < 256 ^ 2 → showing paper.charge_id (little 2 n) ≡ Shown.Percent (quotient (pos n) 100)
-percent_shown n h = sent_shown _ 2 _ _ (in_percent_lem refl refl) ∙ ap (λ (m : ℕ). Shown.Percent (quotient (pos m) 100)) (little_is_read 2 n h)
+percent_shown : (n : ℕ) → n < 256 ^ 2 → showing paper.charge_id (little 2 n) ≡ Ok (Shown.Percent (quotient (pos n) 100))
+percent_shown n h = sent_shown _ 2 _ _ (in_percent_lem refl refl) ∙ ap (λ (m : ℕ). Ok (Shown.Percent (quotient (pos m) 100))) (little_is_read 2 n h)
 
 -- what a board answers to a Get, where it answers with a value, is shown as it was measured
 abbrev Seen : Readings → ℕ → Option (List ℕ) → Type 0

@@ -18,6 +18,7 @@ use Rattle.answers.specs.declared.Core.{Core}
 use Rattle.answers.specs.declared.Outcome.{Outcome}
 use Rattle.answers.proofs.Telling.{from_small}
 use Rattle.answers.proofs.Theorems.{outcome_and_reply}
+use Rattle.std.specs.Prelude.{Ok}
 use Rattle.reply.specs.Replies.{flag_of, rest}
 use Rattle.reply.specs.Calls.{parsing}
 use Rattle.reply.specs.Laws.{has_status, Flagged, as_good, as_7, as_8, as_9, as_10, reply_of, FlagIsRead, Known, OutcomeIsRead}
@@ -26,10 +27,10 @@ use Rattle.reply.proofs.Hearing.{said_read}
 
 -- the flag of a status, under each of the three codes
 coded : (status : Status) (flag : ℕ) → flag ≡ flag_of status → (code id : ℕ) (value : List ℕ) → has_status code ≡ true → id < 256 ^ 2
-    → parsing code (said id flag value) ≡ reply_of code status id
+    → parsing code (said id flag value) ≡ Ok (reply_of code status id)
 coded status flag e code id value stated room =
     let heard = said_read status id value room in
-    let is : (c : ℕ) → Type 0 = λ c. parsing c (said id flag value) ≡ reply_of c status id in
+    let is : (c : ℕ) → Type 0 = λ c. parsing c (said id flag value) ≡ Ok (reply_of c status id) in
     let same : (c : ℕ) → parsing c (said id flag value) ≡ parsing c (said id (flag_of status) value) = λ c. ap (λ (f : ℕ). parsing c (said id f value)) e in
     ⊎_elim (λ p. subst is (sym (eqb-true code 7 p)) (same 7 ∙ heard.get_heard))
     (λ q.

@@ -5,14 +5,12 @@ use Prim.Native.Nat.{ℕ}
 use denote.Ref.{Bor}
 use contract.Lifetimes.{Lfts}
 use Rattle.laws.proofs.Promise.{equal_same}
-use Rattle.reply.specs.declared.Reply.{Reply}
-use Rattle.reply.specs.declared.Heeded.{Heeded}
-use Rattle.reply.specs.declared.Shown.{Shown}
+use Rattle.reply.specs.Answers.{Parsed, Heeded, Showed}
 use Rattle.reply.proofs.read.Reads as read
 use Rattle.reply.proofs.heed.Reads as heed
 use Rattle.reply.proofs.show.Reads as show
 
-pub read_same : (κs : Lfts 1) (command : ℕ) (bytes : Bor (List ℕ)) (r r' : Reply) → read.Post κs (command, (bytes, tt)) r (command, (bytes, tt))
+pub read_same : (κs : Lfts 1) (command : ℕ) (bytes : Bor (List ℕ)) (r r' : Parsed) → read.Post κs (command, (bytes, tt)) r (command, (bytes, tt))
     → read.Post κs (command, (bytes, tt)) r' (command, (bytes, tt)) → r ≡ r'
 read_same κs command bytes r r' met met' = equal_same met met'
 
@@ -21,6 +19,6 @@ pub heed_same : (κs : Lfts 1) (code id command : ℕ) (bytes : Bor (List ℕ)) 
     → heed.Post κs (code, (id, (command, (bytes, tt)))) r' (code, (id, (command, (bytes, tt)))) → r ≡ r'
 heed_same κs code id command bytes r r' met met' = equal_same met met'
 
-pub show_same : (κs : Lfts 1) (id : ℕ) (value : Bor (List ℕ)) (r r' : Shown) → show.Post κs (id, (value, tt)) r (id, (value, tt))
+pub show_same : (κs : Lfts 1) (id : ℕ) (value : Bor (List ℕ)) (r r' : Showed) → show.Post κs (id, (value, tt)) r (id, (value, tt))
     → show.Post κs (id, (value, tt)) r' (id, (value, tt)) → r ≡ r'
 show_same κs id value r r' met met' = equal_same met met'

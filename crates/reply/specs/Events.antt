@@ -10,6 +10,10 @@ pub data Event : Type 0 where
   refused_frame : Event
   no_answer : Event
 
+-- how many times in all a Get is sent to which no answer comes (ours)
+abbrev pub most_tries : ℕ
+most_tries = 3
+
 -- events whose data are bytes, as those of every frame read from the stream are
 pub data OnStream : List Event → Type 0 where
   nothing : OnStream []

@@ -1,10 +1,3 @@
-// The numbers that document 01 fixes for what the box parses and shows.
-
-// The widths of values, in bytes.
-pub(crate) const TWO: usize = 2;
-
-pub(crate) const FOUR: usize = 4;
-
 // How many steps a unit has, by the step that document 01 gives: 0.01 V, 0.1 A, 0.001 A, 0.1 Ah, 0.01 %.
 pub(crate) const STEPS_OF_VOLT: u16 = 100;
 
