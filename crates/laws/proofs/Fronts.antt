@@ -12,7 +12,7 @@ use Rattle.laws.specs.Promise.{overlaid, front_of}
 use Rattle.laws.proofs.Promise.{overlaid_front}
 use Rattle.laws.proofs.Lists.{every_zero, every_replicate, padded, take_replicate}
 
-drop_replicate : (k n a : ℕ) → drop k (replicate n a) ≡ replicate (n - k) a
+pub drop_replicate : (k n a : ℕ) → drop k (replicate n a) ≡ replicate (n - k) a
 drop_replicate zero n a = let same : n ≡ n - 0 = omega arith in ap (λ (m : ℕ). replicate m a) same
 drop_replicate (suc k) zero a = let none : 0 ≡ 0 - suc k = omega arith in ap (λ (m : ℕ). replicate m a) none
 drop_replicate (suc k) (suc n) a = let same : n - k ≡ suc n - suc k = omega arith in drop_replicate k n a ∙ ap (λ (m : ℕ). replicate m a) same

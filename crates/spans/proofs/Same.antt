@@ -13,6 +13,11 @@ use Rattle.spans.proofs.copy.Reads as copy
 use Rattle.spans.proofs.all.Reads as all
 use Rattle.spans.proofs.first.Reads as first
 use Rattle.spans.proofs.find.Reads as find
+use Rattle.spans.proofs.Few.of.Reads as of
+use Rattle.spans.proofs.Few.as_slice.Reads as as-slice
+use Rattle.spans.proofs.Few.is_tidy.Reads as is-tidy
+use Rattle.spans.proofs.Few.put.Reads as put
+use Rattle.spans.specs.declared.Few.{Few}
 
 pub copy_same : (κs : Lfts 2) (from : Bor (List ℕ)) (to left left' : MutBor (List ℕ)) (r r' : ℕ)
     → copy.Post κs (from, (to, tt)) r (from, (left, tt)) → copy.Post κs (from, (to, tt)) r' (from, (left', tt))
@@ -36,3 +41,18 @@ module _
 pub find_same : (κs : Lfts 1) (bytes : Bor (List ℕ)) (wanted r r' : ℕ)
     → find.Post κs (bytes, (wanted, tt)) r (bytes, (wanted, tt)) → find.Post κs (bytes, (wanted, tt)) r' (bytes, (wanted, tt)) → r ≡ r'
 find_same κs bytes wanted r r' met met' = met.1 ∙ sym met'.1
+
+-- at any room
+module _ (N : ℕ) (fits : _) (κs : Lfts 2) (few : Bor (Few N)) (bytes : Bor (List ℕ)) where
+  pub of_same : (r r' : Few N) → of.Post N fits κs (bytes, tt) r (bytes, tt) → of.Post N fits κs (bytes, tt) r' (bytes, tt) → r ≡ r'
+  of_same r r' met met' = met ∙ sym met'
+
+  pub is_tidy_same : (r r' : Bool) → is-tidy.Post N fits κs (few, tt) r (few, tt) → is-tidy.Post N fits κs (few, tt) r' (few, tt) → r ≡ r'
+  is_tidy_same r r' met met' = met ∙ sym met'
+
+  pub as_slice_same : (r r' : Bor (List ℕ)) → as-slice.Post N fits κs (few, tt) r (few, tt) → as-slice.Post N fits κs (few, tt) r' (few, tt) → r.now ≡ r'.now
+  as_slice_same r r' met met' = met ∙ sym met'
+
+module _ (N : ℕ) (fits : _) (κs : Lfts 3) (few : Bor (Few N)) (more : Bor (List ℕ)) where
+  pub put_same : (r r' : Few N) → put.Post N fits κs (few, (more, tt)) r (few, (more, tt)) → put.Post N fits κs (few, (more, tt)) r' (few, (more, tt)) → r ≡ r'
+  put_same r r' met met' = met ∙ sym met'

@@ -1,9 +1,10 @@
 // Bytes copied and searched. Every call takes anything.
 #![tactic(auto)]
 
-ghost use Rattle.std.specs.Prelude.{ℕ, Bool, ◌≤◌, ◌≡◌, ◌==◌, ◌&&◌, eqb, leb, length, min, take};
+ghost use Rattle.std.specs.Prelude.{ℕ, Bool, ◌≤◌, ◌≡◌, ◌==◌, ◌&&◌, eqb, leb, length, min, take, ◌++◌};
 ghost use Rattle.laws.specs.Lists.{before, every};
 ghost use Rattle.laws.specs.Promise.{overlaid};
+ghost use Rattle.spans.specs.Few.{few, those, tidy};
 
 // A kind of byte: a test that some bytes pass.
 pub trait Kind: Copy {
@@ -81,4 +82,55 @@ pub fn find(bytes: &[u8], wanted: u8) -> usize
     ensures first { result ≡ before (λ b. b == wanted) bytes.now }
 {
     first(bytes, Byte(wanted))
+}
+
+// At most N bytes: they fill the front of the array, and the rest of it is 0. A caller can make up one that is not so, and every call takes
+// it: `is_tidy` tells.
+#[derive(Clone, Copy, PartialEq, Eq)]
+pub struct Few<const N: usize> {
+    pub len: usize,
+    pub bytes: [u8; N],
+}
+
+impl<const N: usize> Few<N> {
+    // Returns these bytes, as many as there is room for.
+    pub fn of(bytes: &[u8]) -> Few<N>
+        ensures { result ≡ few N bytes.now }
+    {
+        let mut front = [0u8; N];
+        let len = copy(bytes, &mut front);
+        Few { len, bytes: front }
+    }
+
+    // Returns the bytes.
+    pub fn as_slice(&self) -> &[u8]
+        ensures { result.now ≡ those self.now }
+    {
+        &self.bytes[..self.len.min(N)]
+    }
+
+    // Returns whether there are no more bytes than there is room for, with 0 past them.
+    pub fn is_tidy(&self) -> bool
+        ensures { result ≡ tidy self.now }
+    {
+        if N < self.len {
+            return false;
+        }
+        let whole = &self.bytes[..];
+        all(&whole[self.len..], Byte(0))
+    }
+
+    // Returns these bytes with more after them, as many as there is room for.
+    pub fn put(&self, more: &[u8]) -> Few<N>
+        ensures { result ≡ few N (those self.now ++ more.now) }
+    {
+        let mut bytes = [0u8; N];
+        let len = copy(self.as_slice(), &mut bytes);
+        let whole = &mut bytes[..];
+        let more = copy(more, &mut whole[len..]);
+        Few {
+            len: len + more,
+            bytes,
+        }
+    }
 }
