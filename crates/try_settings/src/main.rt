@@ -3,10 +3,8 @@
 // frame.
 #![tactic(auto)]
 
-mod by_hand;
 mod digits;
 mod ids;
-mod say;
 mod sweep;
 mod sweeps;
 

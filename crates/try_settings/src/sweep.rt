@@ -1,158 +1,125 @@
 // All wished numbers of one setting beside one number of its partner: `nearest` and `set`, compared with a plain search that goes up
 // through the numbers. What is accepted is what `set` accepts; the printed line shows it as runs.
-use crate::{by_hand, say};
-use settings::Number;
+use paper::Refusal;
+use settings::Setting;
 use std::io;
-use tables::{Answer, Table};
+use tables::{Change, Denied, Table};
 
+// How many wished numbers there are.
 const WISHED: usize = 65536;
 
-// A number farther from every number than any two numbers are apart.
-const NOWHERE: usize = 1000000;
-
-const NUMBER_NOT_ALLOWED: u8 = 10;
-
-// A setting beside its partner's number. The two of a pair both hold that number in the table, since equal numbers agree.
+// A setting beside its partner's number, which is unused where it has none. The two of a pair both hold that number in the table, since
+// equal numbers agree.
 #[derive(Clone, Copy)]
 pub struct Case {
     pub table: Table,
-    pub place: usize,
-    pub id: u16,
+    pub setting: Setting,
     pub partner: u16,
 }
 
-// On the way up: the last accepted number so far, the next one from here, and how many wished numbers agreed.
-#[derive(Clone, Copy)]
-struct Seen {
-    below: usize,
-    above: usize,
-    agreed: usize,
-}
-
-// Prints the line of one sweep.
-pub fn line(rt: &impl Print, case: Case) -> io::Result<()> {
-    let first = next(case, 0);
-    say::text(rt, b"@ takes #", [case.id as usize, first, 0, 0])?;
-    let agreed = up(rt, case, first)?;
-    say::text(
-        rt,
-        b"; wished numbers that agree #, that differ #\n",
-        [agreed, say::apart(WISHED, agreed), 0, 0],
-    )
-}
-
-// Goes up through the wished numbers and counts those on which calls and search agree.
-fn up(rt: &impl Print, case: Case, first: usize) -> io::Result<usize> {
-    let mut seen = Seen {
-        below: NOWHERE,
-        above: first,
-        agreed: 0,
-    };
-    let mut wished = 0;
-    while wished < WISHED {
-        seen = turn(rt, case, seen, wished)?;
-        wished += 1;
+impl Case {
+    // Prints the line of one sweep.
+    pub fn line(self, rt: &impl Print) -> io::Result<()> {
+        print!(rt; "{:04X} takes", self.setting.id)?;
+        self.runs(rt)?;
+        let agree = self.agreeing();
+        let differ = WISHED.abs_diff(agree);
+        println!(rt; "; wished numbers that agree {agree}, that differ {differ}")
     }
-    Ok(seen.agreed)
-}
 
-// Compares the calls with the search for one wished number.
-fn turn(rt: &impl Print, case: Case, seen: Seen, wished: usize) -> io::Result<Seen> {
-    let above = ahead(rt, case, seen, wished)?;
-    let below = last(seen.below, above, wished);
-    let is_due = agrees(
-        case,
-        say::short(wished),
-        say::short(closer(wished, below, above)),
-    );
-    Ok(Seen {
-        below,
-        above,
-        agreed: say::more(seen.agreed, is_due),
-    })
-}
-
-// Returns the next accepted number from here. Where it jumps, a run has ended.
-fn ahead(rt: &impl Print, case: Case, seen: Seen, wished: usize) -> io::Result<usize> {
-    if wished <= seen.above {
-        return Ok(seen.above);
-    }
-    let above = next(case, wished);
-    if above != wished {
-        jump(rt, seen.below, above)?;
-    }
-    Ok(above)
-}
-
-// Prints the end of a run and the start of the next. No run reaches 65535, so each has its end here.
-fn jump(rt: &impl Print, below: usize, above: usize) -> io::Result<()> {
-    if above < WISHED {
-        say::text(rt, b"..# #", [below, above, 0, 0])
-    } else {
-        say::one(rt, b"..#", below)
-    }
-}
-
-// Returns the first accepted number from here on.
-fn next(case: Case, from: usize) -> usize {
-    let mut n = from;
-    while n < WISHED {
-        if accepts(case, say::short(n)) {
-            return n;
+    // Prints the runs of accepted numbers. None reaches 65535, so each has its end here.
+    fn runs(self, rt: &impl Print) -> io::Result<()> {
+        let mut last = None;
+        for number in 0..=u16::MAX {
+            if self.accepts(number) {
+                if last.is_none() {
+                    print!(rt; " {number}")?;
+                }
+                last = Some(number);
+            } else if let Some(end) = last.take() {
+                print!(rt; "..{end}")?;
+            }
         }
-        n += 1;
+        Ok(())
     }
-    NOWHERE
+
+    // Goes up through the wished numbers and counts those on which calls and search agree. On the way it knows the last accepted number so
+    // far, and the next one from here.
+    fn agreeing(self) -> usize {
+        let mut below = None;
+        let mut above = self.next(0);
+        let mut agreed = 0;
+        for number in 0..WISHED {
+            let wished = number as u16;
+            if above.is_some_and(|number| number < wished) {
+                above = self.next(wished);
+            }
+            if above == Some(wished) {
+                below = above;
+            }
+            if closer(wished, below, above).is_some_and(|due| self.agrees(wished, due)) {
+                agreed += 1;
+            }
+        }
+        agreed
+    }
+
+    // Returns the first accepted number from here on.
+    fn next(self, from: u16) -> Option<u16> {
+        (from..=u16::MAX).find(|number| self.accepts(*number))
+    }
+
+    // Returns whether a Set of the number is accepted.
+    fn accepts(self, number: u16) -> bool {
+        self.table.set(self.setting.index, number).answer.is_ok()
+    }
+
+    // Returns whether both calls answer the due number, which is the wished one exactly where that is accepted, and then the table is allowed.
+    fn agrees(self, wished: u16, due: u16) -> bool {
+        let Case {
+            table,
+            setting,
+            partner,
+        } = self;
+        let change = table.set(setting.index, wished);
+        settings::nearest(setting.id, wished, partner) == Ok(due)
+            && change == self.due_change(wished, due)
+            && (change.answer.is_err() || change.table.is_allowed())
+    }
+
+    // Returns the change that a Set of the wished number has to make: of that setting alone where the number is due, else of nothing, with
+    // the due number beside the refusal.
+    fn due_change(self, wished: u16, due: u16) -> Change {
+        if due == wished {
+            Change {
+                answer: Ok(()),
+                table: with(self.table, self.setting, wished),
+            }
+        } else {
+            Change {
+                answer: Err(Denied {
+                    refusal: Refusal::NumberNotAllowed,
+                    nearest: due,
+                }),
+                table: self.table,
+            }
+        }
+    }
 }
 
-// Returns whether a Set of the number is accepted.
-fn accepts(case: Case, number: u16) -> bool {
-    let change = case.table.set(case.place, number);
-    let answer = change.answer;
-    match answer {
-        Answer::Accepted => true,
-        Answer::Refused { .. } => false,
+// Returns a table with a number put in, allowed or not.
+pub fn with(table: Table, setting: Setting, number: u16) -> Table {
+    let mut after = table;
+    if let Some(place) = after.numbers.get_mut(setting.index) {
+        *place = number;
     }
-}
-
-// Returns the last accepted number up to here.
-fn last(below: usize, above: usize, wished: usize) -> usize {
-    if above == wished { wished } else { below }
+    after
 }
 
 // Returns the nearer of two numbers, the smaller on a tie.
-fn closer(wished: usize, below: usize, above: usize) -> usize {
-    if say::apart(wished, above) < say::apart(wished, below) {
-        above
-    } else {
-        below
-    }
-}
-
-// Returns whether both calls answer the due number, which is the wished one exactly where that is accepted.
-fn agrees(case: Case, wished: u16, due: u16) -> bool {
-    let table = case.table;
-    let change = table.set(case.place, wished);
-    let answer = change.answer;
-    is_number(settings::nearest(case.id, wished, case.partner), due)
-        & is_answer(answer, wished, due)
-        & by_hand::is_right(table, change, case.place, wished)
-}
-
-// Returns whether an answer is the number that is due.
-fn is_number(answer: Number, due: u16) -> bool {
-    match answer {
-        Number::Is(n) => n == due,
-        Number::Refused(_) => false,
-    }
-}
-
-// Returns whether an answer is right: accepted where the wished number is due, else refused 10 with the one that is.
-fn is_answer(answer: Answer, wished: u16, due: u16) -> bool {
-    match answer {
-        Answer::Accepted => due == wished,
-        Answer::Refused { number, nearest } => {
-            (due != wished) & (number == NUMBER_NOT_ALLOWED) & (nearest == due)
-        }
-    }
+fn closer(wished: u16, below: Option<u16>, above: Option<u16>) -> Option<u16> {
+    [below, above]
+        .into_iter()
+        .flatten()
+        .min_by_key(|number| number.abs_diff(wished))
 }
