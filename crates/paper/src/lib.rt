@@ -42,7 +42,7 @@ pub const COLON: u8 = b':';
 
 pub const NEWLINE: u8 = b'\n';
 
-pub const FRAME_TOTAL: usize = 0x55;
+pub const FRAME_TOTAL: u8 = 0x55;
 
 pub const MOST_NIBBLE: u8 = 15;
 

@@ -4,6 +4,7 @@ ghost use Rattle.wire.specs.Digits.{digit, nibble, is_digit};
 ghost use Rattle.wire.specs.Calls.{pair_of};
 
 use crate::Pair;
+use spans::Kind;
 
 const TEN: u8 = 10;
 
@@ -15,11 +16,16 @@ pub(crate) fn digit_of(n: u8) -> u8
     if n < TEN { b'0' + n } else { b'A' - TEN + n }
 }
 
-// Returns whether a character is a digit. It has no early return, so that the compiler may look at many characters at a time.
-pub(crate) fn is_digit(c: u8) -> bool
-    ensures { result ≡ is_digit c }
-{
-    ((b'0' <= c) & (c <= b'9')) | ((b'A' <= c) & (c <= b'F'))
+// The digits, among all characters. The test has no branch, so that the compiler may look at many characters at a time.
+#[derive(Clone, Copy)]
+pub(crate) struct Digit;
+
+impl Kind for Digit {
+    ghost holds = { λ _ c. is_digit c };
+
+    fn holds(self, c: u8) -> bool {
+        ((b'0' <= c) & (c <= b'9')) | ((b'A' <= c) & (c <= b'F'))
+    }
 }
 
 // Returns the nibble of a digit. The low four bits count from 0 for a decimal digit and from 1 for a letter, and letters alone are 64 or

@@ -9,7 +9,9 @@ ghost use Rattle.wire.specs.Answers.{Written, Read};
 ghost use Rattle.wire.specs.Calls.{pair_of, nibble_of, writing, parsing, parsing_chars};
 ghost use Rattle.std.specs.Prelude.{◌≡◌, length};
 
+use digits::Digit;
 use paper::Refusal;
+use spans::Kind;
 
 mod digits;
 mod reader;
@@ -40,7 +42,7 @@ pub fn pair_of(byte: u8) -> Pair
 pub fn nibble_of(c: u8) -> Option<u8>
     ensures { result ≡ nibble_of c }
 {
-    if digits::is_digit(c) {
+    if Digit.holds(c) {
         Some(digits::nibble_of(c))
     } else {
         None
@@ -51,7 +53,7 @@ pub fn nibble_of(c: u8) -> Option<u8>
 pub fn all_digits(chars: &[u8]) -> bool
     ensures { result ≡ every is_digit chars.now }
 {
-    reader::all_digits(chars)
+    spans::all(chars, Digit)
 }
 
 // Writes the frame of a command and its data to the front of `out`, and returns its length. Refuses 11 under 75 bytes of room, then 12 for a
@@ -76,10 +78,12 @@ pub fn read_frame(frame: &[u8], into: &mut [u8]) -> Result<Frame, Refusal>
     if into.len() < paper::MOST_DATA {
         return Err(Refusal::ShortBuffer);
     }
-    if !reader::well_enclosed(frame) {
-        return Err(Refusal::NoDigit);
+    match frame {
+        [first, chars @ .., last] if *first == paper::COLON && *last == paper::NEWLINE => {
+            read_chars(chars, into)
+        }
+        _ => Err(Refusal::NoDigit),
     }
-    read_chars(&frame[1..frame.len() - 1], into)
 }
 
 // Reads the characters between a frame's colon and its newline, without those two, and puts the data at the front of `into`. Refuses 11
@@ -93,7 +97,7 @@ pub fn read_chars(chars: &[u8], into: &mut [u8]) -> Result<Frame, Refusal>
     if paper::MOST_CHARS < chars.len() {
         return Err(Refusal::TooLong);
     }
-    if !reader::all_digits(chars) {
+    if !all_digits(chars) {
         return Err(Refusal::NoDigit);
     }
     if reader::bad_count(chars.len()) {

@@ -4,7 +4,7 @@ ghost use Rattle.laws.specs.Lists.{every};
 ghost use Rattle.laws.specs.Promise.{Gives};
 ghost use Rattle.wire.specs.Digits.{is_digit};
 ghost use Rattle.wire.specs.Parsing.{body_says, bad_count, payload_of};
-ghost use Rattle.wire.specs.Calls.{well_enclosed, read_as};
+ghost use Rattle.wire.specs.Calls.{read_as};
 ghost use Rattle.wire.specs.Answers.{Read};
 
 use crate::{Frame, digits, writer};
@@ -12,29 +12,6 @@ use paper::Refusal;
 
 // The data bytes and the check byte.
 const MOST_PAYLOAD: usize = 36;
-
-// Returns whether a frame begins with a colon and ends with a newline.
-pub(crate) fn well_enclosed(frame: &[u8]) -> bool
-    ensures { result ≡ well_enclosed frame.now }
-{
-    if frame.len() < 2 {
-        return false;
-    }
-    frame[0] == paper::COLON && frame[frame.len() - 1] == paper::NEWLINE
-}
-
-// Returns whether every character is a digit. It has no early return, so that the compiler may look at many characters at a time.
-pub(crate) fn all_digits(chars: &[u8]) -> bool
-    ensures { result ≡ every is_digit chars.now }
-{
-    let mut all = true;
-    let mut i = 0;
-    while i < chars.len() {
-        all = all & digits::is_digit(chars[i]);
-        i += 1;
-    }
-    all
-}
 
 // Returns whether this many characters are no frame: under 3, or an even count.
 pub(crate) fn bad_count(n: usize) -> bool
@@ -45,14 +22,12 @@ pub(crate) fn bad_count(n: usize) -> bool
 
 // Returns the bytes after the command, the check byte last, at the front of an array that has room for them all.
 fn payload_of(chars: &[u8]) -> [u8; MOST_PAYLOAD]
-    requires { (length chars.now ≤ 73) × (every is_digit chars.now ≡ true) }
+    requires { (length chars.now ≤ 73) × (every is_digit chars.now ≡ true) × (bad_count (length chars.now) ≡ false) }
     ensures { (length result ≡ 36) × (take (length (payload_of chars.now)) result ≡ payload_of chars.now) }
 {
     let mut payload = [0u8; MOST_PAYLOAD];
-    let mut i = 0;
-    while 2 * i + 2 < chars.len() {
+    for i in 0..chars.len() / 2 {
         payload[i] = digits::byte_of(chars[2 * i + 1], chars[2 * i + 2]);
-        i += 1;
     }
     payload
 }
@@ -65,12 +40,9 @@ pub(crate) fn read_digits(chars: &[u8], into: &mut [u8]) -> Result<Frame, Refusa
     let n = chars.len() / 2;
     let payload = payload_of(chars);
     let command = digits::nibble_of(chars[0]);
-    if (command as usize + writer::sum_of(&payload[..n])) % 256 != paper::FRAME_TOTAL {
+    if command.wrapping_add(writer::sum_of(&payload[..n])) != paper::FRAME_TOTAL {
         return Err(Refusal::BadSum);
     }
-    spans::copy(&payload[..n - 1], into);
-    Ok(Frame {
-        command,
-        len: n - 1,
-    })
+    let len = spans::copy(&payload[..n - 1], into);
+    Ok(Frame { command, len })
 }

@@ -7,14 +7,12 @@ ghost use Rattle.wire.specs.Frame.{frame, check, digits_of};
 use crate::digits;
 
 // Returns the sum of some bytes, modulo 256.
-pub(crate) fn sum_of(bytes: &[u8]) -> usize
+pub(crate) fn sum_of(bytes: &[u8]) -> u8
     ensures { result ≡ sum_of bytes.now % 256 }
 {
-    let mut sum: usize = 0;
-    let mut i = 0;
-    while i < bytes.len() {
-        sum = (sum + bytes[i] as usize) % 256;
-        i += 1;
+    let mut sum: u8 = 0;
+    for b in bytes {
+        sum = sum.wrapping_add(*b);
     }
     sum
 }
@@ -23,8 +21,9 @@ pub(crate) fn sum_of(bytes: &[u8]) -> usize
 fn check_of(command: u8, bytes: &[u8]) -> u8
     ensures { result ≡ check command bytes.now }
 {
-    let sum = command as usize + sum_of(bytes);
-    ((paper::FRAME_TOTAL + (256 - sum % 256)) % 256) as u8
+    paper::FRAME_TOTAL
+        .wrapping_sub(command)
+        .wrapping_sub(sum_of(bytes))
 }
 
 // Puts a byte's two digits at a place.
@@ -42,10 +41,8 @@ fn put_bytes(out: &mut [u8], at: usize, bytes: &[u8])
     requires { at + 2 * length bytes.now ≤ length out.old }
     ensures { out.new ≡ sets out.old at (digits_of bytes.now) }
 {
-    let mut i = 0;
-    while i < bytes.len() {
-        put_byte(out, at + 2 * i, bytes[i]);
-        i += 1;
+    for (i, byte) in bytes.iter().enumerate() {
+        put_byte(out, at + 2 * i, *byte);
     }
 }
 

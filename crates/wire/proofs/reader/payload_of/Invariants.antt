@@ -1,5 +1,5 @@
 -- `wire::reader::payload_of` meets its contract. Assumes nothing.
-use Prim.Native.Nat.{◌+◌, ◌*◌, ◌≤◌, ◌-◌}
+use Prim.Native.Nat.{◌+◌, ◌*◌}
 use mathlib.Core.Path.{◌≡◌}
 use lib.ListN.{length, drop, replicate}
 use lib.Seq.{sets}
@@ -7,7 +7,4 @@ use Rattle.wire.specs.Parsing.{bytes_of, payload_of}
 use Rattle.wire.proofs.reader.payload_of.Given as goal
 
 abbrev pub invariant-loop-i : goal.invariant-loop-i
-invariant-loop-i l = (2 * l.i ≤ length l.chars) × (length l.payload ≡ 36) × (sets l.payload l.i (bytes_of (drop (2 * l.i + 1) l.chars)) ≡ sets (replicate 36 0) 0 (payload_of l.chars))
-
-abbrev pub decreases-loop-i : goal.decreases-loop-i
-decreases-loop-i l = length l.chars - 2 * l.i
+invariant-loop-i l = (length l.payload ≡ 36) × (sets l.payload l.i (bytes_of (drop (2 * l.i + 1) l.chars)) ≡ sets (replicate 36 0) 0 (payload_of l.chars))

@@ -7,7 +7,7 @@ use borrow.Author.Tests.{eq-eqb, ne_eqb}
 use lib.ListN.{length, take, length-take}
 use Rattle.laws.specs.Lists.{sum_of}
 use Rattle.laws.proofs.Promise.{copied, gives_none, gives_bytes}
-use Rattle.wire.specs.Parsing.{command_of, payload_of}
+use Rattle.wire.specs.Parsing.{command_of, payload_of, data_of}
 use Rattle.wire.specs.Calls.{read_as}
 use Rattle.wire.proofs.Nibbles.{nibble_at_lem}
 use Rattle.wire.proofs.Bytes.{odd_count, length_data, payload_part, data_part}
@@ -48,6 +48,7 @@ returns c =
     let pre = c.requires in
     let fits : length (take (length c.args.chars.now / 2 - 1) c.payload_of-payload.result) ≤ length c.args.into.now =
     rw length-take (omega (arith, c.payload_of-payload.ensures.0)) in
-    rw (c.nibble_of-command.ensures, ← length_data c.args.chars.now pre.2)
+    let all : c.copy-len.result ≡ length (data_of c.args.chars.now) = rw (length_data c.args.chars.now pre.2) (c.copy-len.ensures.count ∙ rw length-take (omega (arith, c.payload_of-payload.ensures.0))) in
+    rw (c.nibble_of-command.ensures, all)
     (gives_bytes _ _ _ (ap read_as (body_good _ pre.0 pre.1 pre.2 (eq-eqb _ _ (sym (sums (goal.at.returns c).After-sum_of) ∙ c.if-command-sum_of-ne-FRAME_TOTAL.false))))
-    (rw (data_part _ _ pre.2 c.payload_of-payload.ensures.1) at (copied (take (length c.args.chars.now / 2 - 1) c.payload_of-payload.result) c.args.into.now fits c.copy.ensures.copied)))
+    (rw (data_part _ _ pre.2 c.payload_of-payload.ensures.1) at (copied (take (length c.args.chars.now / 2 - 1) c.payload_of-payload.result) c.args.into.now fits c.copy-len.ensures.copied)))
