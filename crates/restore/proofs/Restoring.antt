@@ -14,7 +14,7 @@ use Rattle.settings.specs.Rules.{agrees, allowed_for}
 use Rattle.tables.specs.Rules.{allowed, number_at, partner_number}
 use Rattle.tables.specs.Calls.{set_to}
 use Rattle.tables.specs.declared.Table.{Table}
-use Rattle.tables.specs.declared.Answer.{Answer}
+use Rattle.std.specs.Prelude.{Ok}
 use Rattle.settings.proofs.Theorems.{rows_hold}
 use Rattle.tables.proofs.Theorems.{pairs_have_an_order, set_stores_it, set_keeps_allowed, set_keeps_count, set_changes_one}
 use Rattle.settings.proofs.Windows.{allowed_both}
@@ -149,7 +149,7 @@ module _ (from to : Table) (two : Tables from to) where
       },
     )
       where
-        stored : ((set_to t x (number_at to x)).answer ≡ Answer.Accepted) × (number_at (after t) x ≡ number_at to x)
+        stored : ((set_to t x (number_at to x)).answer ≡ Ok tt) × (number_at (after t) x ≡ number_at to x)
         stored = set_stores_it t x (number_at to x) w.long w.ok below (fits t w d)
 
         apart : (j : ℕ) → suc k ≤ placed from to j → j ≢ x

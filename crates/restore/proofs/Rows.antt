@@ -24,8 +24,9 @@ use Rattle.restore.specs.AsHeld.{Holds, sets_of}
 use Rattle.restore.specs.Laws.{SetsAreFew, ListIsShort, Tells, a_set, none_left, not_allowed_lem, DueTells}
 use Rattle.restore.specs.Calls.{both_allowed, frames_for, list_room, unlisted, listed_as, listing, due_after, due_in}
 use Rattle.requests.specs.declared.Wanted.{Wanted}
-use Rattle.restore.specs.declared.Due.{Due}
-use Rattle.restore.specs.declared.Listed.{Listed}
+use Rattle.std.specs.Prelude.{Some, None, Ok, Err}
+use Rattle.paper.specs.Numbers.{short_buffer, not_allowed}
+use Rattle.restore.specs.Answers.{Listed}
 use Rattle.restore.specs.declared.order.Row.{Row}
 use Rattle.restore.proofs.Writing.{frames_short}
 use Rattle.restore.proofs.Placing.{turns_none, turns_more, turns_skip, all_differ, entry_fits}
@@ -133,11 +134,11 @@ module _ (from to : Table) (row : Row) (w : Holds row (order from to)) where
 
 -- the calls, case by case
 module _ (from to : Table) where
-  pub list_short : (room : ℕ) → room < list_room → listing from to room ≡ unlisted 11
+  pub list_short : (room : ℕ) → room < list_room → listing from to room ≡ unlisted short_buffer
   unfolding listing
   list_short room h = rw (lt-ltb room list_room h)
 
-  pub list_stray : (room : ℕ) → list_room ≤ room → both_allowed from to ≡ false → listing from to room ≡ unlisted 12
+  pub list_stray : (room : ℕ) → list_room ≤ room → both_allowed from to ≡ false → listing from to room ≡ unlisted not_allowed
   unfolding listing
   list_stray room h e = rw (le-ltb room list_room h, e)
 
@@ -147,15 +148,14 @@ module _ (from to : Table) where
 
   pub list_gives : (row : Row) (buffer l : List ℕ) (len : ℕ) → Holds row (order from to) → list_room ≤ length buffer → both_allowed from to ≡ true
       → len ≡ length (frames_for (sets_of row to)) → l ≡ overlaid (frames_for (sets_of row to)) buffer
-      → Gives Listed (listing from to (length buffer)) buffer (Listed.List len row.len) l
+      → Gives Listed (listing from to (length buffer)) buffer (Ok (record { len = len; sets = row.len })) l
   list_gives row buffer l len w room ok size stands =
       let are : sets_of row to ≡ due_sets from to = sets_are from to row w in
-      let answer : Listed.List len row.len ≡ Listed.List (length (frames_for (due_sets from to))) (length (due_sets from to)) =
-      ap₂ Listed.List (size ∙ ap (λ (d : List Wanted). length (frames_for d)) are) (row_sets from to row w) in
+      let answer = ap₂ {C = Listed} (λ (n m : ℕ). Ok (record { len = n; sets = m })) (size ∙ ap (λ (d : List Wanted). length (frames_for d)) are) (row_sets from to row w) in
       rw answer
       (gives_bytes _ (frames_for (due_sets from to)) l (list_made (length buffer) room ok) (stands ∙ ap (λ (d : List Wanted). overlaid (frames_for d) buffer) are))
 
-  pub due_stray : (n : ℕ) → both_allowed from to ≡ false → Due.Refused 12 ≡ due_in from to n
+  pub due_stray : (n : ℕ) → both_allowed from to ≡ false → Err not_allowed ≡ due_in from to n
   unfolding due_in
   due_stray n e = rw e
 
@@ -184,12 +184,12 @@ frames_fit from to =
     frames_short to (order from to) (every_left (λ k. ltb k count) (differs from to) (order from to) (all_differ from to)) in
     omega arith
 
-pub after_last : (l : List Wanted) (n : ℕ) → length l ≤ n → Due.Nothing ≡ due_after l n
+pub after_last : (l : List Wanted) (n : ℕ) → length l ≤ n → Ok None ≡ due_after l n
 after_last [] n h = refl
 after_last (w ∷ l) zero h = absurd (omega arith)
 after_last (w ∷ l) (suc n) h = after_last l n (omega arith)
 
-pub after_some : (to : Table) (l : List ℕ) (n : ℕ) → n < length l → Due.Set (wanted to (get_or l n 0)) ≡ due_after (map (wanted to) l) n
+pub after_some : (to : Table) (l : List ℕ) (n : ℕ) → n < length l → Ok (Some (wanted to (get_or l n 0))) ≡ due_after (map (wanted to) l) n
 after_some to [] n h = absurd (omega arith)
 after_some to (k ∷ l) zero h = refl
 after_some to (k ∷ l) (suc n) h = after_some to l n (omega arith)
@@ -205,7 +205,7 @@ tells_due from to n = by (both_allowed from to) (ltb n (length (order from to)))
     by false s e f = rw (sym (due_stray from to n e)) (not_allowed_lem e)
     by true true e f =
         let less : n < length (order from to) = ltb-true _ _ f in
-        let is : Due.Set (wanted to (get_or (order from to) n 0)) ≡ due_in from to n = after_some to (order from to) n less ∙ due_is from to n e in
+        let is : Ok (Some (wanted to (get_or (order from to) n 0))) ≡ due_in from to n = after_some to (order from to) n less ∙ due_is from to n e in
         rw (sym is) (a_set (get_or (order from to) n 0) refl (entry_fits from to n less).0 e (rw size less))
     by true false e f =
         let most : length (due_sets from to) ≤ n = rw size (ltb-false _ _ f) in

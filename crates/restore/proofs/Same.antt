@@ -7,9 +7,7 @@ use denote.MutBor.{MutBor}
 use contract.Lifetimes.{Lfts}
 use Rattle.laws.proofs.Promise.{gives_same, equal_same}
 use Rattle.tables.specs.declared.Table.{Table}
-use Rattle.restore.specs.declared.Due.{Due}
-use Rattle.restore.specs.declared.Listed.{Listed}
-use Rattle.restore.specs.declared.Sets.{Sets}
+use Rattle.restore.specs.Answers.{Listed, Sets, Due}
 use Rattle.restore.proofs.list.Reads as list
 use Rattle.restore.proofs.sets_due.Reads as sets-due
 use Rattle.restore.proofs.due_after.Reads as due-after

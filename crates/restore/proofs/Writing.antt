@@ -1,6 +1,6 @@
 -- The frames of the list, one after another. Assumes nothing.
 use mathlib.Core.Path.{◌≡◌, refl, sym, ap, ap₂, ◌∙◌}
-use mathlib.Core.Bool.{Bool, true, false, false≢true}
+use mathlib.Core.Bool.{true}
 use mathlib.Core.List.{List, [], ◌∷◌, ◌++◌, map}
 use Prim.Native.Nat.{ℕ, ◌+◌, ◌*◌, ◌-◌, ◌^◌, ◌≤◌, ◌<◌}
 use native.Mathlib.Nat.{zero-add}
@@ -10,12 +10,13 @@ use lib.ListN.{length, get_or, take, drop, length-append, length-take, drop_of_l
 use lib.Seq.{sets, length-sets, get_or-take}
 use lib.Dec.{ltb}
 use Rattle.laws.specs.Lists.{every}
-use Rattle.laws.specs.Promise.{overlaid, Given, Gives}
+use Rattle.laws.specs.Promise.{overlaid, Gives}
 use Rattle.laws.proofs.Bools.{and_left, and_right}
 use Rattle.laws.proofs.Lists.{every_at, drop_turn, sets_append}
 use Rattle.laws.proofs.Promise.{overlaid_sets, overlaid_front}
 use Rattle.wire.specs.Calls.{written_as}
-use Rattle.wire.specs.declared.Written.{Written}
+use Rattle.std.specs.Prelude.{Ok}
+use Rattle.wire.specs.Answers.{Written}
 use Rattle.wire.proofs.Frames.{length_frame}
 use Rattle.settings.specs.Columns.{count, width_at}
 use Rattle.tables.specs.Rules.{allowed, number_at}
@@ -39,14 +40,6 @@ request_short k n h =
     let value = length_little (width_at k) n in
     rw (length_frame set_code (set_data k n)) (omega (arith, value))
 
-abbrev len_of : Written → ℕ
-len_of (Written.Len m) = m
-len_of (Written.Refused m) = 0
-
-abbrev is_frame : Written → Bool
-is_frame (Written.Len m) = true
-is_frame (Written.Refused m) = false
-
 -- what the request writer answers and leaves in a buffer with room
 pub record Requested (k n : ℕ) (l : List ℕ) (len : ℕ) : Type 0 where
   pub size : len ≡ length (set_request k n)
@@ -54,30 +47,26 @@ pub record Requested (k n : ℕ) (l : List ℕ) (len : ℕ) : Type 0 where
   pub inside : len ≤ length l
   pub front_is : take len l ≡ set_request k n
 
+pub request_ok : (k n : ℕ) (buffer l : List ℕ) (r : Written) → k < count → n < 256 ^ width_at k → length buffer ≡ 75
+    → Gives Written (set_written k n (length buffer)) buffer r l → Gives Written (written_as (set_request k n)) buffer r l
+request_ok k n buffer l r h fits room g =
+    let enough : 75 ≤ length buffer = omega (arith, room) in
+    rw (set_is_request k n (length buffer) h fits enough) at g
+
 pub request_written : (k n : ℕ) (buffer l : List ℕ) (r : Written) (len : ℕ) → k < count → n < 256 ^ width_at k → length buffer ≡ 75
-    → Gives Written (set_written k n (length buffer)) buffer r l → r ≡ Written.Len len
+    → Gives Written (set_written k n (length buffer)) buffer r l → r ≡ Ok len
     → Requested k n l len
 request_written k n buffer l r len h fits room g e =
-    let enough : 75 ≤ length buffer = omega (arith, room) in
-    let is : set_written k n (length buffer) ≡ written_as (set_request k n) = set_is_request k n (length buffer) h fits enough in
-    let made : Written.Len len ≡ Written.Len (length (set_request k n)) = sym e ∙ g.answered ∙ ap (λ (x : Given Written). x.answer) is in
-    let size : len ≡ length (set_request k n) = ap len_of made in
-    let stands : l ≡ overlaid (set_request k n) buffer = g.left ∙ ap (λ (x : Given Written). overlaid x.written buffer) is in
-    let whole : take len l ≡ set_request k n = ap₂ (λ (m : ℕ) (b : List ℕ). take m b) size stands ∙ overlaid_front (set_request k n) buffer in
+    let made = request_ok k n buffer l r h fits room g in
+    let answered : r ≡ Ok (length (set_request k n)) = made.answered in
+    let size : len ≡ length (set_request k n) = cc in
+    let whole : take len l ≡ set_request k n = ap₂ (λ (m : ℕ) (b : List ℕ). take m b) size made.left ∙ overlaid_front (set_request k n) buffer in
     record {
       size = size;
       few = rw size (request_short k n h);
       inside = omega (arith, size, ap length whole, length-take len l);
       front_is = whole;
     }
-
-pub request_made : {A : Type 0} (k n : ℕ) (buffer l : List ℕ) (r : Written) (number : ℕ) → k < count → n < 256 ^ width_at k → length buffer ≡ 75
-    → Gives Written (set_written k n (length buffer)) buffer r l → r ≡ Written.Refused number → A
-request_made k n buffer l r number h fits room g e =
-    let enough : 75 ≤ length buffer = omega (arith, room) in
-    let is : set_written k n (length buffer) ≡ written_as (set_request k n) = set_is_request k n (length buffer) h fits enough in
-    let made : Written.Refused number ≡ Written.Len (length (set_request k n)) = sym e ∙ g.answered ∙ ap (λ (x : Given Written). x.answer) is in
-    absurd (false≢true (ap is_frame made))
 
 -- A row of settings, of which some are written and the others left.
 module _ (to : Table) where

@@ -1,6 +1,7 @@
 -- What each public call answers, for every input. Assumes nothing.
-use Rattle.std.specs.Prelude.{ℕ, zero, suc, ◌*◌, Bool, cond, ◌&&◌, List, [], ◌∷◌, ◌++◌, length, ltb}
+use Rattle.std.specs.Prelude.{ℕ, zero, suc, ◌*◌, Some, None, Ok, Err, Bool, cond, ◌&&◌, List, [], ◌∷◌, ◌++◌, length, ltb}
 use Rattle.paper.specs.Numbers as paper
+use Rattle.paper.specs.declared.Refusal.{Refusal}
 use Rattle.laws.specs.Promise.{Given}
 use Rattle.settings.specs.Columns.{count}
 use Rattle.tables.specs.Rules.{allowed}
@@ -8,9 +9,7 @@ use Rattle.tables.specs.declared.Table.{Table}
 use Rattle.requests.specs.Requests.{set_request}
 use Rattle.restore.specs.Order.{due_sets}
 use Rattle.requests.specs.declared.Wanted.{Wanted}
-use Rattle.restore.specs.declared.Due.{Due}
-use Rattle.restore.specs.declared.Listed.{Listed}
-use Rattle.restore.specs.declared.Sets.{Sets}
+use Rattle.restore.specs.Answers.{Listed, Sets, Due}
 
 -- both tables are allowed
 abbrev pub both_allowed : Table → Table → Bool
@@ -25,11 +24,11 @@ frames_for (w ∷ more) = set_request w.setting.index w.number ++ frames_for mor
 abbrev pub list_room : ℕ
 list_room = 15 * count
 
-abbrev pub unlisted : ℕ → Given Listed
-unlisted number = record { answer = Listed.Refused number; written = [] }
+abbrev pub unlisted : Refusal → Given Listed
+unlisted refusal = record { answer = Err refusal; written = [] }
 
 abbrev pub listed_as : List Wanted → Given Listed
-listed_as due = record { answer = Listed.List (length (frames_for due)) (length due); written = frames_for due }
+listed_as due = record { answer = Ok (record { len = length (frames_for due); sets = length due }); written = frames_for due }
 
 unfoldable pub listing : Table → Table → ℕ → Given Listed
 listing from to room =
@@ -37,13 +36,13 @@ listing from to room =
 
 -- how many Sets there are
 unfoldable pub sets_due : Table → Table → Sets
-sets_due from to = cond (both_allowed from to) (Sets.Due (length (due_sets from to))) (Sets.Refused paper.not_allowed)
+sets_due from to = cond (both_allowed from to) (Ok (length (due_sets from to))) (Err paper.not_allowed)
 
 -- the Set that is due when this many before it are done, or none
 abbrev pub due_after : List Wanted → ℕ → Due
-due_after [] n = Due.Nothing
-due_after (w ∷ more) zero = Due.Set w
+due_after [] n = Ok None
+due_after (w ∷ more) zero = Ok (Some w)
 due_after (w ∷ more) (suc n) = due_after more n
 
 unfoldable pub due_in : Table → Table → ℕ → Due
-due_in from to n = cond (both_allowed from to) (due_after (due_sets from to) n) (Due.Refused paper.not_allowed)
+due_in from to n = cond (both_allowed from to) (due_after (due_sets from to) n) (Err paper.not_allowed)

@@ -1,7 +1,9 @@
 -- What is proved of the definitions, as statements to compare with the papers. Each is proved under its name in proofs/Theorems.antt.
 -- Assumes nothing.
-use Rattle.std.specs.Prelude.{ℕ, zero, suc, ◌+◌, ◌*◌, ◌≤◌, ◌<◌, ◌≡◌, ◌↔◌, Bool, true, false, cond, not, ◌&&◌, ◌||◌, List, [], ◌∷◌, map, length, get_or, ltb, eqb}
+use Rattle.std.specs.Prelude.{ℕ, zero, suc, ◌+◌, ◌*◌, ◌≤◌, ◌<◌, ◌≡◌, ◌↔◌, Some, None, Ok, Err, Bool, true, false, cond, not, ◌&&◌, ◌||◌, List, [], ◌∷◌, map, length, get_or, ltb, eqb}
 use Rattle.std.proofs.Math.Option.{Option, none, some}
+use Rattle.paper.specs.Numbers.{not_allowed, number_of}
+use Rattle.paper.specs.declared.Refusal.{Refusal}
 use Rattle.laws.specs.Lists.{every}
 use Rattle.laws.specs.Promise.{Given}
 use Rattle.laws.specs.Refusals.{Row, row, first_of}
@@ -11,13 +13,11 @@ use Rattle.settings.specs.Calls.{setting_at}
 use Rattle.tables.specs.Rules.{allowed, number_at}
 use Rattle.tables.specs.Calls.{set_to}
 use Rattle.tables.specs.declared.Table.{Table}
-use Rattle.tables.specs.declared.Answer.{Answer}
+use Rattle.tables.specs.Answers.{Answer}
 use Rattle.restore.specs.Order.{order, due_sets}
 use Rattle.restore.specs.Calls.{frames_for, listing, sets_due, due_in}
 use Rattle.requests.specs.declared.Wanted.{Wanted}
-use Rattle.restore.specs.declared.Due.{Due}
-use Rattle.restore.specs.declared.Listed.{Listed}
-use Rattle.restore.specs.declared.Sets.{Sets}
+use Rattle.restore.specs.Answers.{Listed, Sets, Due}
 
 -- two allowed tables. (A table has its numbers in every value of the type, which `length` says.)
 pub record Tables (from to : Table) : Type 0 where
@@ -59,8 +59,8 @@ InOrder =
 
 -- 3. Any row of Sets put to the settings rule, each on the table that those before it left: all are accepted, and what they leave.
 abbrev pub is_accepted : Answer → Bool
-is_accepted Answer.Accepted = true
-is_accepted (Answer.Refused number nearest) = false
+is_accepted (Ok done) = true
+is_accepted (Err why) = false
 
 abbrev pub accepted : Table → List Wanted → Bool
 accepted table [] = true
@@ -85,21 +85,20 @@ abbrev pub is_stray : Table → Table → Row
 is_stray from to = row 12 (not (allowed from) || not (allowed to))
 
 abbrev pub list_number : Listed → Option ℕ
-list_number (Listed.List len sets) = none
-list_number (Listed.Refused number) = some number
+list_number (Ok list) = none
+list_number (Err r) = some (number_of r)
 
 abbrev pub sets_number : Sets → Option ℕ
-sets_number (Sets.Due sets) = none
-sets_number (Sets.Refused number) = some number
+sets_number (Ok sets) = none
+sets_number (Err r) = some (number_of r)
 
 abbrev pub due_number : Due → Option ℕ
-due_number (Due.Set wanted) = none
-due_number Due.Nothing = none
-due_number (Due.Refused number) = some number
+due_number (Ok due) = none
+due_number (Err r) = some (number_of r)
 
 pub record ListRefuses (from to : Table) (room : ℕ) (given : Given Listed) : Type 0 where
   pub number_is : list_number given.answer ≡ first_of (row 11 (ltb room (15 * count)) ∷ is_stray from to ∷ [])
-  pub none_written : (number : ℕ) → given.answer ≡ Listed.Refused number → given.written ≡ []
+  pub none_written : (r : Refusal) → given.answer ≡ Err r → given.written ≡ []
 
 abbrev pub ListGivenWhen : Type 0
 ListGivenWhen = (from to : Table) (room : ℕ) → ListRefuses from to room (listing from to room)
@@ -116,16 +115,16 @@ ListIsGiven =
     (from to : Table) (room : ℕ) → 15 * count ≤ room → allowed from ≡ true → allowed to ≡ true
     → listing from to room
     ≡ record {
-      answer = Listed.List (length (frames_for (due_sets from to))) (differing count from to);
+      answer = Ok (record { len = length (frames_for (due_sets from to)); sets = differing count from to });
       written = frames_for (due_sets from to);
     }
 
 abbrev pub SetsAreTold : Type 0
-SetsAreTold = (from to : Table) → allowed from ≡ true → allowed to ≡ true → sets_due from to ≡ Sets.Due (differing count from to)
+SetsAreTold = (from to : Table) → allowed from ≡ true → allowed to ≡ true → sets_due from to ≡ Ok (differing count from to)
 
 -- "A list with no Set ends as equal": there is none exactly where the tables are the same.
 abbrev pub NoneWhereEqual : Type 0
-NoneWhereEqual = (from to : Table) → Tables from to → (sets_due from to ≡ Sets.Due 0) ↔ (from ≡ to)
+NoneWhereEqual = (from to : Table) → Tables from to → (sets_due from to ≡ Ok 0) ↔ (from ≡ to)
 
 -- There are no more Sets than settings, and the list fits its room.
 abbrev pub SetsAreFew : Type 0
@@ -141,9 +140,9 @@ SetsAreWanted = (from to : Table) → due_sets from to ≡ map (λ k. record { s
 -- What is due tells how many Sets there are: one is due after fewer than all, namely the next of the order, and none after all.
 pub data Tells (from to : Table) (done : ℕ) : Due → Type 0 where
   a_set : (k : ℕ) → k ≡ get_or (order from to) done 0 → k < count → (allowed from && allowed to) ≡ true → done < length (due_sets from to)
-      → Tells from to done (Due.Set (record { setting = setting_at k; number = number_at to k }))
-  none_left : (allowed from && allowed to) ≡ true → length (due_sets from to) ≤ done → Tells from to done Due.Nothing
-  not_allowed_lem : (allowed from && allowed to) ≡ false → Tells from to done (Due.Refused 12)
+      → Tells from to done (Ok (Some (record { setting = setting_at k; number = number_at to k })))
+  none_left : (allowed from && allowed to) ≡ true → length (due_sets from to) ≤ done → Tells from to done (Ok None)
+  not_allowed_lem : (allowed from && allowed to) ≡ false → Tells from to done (Err not_allowed)
 
 abbrev pub DueTells : Type 0
 DueTells = (from to : Table) (done : ℕ) → Tells from to done (due_in from to done)

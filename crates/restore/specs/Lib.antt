@@ -2,5 +2,6 @@
 -- order.
 pub mod Order
 pub mod AsHeld
+pub mod Answers
 pub mod Calls
 pub mod Laws

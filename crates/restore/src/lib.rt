@@ -5,8 +5,9 @@
 ghost use Rattle.std.specs.Prelude.{◌≡◌, length};
 ghost use Rattle.laws.specs.Promise.{Gives};
 ghost use Rattle.restore.specs.Calls.{listing, sets_due, due_in};
-ghost use Rattle.restore.specs.declared.Listed.{Listed};
+ghost use Rattle.restore.specs.Answers.{Listed};
 
+use paper::Refusal;
 use requests::Wanted;
 use tables::Table;
 
@@ -14,66 +15,51 @@ mod numbers;
 mod order;
 mod writer;
 
-// The Set that is due; nothing after the last; or document 01's number of the refusal.
-#[derive(Clone, Copy)]
-pub enum Due {
-    Set(Wanted),
-    Nothing,
-    Refused(u8),
-}
-
-// The number of Sets that are due, or of the refusal.
-#[derive(Clone, Copy)]
-pub enum Sets {
-    Due(usize),
-    Refused(u8),
-}
-
-// The list's length in bytes and its number of Sets, or the number of the refusal.
-#[derive(Clone, Copy)]
-pub enum Listed {
-    List { len: usize, sets: usize },
-    Refused(u8),
+// The size of a list: its length in bytes, and its number of Sets.
+#[derive(Clone, Copy, PartialEq, Eq)]
+pub struct Size {
+    pub len: usize,
+    pub sets: usize,
 }
 
 // Writes the Sets that turn the table `from` into `to`, frame after frame, to the front of `out`. Refuses 11 under 15 bytes of room for
 // each setting, then 12 for a table that is not allowed; then nothing is written.
-pub fn list(from: Table, to: Table, out: &mut [u8]) -> Listed
+pub fn list(from: Table, to: Table, out: &mut [u8]) -> Result<Size, Refusal>
     ensures { Gives Listed (listing from to (length out.old)) out.old result out.new }
 {
     if out.len() < numbers::LIST_ROOM {
-        return Listed::Refused(paper::SHORT_BUFFER);
+        return Err(Refusal::ShortBuffer);
     }
     if !order::both_allowed(from, to) {
-        return Listed::Refused(paper::NOT_ALLOWED);
+        return Err(Refusal::NotAllowed);
     }
     let row = order::row_of(from, to);
     let sets = row.len;
     let len = writer::put_sets(row, to, out);
-    Listed::List { len, sets }
+    Ok(Size { len, sets })
 }
 
 // Returns how many Sets turn the table `from` into `to`. Refuses 12 for a table that is not allowed.
-pub fn sets_due(from: Table, to: Table) -> Sets
+pub fn sets_due(from: Table, to: Table) -> Result<usize, Refusal>
     ensures { result ≡ sets_due from to }
 {
     if !order::both_allowed(from, to) {
-        return Sets::Refused(paper::NOT_ALLOWED);
+        return Err(Refusal::NotAllowed);
     }
-    Sets::Due(order::row_of(from, to).len)
+    Ok(order::row_of(from, to).len)
 }
 
 // Returns the Set that is due once this many before it are done: nothing after the last. Refuses 12 for a table that is not allowed.
-pub fn due_after(from: Table, to: Table, done: usize) -> Due
+pub fn due_after(from: Table, to: Table, done: usize) -> Result<Option<Wanted>, Refusal>
     ensures { result ≡ due_in from to done }
 {
     if !order::both_allowed(from, to) {
-        return Due::Refused(paper::NOT_ALLOWED);
+        return Err(Refusal::NotAllowed);
     }
     let row = order::row_of(from, to);
     if row.len <= done {
-        return Due::Nothing;
+        return Ok(None);
     }
     let indices = row.indices;
-    Due::Set(order::wanted_at(to, indices[done]))
+    Ok(Some(order::wanted_at(to, indices[done])))
 }

@@ -10,7 +10,6 @@ ghost use Rattle.restore.specs.AsHeld.{sets_of};
 
 use crate::order::Row;
 use tables::Table;
-use wire::Written;
 
 // Puts some bytes from a place on.
 fn put_bytes(out: &mut [u8], at: usize, bytes: &[u8])
@@ -27,14 +26,9 @@ fn put_set(out: &mut [u8], at: usize, index: usize, number: u16) -> usize
     ensures { (result ≡ at + length (set_request index number)) × (out.new ≡ sets out.old at (set_request index number)) }
 {
     let mut frame = [0u8; paper::FRAME_ROOM];
-    let written = requests::set(index, number, &mut frame);
-    match written {
-        Written::Len(len) => {
-            put_bytes(out, at, &frame[..len]);
-            at + len
-        }
-        Written::Refused(_) => at,
-    }
+    let len = requests::set(index, number, &mut frame).unwrap();
+    put_bytes(out, at, &frame[..len]);
+    at + len
 }
 
 // Puts a Set for each setting of a row, and returns the length of them all.

@@ -3,7 +3,8 @@ use mathlib.Core.Path.{◌≡◌, sym, ap, ◌∙◌}
 use Prim.Native.Nat.{◌<◌, ◌≤◌}
 use Rattle.tables.specs.Rules.{allowed}
 use Rattle.restore.specs.Order.{order, wanted, due_sets}
-use Rattle.restore.specs.declared.Due.{Due}
+use Rattle.std.specs.Prelude.{Some, Ok}
+use Rattle.requests.specs.declared.Wanted.{Wanted}
 use Rattle.laws.proofs.Bools.{and_right}
 use lib.ListN.{length}
 use Rattle.settings.specs.Columns.{count}
@@ -46,7 +47,7 @@ wanted_at-requires c =
 pub returns : goal.returns
 returns c =
     let entry = row_entry c.args.from c.args.to _ c.row_of-row.ensures c.args.done c.if-row-done.false in
-    ap Due.Set (c.wanted_at.ensures ∙ ap (wanted c.args.to) entry) ∙ after_some c.args.to (order c.args.from c.args.to) c.args.done (inside (goal.at.returns c).Else-row-done) ∙ due_is _ _ _ (sym c.both_allowed.ensures ∙ c.if-not-both_allowed.false)
+    ap (λ (w : Wanted). Ok (Some w)) (c.wanted_at.ensures ∙ ap (wanted c.args.to) entry) ∙ after_some c.args.to (order c.args.from c.args.to) c.args.done (inside (goal.at.returns c).Else-row-done) ∙ due_is _ _ _ (sym c.both_allowed.ensures ∙ c.if-not-both_allowed.false)
 
 pub offset_bounds-indices-done : goal.offset_bounds-indices-done
 offset_bounds-indices-done c = let h : c.args.done < count = within (goal.at.offset_bounds-indices-done c).Else-row-done in omega arith

@@ -3,7 +3,7 @@ use mathlib.Core.Path.{sym, ap, ◌∙◌}
 use Rattle.laws.proofs.Bools.{and_right}
 use Rattle.tables.specs.Rules.{allowed}
 use Rattle.restore.specs.Calls.{sets_due}
-use Rattle.restore.specs.declared.Sets.{Sets}
+use Rattle.std.specs.Prelude.{Ok}
 use Rattle.restore.proofs.Rows.{row_sets}
 use Rattle.restore.proofs.sets_due.Goals as goal
 
@@ -16,4 +16,4 @@ row_of-requires c = and_right (allowed c.args.from) _ (sym c.both_allowed.ensure
 
 pub returns : goal.returns
 unfolding sets_due
-returns c = rw (sym c.both_allowed.ensures ∙ c.if-not-both_allowed.false) (ap Sets.Due (row_sets _ _ _ c.row_of.ensures))
+returns c = rw (sym c.both_allowed.ensures ∙ c.if-not-both_allowed.false) (ap Ok (row_sets _ _ _ c.row_of.ensures))
