@@ -12,6 +12,8 @@ use lib.Dec.{ltb, leb, eqb}
 use Rattle.laws.proofs.Bools.{and_left, and_right, both}
 use Rattle.laws.proofs.Lists.{drop_turn}
 use Rattle.reply.specs.Events.{Event, heard, refused_frame, no_answer}
+use Rattle.paper.specs.Numbers.{not_allowed}
+use Rattle.paper.specs.declared.Refusal.{Refusal}
 use Rattle.view.specs.Values.{ids, count, id_at}
 use Rattle.view.specs.Calls.{sight_at, is_waiting, sight_of, answers, shows, quiet, moved, silenced, advanced, begun, within, allowed, next_of, told, stray, starting, viewing}
 use Rattle.view.specs.Laws.{calls, RefusedIsStray, sight_for, since, one_more, counted, silences_in, CountsAreTrue, EndedStays, SightIsTold}
@@ -126,20 +128,20 @@ unfolding viewing
 viewed v e ok = rw ok
 
 -- and on any other
-next_stands : (v : Viewer) (number : ℕ) → next_of v ≡ Next.Refused number → ⊥
-next_stands v number = by (ltb v.answered count) (ltb v.silences 3)
+next_stands : (v : Viewer) (refusal : Refusal) → next_of v ≡ Next.Refused refusal → ⊥
+next_stands v refusal = by (ltb v.answered count) (ltb v.silences 3)
   where
-    by : (b s : Bool) → cond b (cond s (Next.Waiting (id_at v.answered)) (Next.Silent (id_at v.answered))) Next.Done ≡ Next.Refused number → ⊥
-    by true true e = let z : ◌≡◌ {A = ℕ} 0 1 = cc in omega arith
-    by true false e = let z : ◌≡◌ {A = ℕ} 0 1 = cc in omega arith
-    by false s e = let z : ◌≡◌ {A = ℕ} 0 1 = cc in omega arith
+    by : (b s : Bool) → cond b (cond s (Next.Waiting (id_at v.answered)) (Next.Silent (id_at v.answered))) Next.Done ≡ Next.Refused refusal → ⊥
+    by true true e = cc
+    by true false e = cc
+    by false s e = cc
 
 pub refused_is_stray : RefusedIsStray
 unfolding viewing
 refused_is_stray v event = (by (allowed v) refl, λ bad. rw bad)
   where
     by : (b : Bool) → allowed v ≡ b → cond b (told (advanced v event) (sight_of v event)) (stray v) ≡ stray v → allowed v ≡ false
-    by true ok e = absurd (next_stands (advanced v event) 12 (ap (λ (w : Viewed). w.next) e))
+    by true ok e = absurd (next_stands (advanced v event) not_allowed (ap (λ (w : Viewed). w.next) e))
     by false bad e = bad
 
 -- what a frame comes to, by the ids that are left
@@ -307,17 +309,17 @@ module _ (v : Viewer) (ok : allowed v ≡ true) where
   done_asked = (by (ltb v.answered count) (ltb v.silences 3) refl, λ all. rw (le-ltb v.answered count (omega arith)))
     where
       by : (t s : Bool) → ltb v.answered count ≡ t → next_by t s ≡ Next.Done → v.answered ≡ count
-      by true true h e = let z : ◌≡◌ {A = ℕ} 0 1 = cc in absurd (omega arith)
-      by true false h e = let z : ◌≡◌ {A = ℕ} 0 1 = cc in absurd (omega arith)
+      by true true h e = cc
+      by true false h e = cc
       by false s h e = let most : count ≤ v.answered = ltb-false v.answered count h in omega (arith, few_answered v ok)
 
   silent_asked : (id : ℕ) → (next_of v ≡ Next.Silent id) ↔ ((v.silences ≡ 3) × (id ≡ id_at v.answered))
   silent_asked id = (by (ltb v.answered count) (ltb v.silences 3) refl, λ both. back both.0 both.1 (ltb v.answered count) refl)
     where
       by : (t s : Bool) → ltb v.silences 3 ≡ s → next_by t s ≡ Next.Silent id → (v.silences ≡ 3) × (id ≡ id_at v.answered)
-      by true true k e = let z : ◌≡◌ {A = ℕ} 0 1 = cc in absurd (omega arith)
+      by true true k e = cc
       by true false k e = let most : 3 ≤ v.silences = ltb-false v.silences 3 k in (omega (arith, (is_within v ok).most), cc)
-      by false s k e = let z : ◌≡◌ {A = ℕ} 0 1 = cc in absurd (omega arith)
+      by false s k e = cc
 
       back : v.silences ≡ 3 → id ≡ id_at v.answered → (t : Bool) → ltb v.answered count ≡ t → next_of v ≡ Next.Silent id
       back third is true h = rw (h, third, is)
@@ -328,8 +330,8 @@ module _ (v : Viewer) (ok : allowed v ≡ true) where
     where
       by : (t s : Bool) → ltb v.answered count ≡ t → ltb v.silences 3 ≡ s → next_by t s ≡ Next.Waiting id → ((v.silences < 3) × (v.answered < count)) × (id ≡ id_at v.answered)
       by true true h k e = ((ltb-true v.silences 3 k, ltb-true v.answered count h), cc)
-      by true false h k e = let z : ◌≡◌ {A = ℕ} 0 1 = cc in absurd (omega arith)
-      by false s h k e = let z : ◌≡◌ {A = ℕ} 0 1 = cc in absurd (omega arith)
+      by true false h k e = cc
+      by false s h k e = cc
 
   not_waiting : ((id : ℕ) → next_of v ≢ Next.Waiting id) → is_waiting v ≡ false
   not_waiting none = by (is_waiting v) refl

@@ -1,5 +1,6 @@
 -- What a frame says of the due id. Assumes nothing.
 use mathlib.Core.Path.{◌≡◌, refl, sym, ap, ap₂, subst, ◌∙◌}
+use mathlib.Core.Logic.{◌≢◌}
 use mathlib.Core.Bool.{Bool, true, false, cond, false≢true}
 use mathlib.Core.List.{List}
 use Prim.Native.Nat.{ℕ, ◌≤◌}
@@ -11,7 +12,8 @@ use Rattle.reply.specs.Calls.{heeding}
 use Rattle.reply.specs.Events.{heard}
 use Rattle.reply.specs.Laws.{Says, says_good, says_bad, says_nothing}
 use Rattle.reply.specs.declared.Status.{Status}
-use Rattle.reply.specs.declared.Heeded.{Heeded}
+use Rattle.std.specs.Prelude.{Some, None}
+use Rattle.reply.specs.Answers.{Heeded}
 use Rattle.reply.proofs.Theorems.{heed_is_said, heeded_is_long}
 use Rattle.view.specs.Values.{id_at, is_understood}
 use Rattle.view.specs.Calls.{on_heeded, sight_at, is_waiting, sight_of, advanced, allowed, told, stray, viewing}
@@ -25,24 +27,26 @@ unfolding sight_at
 heeded_is id value command bytes h is e = ap₂ (on_heeded id) e (sym is)
 
 -- a good reply has its first three bytes
-pub good_long : (id command : ℕ) (bytes : List ℕ) → heeding get_code id command bytes ≡ Heeded.Good → 3 ≤ length bytes
-good_long id command bytes e = heeded_is_long get_code id command bytes (λ w. let z : ◌≡◌ {A = ℕ} 0 1 = cc in absurd (omega arith))
+pub good_long : (id command : ℕ) (bytes : List ℕ) (status : Status) → heeding get_code id command bytes ≡ Some status → 3 ≤ length bytes
+good_long id command bytes status e = heeded_is_long get_code id command bytes (λ w. cc)
 
 -- a value that is understood comes with flag 00
 module _ (id : ℕ) (value : List ℕ) where
   record Good (h : Heeded) (due : ℕ) : Type 0 where
     pub same_id : id ≡ due
-    pub is_good : h ≡ Heeded.Good
+    pub is_good : h ≡ Some Status.Good
     pub has_value : is_understood id value ≡ true
 
   good : (h : Heeded) (due : ℕ) → on_heeded id value h ≡ Sight.Understood due → Good h due
-  good Heeded.Waits due e = let z : ◌≡◌ {A = ℕ} 0 1 = cc in absurd (omega arith)
-  good Heeded.Good due e = by (is_understood id value) refl e
+  good None due e = cc
+  good (Some Status.Good) due e = by (is_understood id value) refl e
     where
-      by : (u : Bool) → is_understood id value ≡ u → cond u (Sight.Understood id) (Sight.Strange id) ≡ Sight.Understood due → Good Heeded.Good due
+      by : (u : Bool) → is_understood id value ≡ u → cond u (Sight.Understood id) (Sight.Strange id) ≡ Sight.Understood due → Good (Some Status.Good) due
       by true is e = record { same_id = cc; is_good = refl; has_value = is }
-      by false is e = let z : ◌≡◌ {A = ℕ} 0 1 = cc in absurd (omega arith)
-  good (Heeded.Bad status) due e = let z : ◌≡◌ {A = ℕ} 0 1 = cc in absurd (omega arith)
+      by false is e = cc
+  good (Some Status.UnknownId) due e = cc
+  good (Some Status.NotSupported) due e = cc
+  good (Some Status.ParameterError) due e = cc
 
 -- another flag is not 00
 only_good : (status : Status) → flag_of status ≡ 0 → status ≡ Status.Good
@@ -52,6 +56,13 @@ only_good Status.NotSupported e = absurd (omega arith)
 only_good Status.ParameterError e = absurd (omega arith)
 
 module _ (id command : ℕ) (bytes : List ℕ) where
+  -- no value is understood under another flag
+  bad_strange : (status : Status) → status ≢ Status.Good → on_heeded id (rest bytes) (Some status) ≡ Sight.Strange id
+  bad_strange Status.Good other = absurd (other refl)
+  bad_strange Status.UnknownId other = refl
+  bad_strange Status.NotSupported other = refl
+  bad_strange Status.ParameterError other = refl
+
   sees : (h : Heeded) → Says get_code id command bytes h → Sees id command bytes (on_heeded id (rest bytes) h)
   sees h (says_nothing none) = sees_nothing (λ status. none status refl)
   sees h (says_good stated is are) = by (is_understood id (rest bytes)) refl
@@ -60,7 +71,7 @@ module _ (id command : ℕ) (bytes : List ℕ) where
       by true has = sees_value (record { is_get = is; is_good = are; has_value = has })
       by false has = sees_other Status.Good is are (λ u. false≢true (sym has ∙ u.has_value))
   sees h (says_bad {status} other stated is are) =
-      sees_other status is are (λ u. other (only_good status (ap (λ (l : List ℕ). get_or l 2 0) (sym are ∙ u.is_good))))
+      rw (bad_strange status other) (sees_other status is are (λ u. other (only_good status (ap (λ (l : List ℕ). get_or l 2 0) (sym are ∙ u.is_good)))))
 
   sees_one : (s t : Sight) → Sees id command bytes s → Sees id command bytes t → s ≡ t
   sees_one s t (sees_nothing none) (sees_nothing none') = refl
@@ -88,7 +99,7 @@ sight_valued : (due id command : ℕ) (bytes : List ℕ) → sight_at due comman
 unfolding sight_at
 sight_valued due id command bytes e =
     let g = good due (rest bytes) (heeding get_code due command bytes) id e in
-    record { is_long = good_long due command bytes g.is_good; is_understood_lem = rw g.same_id at g.has_value }
+    record { is_long = good_long due command bytes Status.Good g.is_good; is_understood_lem = rw g.same_id at g.has_value }
 
 pub understood_valued : (v : Viewer) (command : ℕ) (bytes : List ℕ) (id : ℕ) → (viewing v (heard command bytes)).sight ≡ Sight.Understood id → Valued id bytes
 unfolding viewing sight_of
@@ -96,5 +107,5 @@ understood_valued v command bytes id e = by (allowed v) (is_waiting v) e
   where
     by : (a b : Bool) → (cond a (told (advanced v (heard command bytes)) (cond b (sight_at (id_at v.answered) command bytes) Sight.Nothing)) (stray v)).sight ≡ Sight.Understood id → Valued id bytes
     by true true e = sight_valued (id_at v.answered) id command bytes e
-    by true false e = let z : ◌≡◌ {A = ℕ} 0 1 = cc in absurd (omega arith)
-    by false b e = let z : ◌≡◌ {A = ℕ} 0 1 = cc in absurd (omega arith)
+    by true false e = cc
+    by false b e = cc

@@ -11,10 +11,10 @@ use Rattle.paper.specs.Numbers.{get_code}
 use Rattle.laws.proofs.Lists.{up_to_at}
 use Rattle.who.specs.Parts.{serial_fits}
 use Rattle.endian.specs.Numbers.{said}
-use Rattle.reply.specs.Replies.{flag_of, flagged}
+use Rattle.std.specs.Prelude.{Some}
+use Rattle.reply.specs.Replies.{flag_of}
 use Rattle.reply.specs.Events.{Event, heard, no_answer}
 use Rattle.reply.specs.declared.Status.{Status}
-use Rattle.reply.specs.declared.Heeded.{Heeded}
 use Rattle.reply.proofs.Heeding.{said_heeded}
 use Rattle.view.specs.Values.{count, id_at, product_fits, serial_reads, is_understood}
 use Rattle.view.specs.Calls.{on_heeded, sight_of, moved, advanced, allowed, starting, viewing}
@@ -45,7 +45,7 @@ bytes_at k status = said (id_at k) (flag_of status) (value_at k)
 abbrev reply_at : ℕ → Status → Event
 reply_at k status = heard get_code (bytes_at k status)
 
-replied : (k u : ℕ) (status : Status) → k < count → sight_of (state k u 0) (reply_at k status) ≡ on_heeded (id_at k) (value_at k) (flagged status)
+replied : (k u : ℕ) (status : Status) → k < count → sight_of (state k u 0) (reply_at k status) ≡ on_heeded (id_at k) (value_at k) (Some status)
 unfolding sight_of
 replied k u status h =
     let small : id_at k < 256 ^ 2 = ltb-true (id_at k) (256 ^ 2) (up_to_at count (λ i. ltb (id_at i) (256 ^ 2)) refl k h) in
@@ -69,7 +69,7 @@ reach_event v e ok r =
     }
 
 -- one id more answered
-reach_next : (a u : ℕ) (status : Status) (v : Viewer) → u ≤ a → a < count → moved (state a u 0) (on_heeded (id_at a) (value_at a) (flagged status)) ≡ v → Reached (state a u 0) → Reached v
+reach_next : (a u : ℕ) (status : Status) (v : Viewer) → u ≤ a → a < count → moved (state a u 0) (on_heeded (id_at a) (value_at a) (Some status)) ≡ v → Reached (state a u 0) → Reached v
 unfolding advanced
 reach_next a u status v h k e r =
     rw (← e, ← replied a u status k) (reach_event (state a u 0) (reply_at a status) (is_allowed a u h (omega arith)) r)
@@ -85,7 +85,7 @@ reach (suc a) u h k = by (leb u a) refl (λ less. reach a u less (omega arith)) 
         reach_next a u Status.UnknownId (state (suc a) u 0) less (omega arith) same (before less)
     by false e before all =
         let over : a < u = leb-false u a e in
-        let same : moved (state a a 0) (on_heeded (id_at a) (value_at a) Heeded.Good) ≡ state (suc a) u 0 = rw (understands a (omega arith)) (ap₂ (λ (a u : ℕ). state a u 0) (omega arith) (omega arith)) in
+        let same : moved (state a a 0) (on_heeded (id_at a) (value_at a) (Some Status.Good)) ≡ state (suc a) u 0 = rw (understands a (omega arith)) (ap₂ (λ (a u : ℕ). state a u 0) (omega arith) (omega arith)) in
         reach_next a a Status.Good (state (suc a) u 0) (omega arith) (omega arith) same all
 
 -- one silence more

@@ -2,7 +2,7 @@
 use mathlib.Core.Path.{◌≡◌, refl, sym, ap, ap₂, ◌∙◌}
 use mathlib.Core.Bool.{Bool, true, false, cond}
 use mathlib.Core.List.{List, [], ◌∷◌, ◌++◌}
-use Prim.Native.Nat.{ℕ, zero, suc, ◌+◌, ◌≤◌, ◌<◌}
+use Prim.Native.Nat.{ℕ, suc, ◌+◌, ◌≤◌, ◌<◌}
 use native.Mathlib.Omega.{arith}
 use borrow.Author.Tests.{leb-true, eqb-true, eq-eqb, ne_eqb}
 use lib.ListN.{length, get_or, take, drop, length-append, take-append-drop, drop_of_length-le}
@@ -13,29 +13,19 @@ use Rattle.laws.proofs.Bools.{and_left, and_right, both}
 use Rattle.laws.proofs.Lists.{drop_turn, before_first}
 use Rattle.who.specs.Parts.{printed, serial_fits}
 use Rattle.who.specs.Calls.{naming}
-use Rattle.who.specs.declared.Verdict.{Verdict}
+use Rattle.std.specs.Prelude.{is_ok}
 use Rattle.who.specs.declared.Named.{Named}
 use Rattle.who.proofs.Identities.{named_refused, named_accepted}
 use Rattle.view.specs.Values.{serial_in, serial_width, serial_reads, is_understood}
 use Rattle.view.specs.Laws.{IsSerial, SerialIsRead}
 
-abbrev is_accepted : Verdict → Bool
-is_accepted Verdict.Accepted = true
-is_accepted (Verdict.Refused number) = false
-
 -- a board is named exactly with a serial that fits
-pub named_fits : {n : Named} (serial : List ℕ) (verdict : Verdict) → n ≡ naming 0 0 serial → n.verdict ≡ verdict → is_accepted verdict ≡ serial_fits serial
-named_fits {n} serial verdict e is = by (serial_fits serial) refl
+pub named_fits : (serial : List ℕ) → is_ok (naming 0 0 serial).verdict ≡ serial_fits serial
+named_fits serial = by (serial_fits serial) refl
   where
-    by : (t : Bool) → serial_fits serial ≡ t → is_accepted verdict ≡ serial_fits serial
-    by true fit = ap is_accepted (sym is ∙ ap (λ (m : Named). m.verdict) (e ∙ named_accepted 0 0 serial fit)) ∙ sym fit
-    by false fit = ap is_accepted (sym is ∙ ap (λ (m : Named). m.verdict) (e ∙ named_refused 0 0 serial fit)) ∙ sym fit
-
--- the place of the first zero byte, by either side of the test
-pub zero_found : (value : List ℕ) → before (λ b. eqb b 0) value ≡ before (eqb 0) value
-zero_found [] = refl
-zero_found (zero ∷ l) = refl
-zero_found (suc x ∷ l) = rw (ne_eqb (suc x) 0 (λ e. absurd (omega arith)), ne_eqb 0 (suc x) (λ e. absurd (omega arith))) (ap suc (zero_found l))
+    by : (t : Bool) → serial_fits serial ≡ t → is_ok (naming 0 0 serial).verdict ≡ serial_fits serial
+    by true fit = ap (λ (m : Named). is_ok m.verdict) (named_accepted 0 0 serial fit) ∙ sym fit
+    by false fit = ap (λ (m : Named). is_ok m.verdict) (named_refused 0 0 serial fit) ∙ sym fit
 
 -- the bytes of a serial are no zero bytes
 not_zero : (b : ℕ) → printed b ≡ true → eqb 0 b ≡ false

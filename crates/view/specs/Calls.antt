@@ -1,10 +1,11 @@
 -- What each public call answers, for every input. All of it is ours. Assumes nothing.
-use Rattle.std.specs.Prelude.{ℕ, suc, ◌+◌, Bool, cond, ◌&&◌, List, ltb, leb, eqb}
+use Rattle.std.specs.Prelude.{ℕ, suc, ◌+◌, Bool, cond, ◌&&◌, List, ltb, leb, eqb, Some, None}
 use Rattle.paper.specs.Numbers.{get_code, not_allowed}
 use Rattle.reply.specs.Replies.{rest}
 use Rattle.reply.specs.Calls.{heeding}
-use Rattle.reply.specs.Events.{Event, heard, refused_frame, no_answer}
-use Rattle.reply.specs.declared.Heeded.{Heeded}
+use Rattle.reply.specs.Answers.{Heeded}
+use Rattle.reply.specs.Events.{Event, heard, refused_frame, no_answer, most_tries}
+use Rattle.reply.specs.declared.Status.{Status}
 use Rattle.view.specs.Values.{count, id_at, is_understood}
 use Rattle.view.specs.declared.Viewer.{Viewer}
 use Rattle.view.specs.declared.Next.{Next}
@@ -12,19 +13,21 @@ use Rattle.view.specs.declared.Sight.{Sight}
 use Rattle.view.specs.declared.Viewed.{Viewed}
 
 -- What a frame comes to while an id is due: only a good reply to its Get has a value to understand; what keeps waiting says nothing of it.
+abbrev pub on_status : ℕ → List ℕ → Status → Sight
+on_status id value Status.Good = cond (is_understood id value) (Sight.Understood id) (Sight.Strange id)
+on_status id value Status.UnknownId = Sight.Strange id
+on_status id value Status.NotSupported = Sight.Strange id
+on_status id value Status.ParameterError = Sight.Strange id
+
 abbrev pub on_heeded : ℕ → List ℕ → Heeded → Sight
-on_heeded id value Heeded.Waits = Sight.Nothing
-on_heeded id value Heeded.Good = cond (is_understood id value) (Sight.Understood id) (Sight.Strange id)
-on_heeded id value (Heeded.Bad status) = Sight.Strange id
+on_heeded id value None = Sight.Nothing
+on_heeded id value (Some status) = on_status id value status
 
 unfoldable pub sight_at : ℕ → ℕ → List ℕ → Sight
 sight_at id command bytes = on_heeded id (rest bytes) (heeding get_code id command bytes)
 
 -- A Get changes nothing on the board, so it is asked again, three times in all, and the third "no answer" in a row ends the viewer. While an
 -- id is due, fewer came to its Get, and after the last id nothing is due.
-abbrev pub most_tries : ℕ
-most_tries = 3
-
 unfoldable pub is_waiting : Viewer → Bool
 is_waiting v = ltb v.answered count && ltb v.silences most_tries
 

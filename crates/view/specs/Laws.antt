@@ -58,7 +58,7 @@ AllowedIsReached = (v : Viewer) → (allowed v ≡ true) ↔ ((events : List Eve
 -- Any other is refused 12 and comes "back as it was", with nothing seen, and no other is.
 abbrev pub RefusedIsStray : Type 0
 RefusedIsStray =
-    (v : Viewer) (e : Event) → (viewing v e ≡ record { viewer = v; next = Next.Refused 12; sight = Sight.Nothing }) ↔ (allowed v ≡ false)
+    (v : Viewer) (e : Event) → (viewing v e ≡ record { viewer = v; next = Next.Refused paper.not_allowed; sight = Sight.Nothing }) ↔ (allowed v ≡ false)
 
 -- 4. Its counts, with no viewer in them: a row of ids and a row of events, where a frame that says something of the first id takes it away,
 -- and the third silence in a row ends it.

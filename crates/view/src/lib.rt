@@ -6,6 +6,8 @@ ghost use Rattle.std.specs.Prelude.{◌≡◌};
 ghost use Rattle.reply.specs.Events.{heard, no_answer};
 ghost use Rattle.view.specs.Calls.{allowed, starting, viewing};
 
+use paper::Refusal;
+
 mod heard;
 mod serial;
 mod state;
@@ -23,14 +25,13 @@ pub struct Viewer {
     pub silences: usize,
 }
 
-// What is next: the id that is due; nothing, as all were answered, or as no answer came to the Get of this id; or document 01's number of
-// the refusal.
+// What is next: the id that is due; nothing, as all were answered, or as no answer came to the Get of this id; or it is refused.
 #[derive(Clone, Copy)]
 pub enum Next {
     Waiting(u16),
     Done,
     Silent(u16),
-    Refused(u8),
+    Refused(Refusal),
 }
 
 // What a frame came to: it said nothing of the id that was due; or it answered that id, with a value that is understood or with none.
@@ -54,36 +55,44 @@ impl Viewer {
     pub fn start() -> Viewed
         ensures { result ≡ starting }
     {
-        state::told(state::begun(), Sight::Nothing)
+        Viewer {
+            answered: 0,
+            understood: 0,
+            silences: 0,
+        }
+        .told(Sight::Nothing)
     }
 
     // Returns whether a start and events give the viewer.
+    #[tactic(auto, unfolding(crate::specs::Calls::allowed))]
     pub fn is_allowed(self) -> bool
         ensures { result ≡ allowed self }
     {
-        (self.understood <= self.answered) & state::is_within(self.answered, self.silences)
+        self.understood <= self.answered && self.is_within()
     }
 
     // Takes a frame of this command and these data. A Get reply of the due id moves on, and on any other frame the viewer waits on. Refuses
     // 12 for a viewer that no start and events give.
+    #[tactic(auto, unfolding(crate::specs::Calls::viewing, crate::specs::Calls::advanced))]
     pub fn reply(self, command: u8, bytes: &[u8]) -> Viewed
         ensures { result ≡ viewing self (heard command bytes.now) }
     {
         if !self.is_allowed() {
-            return state::stray(self);
+            return self.stray();
         }
-        let sight = heard::by(self, command, bytes);
-        state::told(state::moved(self, sight), sight)
+        let sight = self.sight_of(command, bytes);
+        self.moved(sight).told(sight)
     }
 
     // Notes that no answer came: the same id stays due, and the third time in a row ends a viewer that waits. Refuses 12 for a viewer that
     // no start and events give.
+    #[tactic(auto, unfolding(crate::specs::Calls::viewing, crate::specs::Calls::sight_of))]
     pub fn no_answer(self) -> Viewed
         ensures { result ≡ viewing self no_answer }
     {
         if !self.is_allowed() {
-            return state::stray(self);
+            return self.stray();
         }
-        state::told(state::after_silence(self), Sight::Nothing)
+        self.after_silence().told(Sight::Nothing)
     }
 }

@@ -1,46 +1,27 @@
-// The form that each read-only value must have to be understood. The words for it are in `sentences`.
+// Which values are understood. A product has the form that the paper gives it, a serial is one that a board can have, and the version and
+// the readings have their width. What they say is in `sentences`.
 ghost use Rattle.std.specs.Prelude.{◌≡◌};
-ghost use Rattle.view.specs.Values.{product_fits, width_of, is_understood};
+ghost use Rattle.view.specs.Values.{product_fits, is_understood};
 
 use crate::serial;
 
-// The bytes before and after a product.
-const INSTANCE: u8 = 0;
-
-const RESERVED: u8 = 0xFF;
-
 // Returns whether a value has the form of a product: four bytes, of which the outer two are fixed.
+#[tactic(auto, unfolding(crate::specs::Values::product_fits))]
 fn is_product(value: &[u8]) -> bool
     ensures { result ≡ product_fits value.now }
 {
-    if value.len() != 4 {
-        return false;
-    }
-    (value[0] == INSTANCE) & (value[3] == RESERVED)
-}
-
-// Returns how many bytes the version and the readings have.
-fn width_of(id: u16) -> usize
-    ensures { result ≡ width_of id }
-{
-    if id == paper::FINE_ID {
-        return 4;
-    }
-    if id == paper::CONSUMED_ID {
-        return 4;
-    }
-    2
+    matches!(value, [0x00, _, _, 0xFF])
 }
 
 // Returns whether a value has the form that its id has.
+#[tactic(auto, unfolding(crate::specs::Values::is_understood))]
 pub(crate) fn is_understood(id: u16, value: &[u8]) -> bool
     ensures { result ≡ is_understood id value.now }
 {
-    if id == paper::PRODUCT_ID {
-        return is_product(value);
+    match id {
+        paper::PRODUCT_ID => is_product(value),
+        paper::SERIAL_ID => serial::is_serial(value),
+        paper::FINE_ID | paper::CONSUMED_ID => value.len() == 4,
+        _ => value.len() == 2,
     }
-    if id == paper::SERIAL_ID {
-        return serial::is_serial(value);
-    }
-    value.len() == width_of(id)
 }
