@@ -10,7 +10,7 @@ use lib.Dec.{eqb, ltb, leb}
 use Rattle.laws.specs.Lists.{every, before}
 use Rattle.laws.proofs.Bools.{pick, and_left, and_right, both}
 use Rattle.laws.proofs.Lists.{every_append}
-use Rattle.lines.specs.Numbers.{last_digit, last_digits, decimal_from, decimal, steps, fraction, pointed}
+use Rattle.lines.specs.Numbers.{last_digit, last_digits, decimal_from, decimal, fraction, pointed}
 use Rattle.lines.specs.Laws.{read_on, is_digit, AreDigits, DecimalIsRead, point, without_point, after_point, ArePointed, PointedIsRead}
 
 pub one_digit : (more n : ℕ) → n < 10 → decimal_from more n ≡ last_digit n
@@ -24,12 +24,6 @@ more_digits zero n some h = absurd (some refl)
 more_digits (suc more) n some h =
     let less : suc more - 1 ≡ more = omega arith in
     rw (le-ltb n 10 h, less)
-
--- a unit has a step at least
-pub steps_some : (decimals : ℕ) → 0 < steps decimals
-steps_some decimals =
-    pick (λ (n : ℕ). 0 < n) (eqb decimals 0) (omega arith)
-    (pick (λ (n : ℕ). 0 < n) (eqb decimals 1) (omega arith) (pick (λ (n : ℕ). 0 < n) (eqb decimals 2) (omega arith) (omega arith)))
 
 pub digit_more : (decimals n : ℕ) → ((decimals ≡ 0) → ⊥) → last_digits decimals n ≡ last_digits (decimals - 1) (n / 10) ++ last_digit n
 digit_more zero n some = absurd (some refl)

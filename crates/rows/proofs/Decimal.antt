@@ -3,19 +3,19 @@ use mathlib.Core.Path.{◌≡◌, refl, sym, ap, ap₂, ◌∙◌}
 use mathlib.Core.Logic.{◌≢◌}
 use mathlib.Core.Bool.{Bool, true, false, not, ◌&&◌, ◌||◌, false≢true}
 use mathlib.Core.List.{List, [], ◌∷◌, ◌++◌, append_assoc, append-nil}
-use Prim.Native.Nat.{ℕ, zero, suc, ◌+◌, ◌*◌, ◌-◌, ◌/◌, ◌%◌, ◌^◌, ◌≤◌, ◌<◌}
+use Prim.Native.Nat.{ℕ, suc, ◌+◌, ◌*◌, ◌-◌, ◌/◌, ◌%◌, ◌^◌, ◌≤◌, ◌<◌}
 use native.Mathlib.Numerals.{unary_clauses, add-one}
 use native.Mathlib.Omega.{arith}
 use native.Mathlib.Nat.{zero-add, add-zero, pow-le-pow_right}
-use borrow.Author.Tests.{lt-ltb, eq-eqb, ne_eqb, eqb-false, leb-true, le-leb}
-use lib.ListN.{length, get_or, drop, drop_of_length-le}
+use borrow.Author.Tests.{eq-eqb, ne_eqb, eqb-false, leb-true, le-leb}
+use lib.ListN.{length, get_or, drop}
 use lib.Dec.{leb, eqb}
 use Rattle.laws.specs.Lists.{every}
 use Rattle.laws.proofs.Bools.{and_left, and_right, both}
 use Rattle.laws.proofs.Lists.{drop_turn, every_at}
-use Rattle.lines.specs.Numbers.{decimal_from, decimal}
+use Rattle.lines.specs.Numbers.{decimal}
 use Rattle.lines.specs.Laws.{is_digit, read_on, AreDigits}
-use Rattle.lines.proofs.Digits.{room, one_digit, more_digits, digits_under}
+use Rattle.lines.proofs.Digits.{one_digit, tenth_and_last, digits_under}
 use Rattle.lines.proofs.Theorems.{decimal_is_read}
 use Rattle.rows.specs.Decimals.{is_number, value_of}
 use Rattle.rows.specs.Laws.{DecimalIsRead, ReadIsDecimal}
@@ -74,21 +74,13 @@ power_step n d i h less = rw (add-one i) (simp unary_clauses (omega arith))
 pub under_power : (n i k : ℕ) → i ≤ k → n < 10 ^ i → n < 10 ^ k
 under_power n i k few less = let most : 10 ^ i ≤ 10 ^ k = pow-le-pow_right (omega arith) few in omega arith
 
--- where there is room for all digits, room for one more makes no difference
-room_spared : (more n : ℕ) → n < room more → decimal_from (suc more) n ≡ decimal_from more n
-unfolding decimal_from
-room_spared zero n h = rw (lt-ltb n 10 h)
-room_spared (suc more) n h = rw (room_spared more (n / 10) (omega arith))
-
 one_more : (v c : ℕ) → 1 ≤ v → v < 10000 → is_digit c ≡ true → decimal (v * 10 + (c - 48)) ≡ decimal v ++ c ∷ []
 one_more v c some few e =
     let low : 48 ≤ c = (digit_low c e).0 in
     let less : c - 48 < 10 = (digit_low c e).1 in
     let tens : (v * 10 + (c - 48)) / 10 ≡ v = omega arith in
     let last : 48 + (v * 10 + (c - 48)) % 10 ≡ c = omega arith in
-    more_digits 19 (v * 10 + (c - 48)) (λ z. absurd (omega arith)) (omega arith)
-    ∙ ap₂ (λ (m d : ℕ). decimal_from 18 m ++ d ∷ []) tens last
-    ∙ ap (λ (l : List ℕ). l ++ c ∷ []) (sym (room_spared 18 v (omega arith)))
+    tenth_and_last (v * 10 + (c - 48)) (omega arith) (omega arith) ∙ ap₂ (λ (m d : ℕ). decimal m ++ d ∷ []) tens last
 
 grown : (cs : List ℕ) (v i : ℕ) → every is_digit cs ≡ true → 1 ≤ v → v < 10 ^ i → i + length cs ≤ 5 → decimal (read_on v cs) ≡ decimal v ++ cs
 grown [] v i e some less few = sym (append-nil (decimal v))
@@ -136,9 +128,6 @@ pub record Parsing (digits : List ℕ) (n i : ℕ) : Type 0 where
   pub low : n < 10 ^ i
   pub same : read_on n (drop i digits) ≡ value_of digits
 
-pub parsing_start : (digits : List ℕ) → Parsing digits 0 0
-parsing_start digits = record { within = omega arith; low = leb-true 1 1 refl; same = refl }
-
 module _ {digits : List ℕ} (ok : is_number digits ≡ true) {n i : ℕ} (h : i < length digits) (r : Parsing digits n i) where
   pub here : (48 ≤ get_or digits i 0) × (get_or digits i 0 - 48 < 10)
   here = digit_low (get_or digits i 0) (every_at is_digit digits (number_digits digits ok) i h)
@@ -155,6 +144,3 @@ module _ {digits : List ℕ} (ok : is_number digits ≡ true) {n i : ℕ} (h : i
   parsing_low =
       let few : length digits ≤ 5 = number_few digits ok in
       under_power n i 4 (omega arith) r.low
-
-pub parsing_end : {digits : List ℕ} {n i : ℕ} → length digits ≤ i → Parsing digits n i → n ≡ value_of digits
-parsing_end {digits} {n} {i} h r = sym (ap (read_on n) (drop_of_length-le digits h)) ∙ r.same

@@ -1,6 +1,6 @@
 -- A number of more than 16 bits is in no setting's range. Assumes nothing.
-use mathlib.Core.Path.{◌≡◌, refl}
-use mathlib.Core.Bool.{Bool, true, false}
+use mathlib.Core.Path.{◌≡◌}
+use mathlib.Core.Bool.{true}
 use Prim.Native.Nat.{ℕ, ◌^◌, ◌≤◌, ◌<◌}
 use native.Mathlib.Nat.{pow-le-pow_right}
 use native.Mathlib.Omega.{arith}
@@ -12,12 +12,3 @@ pub range_wide : (k n : ℕ) → k < count → in_range k n ≡ true → n ≤ 6
 range_wide k n h e =
     let most : 256 ^ width_at k ≤ 256 ^ 2 = pow-le-pow_right (omega arith) (rows_hold k h).width_most in
     omega (arith, range_has_room k n h e)
-
-pub range_small : (k n : ℕ) → k < count → 65535 < n → in_range k n ≡ false
-range_small k n h large = by (in_range k n) refl
-  where
-    by : (b : Bool) → in_range k n ≡ b → in_range k n ≡ false
-    by false e = e
-    by true e =
-        let most : n ≤ 65535 = range_wide k n h e in
-        absurd (omega arith)

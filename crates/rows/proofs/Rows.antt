@@ -1,22 +1,25 @@
 -- Laws of a row: what is written is read, and what is read is written. Assumes nothing.
 use mathlib.Core.Path.{◌≡◌, refl, sym, ap, ap₂, subst, ◌∙◌}
-use mathlib.Core.Bool.{Bool, true, false, cond, not, ◌&&◌, and-false, false≢true}
+use mathlib.Core.Bool.{Bool, true, false, cond, not, ◌&&◌, and-true, and-false, and_assoc, false≢true}
+use mathlib.Core.Logic.{◌≢◌}
+use Rattle.std.proofs.Common.{Ok, Err, Some, None}
+use Rattle.std.specs.Option.{ok_or}
 use mathlib.Core.List.{List, [], ◌∷◌, ◌++◌, append_assoc}
-use Prim.Native.Nat.{ℕ, suc, ◌+◌, ◌*◌, ◌/◌, ◌%◌, ◌≤◌, ◌<◌}
+use Prim.Native.Nat.{ℕ, suc, ◌+◌, ◌-◌, ◌*◌, ◌/◌, ◌%◌, ◌≤◌, ◌<◌}
 use native.Mathlib.Omega.{arith}
 use borrow.Author.Tests.{lt-ltb, le-ltb, ltb-true, ltb-false, lt-leb, leb-true, eqb-true, ne_eqb, not-true}
 use lib.ListN.{length, get_or, take, drop, length-drop, length-append}
-use lib.Seq.{take_all, take-append_seam, split_at, length-take-le, get_or-take}
+use lib.Seq.{take_all, take-append_seam, split_at, length-take-le}
 use lib.Dec.{ltb, leb, eqb}
 use Rattle.paper.specs.Numbers as paper
 use Rattle.paper.specs.Numbers.{colon, newline}
 use Rattle.laws.specs.Lists.{every, before}
 use Rattle.laws.proofs.Bools.{and_left, and_right, nor_left, both}
-use Rattle.laws.proofs.Lists.{every_at, every_append, before_first}
+use Rattle.laws.proofs.Lists.{part_to_end, every_at, every_append, before_first}
 use Rattle.wire.specs.Digits.{digit, nibble, is_digit}
 use Rattle.wire.specs.Frame.{digits_of}
 use Rattle.wire.specs.Parsing.{bytes_of}
-use Rattle.wire.proofs.Nibbles.{digit_is_digit, digit_stays, nibble_at_lem}
+use Rattle.wire.proofs.Nibbles.{digit_is_digit, digit_stays}
 use Rattle.wire.proofs.RoundTrip.{digits_all, bytes_digits, digits_bytes, bytes_small, digit_hex}
 use Rattle.lines.specs.Lines.{line_of, text_of}
 use Rattle.lines.specs.Laws.{is_digit as isDecimal, IsLine}
@@ -25,13 +28,13 @@ use Rattle.lines.specs.declared.Line.{Line}
 use Rattle.lines.proofs.Digits.{digits_under}
 use Rattle.lines.proofs.Theorems.{line_is_text}
 use Rattle.rows.specs.Decimals.{is_number}
-use Rattle.rows.specs.Row.{tab, id_digits, row_of, row_room, line_length, first_line, is_row, id_in, number_in}
+use Rattle.rows.specs.Row.{tab, id_digits, row_of, row_room, line_length, first_line, is_row, id_in, number_in, row_in}
 use Rattle.laws.specs.Promise.{Given}
 use Rattle.wire.specs.Calls.{unwritten, written_as}
-use Rattle.wire.specs.declared.Written.{Written}
+use Rattle.wire.specs.Answers.{Written}
 use Rattle.rows.specs.Calls.{writing, parsing}
 use Rattle.rows.specs.Laws.{RowIsSpelled, RowIsShort, Begins, Reads, row, none, ReadExactly, Writes, short, its_row, WrittenExactly}
-use Rattle.rows.specs.declared.Row.{Row}
+use Rattle.rows.specs.Answers.{Read, row_is}
 use Rattle.rows.proofs.Decimal.{number_digits, number_small, decimal_read, read_decimal}
 
 -- writing, by its refusal
@@ -65,6 +68,21 @@ short_row line h =
     let none : length (drop 5 line) < 1 = rw (length-drop 5 line) (omega arith) in
     rw (lt-leb 1 (length (drop 5 line)) none, and-false) (and-false (every is_digit (take 4 line)))
 
+-- a longer one, character by character
+pub row_parts : (line : List ℕ) → 5 ≤ length line
+    → is_row line ≡ (((is_digit (get_or line 0 0) && is_digit (get_or line 1 0)) && (is_digit (get_or line 2 0) && is_digit (get_or line 3 0))) && (eqb (get_or line 4 0) tab && is_number (drop 5 line)))
+unfolding is_row
+row_parts [] h = absurd (omega arith)
+row_parts (a ∷ []) h = absurd (omega arith)
+row_parts (a ∷ b ∷ []) h = absurd (omega arith)
+row_parts (a ∷ b ∷ c ∷ []) h = absurd (omega arith)
+row_parts (a ∷ b ∷ c ∷ d ∷ []) h = absurd (omega arith)
+row_parts (a ∷ b ∷ c ∷ d ∷ t ∷ rest) h =
+    ap (λ (x : Bool). x && (eqb t tab && is_number rest)) (ap (λ (x : Bool). is_digit a && (is_digit b && (is_digit c && x))) (and-true (is_digit d)) ∙ sym (and_assoc (is_digit a) (is_digit b) (is_digit c && is_digit d)))
+
+pub past_tab : (line : List ℕ) → take (length line - 5) (drop 5 line) ≡ drop 5 line
+past_tab line = part_to_end line (length line) 5 refl
+
 module _ (line : List ℕ) (ok : is_row line ≡ true) where
   pub row_long : 6 ≤ length line
   row_long = by (ltb (length line) 6) refl
@@ -77,11 +95,6 @@ module _ (line : List ℕ) (ok : is_row line ≡ true) where
   unfolding is_row
   row_digits = and_left (every is_digit (take 4 line)) _ ok
 
-  pub row_nibble : (i : ℕ) → i < 4 → nibble (get_or line i 0) < 16
-  row_nibble i h =
-      let less : i < length (take 4 line) = rw (length-take-le 4 line (omega (arith, row_long))) h in
-      rw (get_or-take 4 line i 0) at (nibble_at_lem (take 4 line) row_digits i less)
-
   row_tab : get_or line 4 0 ≡ tab
   unfolding is_row
   row_tab = eqb-true (get_or line 4 0) tab (and_left (eqb (get_or line 4 0) tab) _ (and_right (every is_digit (take 4 line)) _ ok))
@@ -90,25 +103,24 @@ module _ (line : List ℕ) (ok : is_row line ≡ true) where
   unfolding is_row
   row_number = and_right (eqb (get_or line 4 0) tab) _ (and_right (every is_digit (take 4 line)) _ ok)
 
--- what is read, by the length of the first line and whether that is so built
+-- what is read, by the length of the first line
 module _ (text : List ℕ) {len : ℕ} (is : len ≡ line_length text) where
   pub line_inside : len ≡ length (take len text)
   line_inside = let inside : line_length text ≤ length text = (before_first (λ b. eqb b newline) text).inside in sym (length-take-le len text (rw is inside))
 
-  module _ {ok : Bool} (told : ok ≡ is_row (take len text)) where
-    test : (ltb len (length text) && ok) ≡ (ltb (line_length text) (length text) && is_row (first_line text))
-    test = ap (λ (b : Bool). ltb len (length text) && b) told ∙ ap (λ (n : ℕ). ltb n (length text) && is_row (take n text)) is
+  pub not_ended : len ≡ length text → Err paper.bad_line ≡ parsing text
+  unfolding parsing
+  not_ended e = rw (le-ltb (line_length text) (length text) (omega arith))
 
-    pub read_other : (ltb len (length text) && ok) ≡ false → Row.Refused paper.bad_line ≡ parsing text
-    unfolding parsing
-    read_other e = rw (sym test ∙ e)
-
-    pub read_built : (ltb len (length text) && ok) ≡ true → is_row (take len text) ≡ true
-    read_built e = sym told ∙ and_right (ltb len (length text)) ok e
-
-    pub read_row : (ltb len (length text) && ok) ≡ true → Row.Is (id_in (take len text)) (number_in (take len text)) (suc (length (take len text))) ≡ parsing text
-    unfolding parsing
-    read_row e = rw (sym line_inside, sym test ∙ e, is)
+  pub line_read : len ≢ length text → ok_or (cond (is_row (take len text)) (Some (row_in (take len text))) None) paper.bad_line ≡ parsing text
+  unfolding parsing
+  line_read e =
+      let less : line_length text < length text = omega (arith, (before_first (λ b. eqb b newline) text).inside) in
+      rw (is, lt-ltb (line_length text) (length text) less) (by (is_row (first_line text)))
+    where
+      by : (b : Bool) → ok_or (cond b (Some (row_in (first_line text))) None) paper.bad_line ≡ cond b (row_is (id_in (first_line text)) (number_in (first_line text)) (suc (line_length text))) (Err paper.bad_line)
+      by true = rw (sym (ap (λ (n : ℕ). length (take n text)) is), sym line_inside, is)
+      by false = refl
 
 -- the row of an id and a number without its newline
 abbrev front : ℕ → ℕ → List ℕ
@@ -146,8 +158,8 @@ module _ (id n : ℕ) (h : n < 65536) (l : Line) (e : l ≡ line_of (row_of id n
   pub line_len : l.len ≡ length (row_of id n)
   line_len = is_line.len_is ∙ ap length whole
 
-  pub line_room : l.len ≤ length l.chars
-  line_room = omega (arith, line_len, row_short id n (omega arith), is_line.room_is)
+  pub line_room : l.len ≤ 160
+  line_room = omega (arith, line_len, row_short id n (omega arith))
 
 -- four digits and their id are each other's
 id_bytes : (id : ℕ) → id < 65536 → every (λ b. ltb b 256) (id / 256 ∷ id % 256 ∷ []) ≡ true
@@ -220,17 +232,17 @@ module _ (id n : ℕ) (rest : List ℕ) (holds : id < 65536) (small : n < 100000
   ended : ltb (length (front id n)) (length (front id n ++ newline ∷ rest)) ≡ true
   ended = lt-ltb (length (front id n)) _ (rw (length-append (front id n) (newline ∷ rest)) (omega arith))
 
-  pub row_read : parsing (row_of id n ++ rest) ≡ Row.Is id n (length (row_of id n))
+  pub row_read : parsing (row_of id n ++ rest) ≡ row_is id n (length (row_of id n))
   unfolding parsing
   row_read = rw (row_front id n rest, long, ended, take-append_seam (front id n) (newline ∷ rest), front_row, length_row id n)
-      (ap₂ (λ (i m : ℕ). Row.Is i m (suc (length (front id n)))) (id_read id n holds) (decimal_read n small).1)
+      (ap₂ (λ (i m : ℕ). row_is i m (suc (length (front id n)))) (id_read id n holds) (decimal_read n small).1)
 
 -- and what is read is written
 module _ (text : List ℕ) where
   abbrev line : List ℕ
   line = first_line text
 
-  reads_row : ltb (line_length text) (length text) ≡ true → is_row line ≡ true → Reads text (Row.Is (id_in line) (number_in line) (suc (line_length text)))
+  reads_row : ltb (line_length text) (length text) ≡ true → is_row line ≡ true → Reads text (row_is (id_in line) (number_in line) (suc (line_length text)))
   reads_row e ok =
       let less : line_length text < length text = ltb-true _ _ e in
       let is : line ≡ front (id_in line) (number_in line) = (built line ok).0 in
@@ -246,20 +258,20 @@ module _ (text : List ℕ) where
       } in
       let size : length (row_of (id_in line) (number_in line)) ≡ suc (line_length text) =
       length_row (id_in line) (number_in line) ∙ ap (λ (l : List ℕ). suc (length l)) (sym is) ∙ ap suc (length-take-le (line_length text) text (omega arith)) in
-      subst (λ (m : ℕ). Reads text (Row.Is (id_in line) (number_in line) m)) size (row begins)
+      subst (λ (m : ℕ). Reads text (row_is (id_in line) (number_in line) m)) size (row begins)
 
-  pub begun : {id n : ℕ} {rest : List ℕ} → Begins text id n rest → parsing text ≡ Row.Is id n (length (row_of id n))
+  pub begun : {id n : ℕ} {rest : List ℕ} → Begins text id n rest → parsing text ≡ row_is id n (length (row_of id n))
   begun {id} {n} {rest} b = ap parsing b.text_is ∙ row_read id n rest b.id_holds b.number_holds
 
-  reads_none : parsing text ≡ Row.Refused paper.bad_line → Reads text (Row.Refused paper.bad_line)
-  reads_none e = none (λ id n rest b. let f : parsing text ≡ Row.Is id n (length (row_of id n)) = begun b in let z : ◌≡◌ {A = ℕ} 0 1 = cc in omega arith)
+  reads_none : parsing text ≡ Err paper.bad_line → Reads text (Err paper.bad_line)
+  reads_none e = none (λ id n rest b. let f : parsing text ≡ row_is id n (length (row_of id n)) = begun b in cc)
 
   pub reads : Reads text (parsing text)
   unfolding parsing
   reads = by (ltb (line_length text) (length text)) (is_row line) refl refl
     where
       by : (a b : Bool) → ltb (line_length text) (length text) ≡ a → is_row line ≡ b
-          → Reads text (cond (a && b) (Row.Is (id_in line) (number_in line) (suc (line_length text))) (Row.Refused paper.bad_line))
+          → Reads text (cond (a && b) (row_is (id_in line) (number_in line) (suc (line_length text))) (Err paper.bad_line))
       by true true e f = reads_row e f
       by true false e f = reads_none (rw (e, f))
       by false b e f = reads_none (rw e)
@@ -267,10 +279,10 @@ module _ (text : List ℕ) where
 pub read_exactly : ReadExactly
 read_exactly text answer = (λ e. subst (Reads text) e (reads text), back answer)
   where
-    back : (x : Row) → Reads text x → parsing text ≡ x
-    back (Row.Is id n len) (row b) = begun text b
-    back (Row.Refused number) (none f) = other (parsing text) refl (reads text)
+    back : (x : Read) → Reads text x → parsing text ≡ x
+    back (Ok r) (row b) = begun text b
+    back (Err r) (none f) = other (parsing text) refl (reads text)
       where
-        other : (y : Row) → parsing text ≡ y → Reads text y → parsing text ≡ Row.Refused paper.bad_line
-        other (Row.Is id n len) e (row b) = absurd (f _ _ _ b)
-        other (Row.Refused m) e (none g) = e
+        other : (y : Read) → parsing text ≡ y → Reads text y → parsing text ≡ Err paper.bad_line
+        other (Ok r) e (row b) = absurd (f _ _ _ b)
+        other (Err r) e (none g) = e

@@ -1,12 +1,13 @@
 -- The row. Document 01, "Backup text": "tabs between fields, numbers decimal without leading zeros, newline after each line". Assumes
 -- nothing.
-use Rattle.std.specs.Prelude.{ℕ, ◌+◌, ◌*◌, ◌/◌, ◌%◌, Bool, ◌&&◌, List, [], ◌∷◌, ◌++◌, take, drop, get_or, eqb}
+use Rattle.std.specs.Prelude.{ℕ, suc, ◌+◌, ◌*◌, ◌/◌, ◌%◌, Bool, ◌&&◌, List, [], ◌∷◌, ◌++◌, length, take, drop, get_or, eqb}
 use Rattle.paper.specs.Numbers.{newline}
 use Rattle.laws.specs.Lists.{every, before}
 use Rattle.wire.specs.Digits.{nibble, is_digit}
 use Rattle.wire.specs.Frame.{digits_of}
 use Rattle.lines.specs.Numbers.{decimal}
 use Rattle.rows.specs.Decimals.{is_number, value_of}
+use Rattle.rows.specs.declared.Row.{Row}
 
 abbrev pub tab : ℕ
 tab = 9
@@ -42,3 +43,7 @@ id_in line = (nibble_at line 0 * 16 + nibble_at line 1) * 256 + (nibble_at line 
 
 abbrev pub number_in : List ℕ → ℕ
 number_in line = value_of (drop 5 line)
+
+-- what such a line says, with its newline counted
+abbrev pub row_in : List ℕ → Row
+row_in line = record { id = id_in line; number = number_in line; len = suc (length line) }

@@ -4,11 +4,10 @@
 
 ghost use Rattle.std.specs.Prelude.{◌≡◌, length};
 ghost use Rattle.laws.specs.Promise.{Gives};
+ghost use Rattle.wire.specs.Answers.{Written};
 ghost use Rattle.rows.specs.Calls.{writing, parsing, judging};
-ghost use Rattle.wire.specs.declared.Written.{Written};
 
-use settings::COUNT;
-use wire::Written;
+use paper::Refusal;
 
 mod decimals;
 mod reader;
@@ -19,55 +18,58 @@ pub const ROW_ROOM: usize = 11;
 
 pub(crate) const TAB: u8 = b'\t';
 
-// What parsing a row answers: the id, the number and how many bytes the row takes, or the number of the refusal.
-#[derive(Clone, Copy)]
-pub enum Row {
-    Is { id: u16, number: usize, len: usize },
-    Refused(u8),
+// A row as it is read: its id, its number and how many bytes it takes.
+#[derive(Clone, Copy, PartialEq, Eq)]
+pub struct Row {
+    pub id: u16,
+    pub number: usize,
+    pub len: usize,
 }
 
-// A row judged: its number and how many bytes it takes, or the number of the refusal.
-#[derive(Clone, Copy)]
-pub enum Judged {
-    Number { number: u16, len: usize },
-    Refused(u8),
+// A row judged: its number, which its setting may hold, and how many bytes it takes.
+#[derive(Clone, Copy, PartialEq, Eq)]
+pub struct Judged {
+    pub number: u16,
+    pub len: usize,
 }
 
-// Writes the row of an id and a number to the front of `out`. Refuses 11 under 11 bytes of room; then nothing is written.
-pub fn write(id: u16, number: u16, out: &mut [u8]) -> Written
+// Writes the row of an id and a number to the front of `out`, and returns its length. Refuses 11 under 11 bytes of room; then nothing is
+// written.
+pub fn write(id: u16, number: u16, out: &mut [u8]) -> Result<usize, Refusal>
     ensures { Gives Written (writing id number (length out.old)) out.old result out.new }
 {
     if out.len() < ROW_ROOM {
-        return Written::Refused(paper::SHORT_BUFFER);
+        return Err(Refusal::ShortBuffer);
     }
     let row = writer::row_of(id, number);
-    let len = row.len;
-    let chars = row.chars;
-    Written::Len(spans::copy(&chars[..len], out))
+    Ok(spans::copy(&row.chars[..row.len], out))
 }
 
 // Reads the row at the front of a text: 14 for a line of another form, or a text that ends before a newline.
-pub fn read(text: &[u8]) -> Row
+#[tactic(auto, using(crate::proofs::Rows::not_ended, crate::proofs::Rows::line_read))]
+pub fn read(text: &[u8]) -> Result<Row, Refusal>
     ensures { result ≡ parsing text.now }
 {
-    let len = reader::line_len(text);
-    if !((len < text.len()) & reader::is_row(&text[..len])) {
-        return Row::Refused(paper::BAD_LINE);
+    let len = spans::find(text, paper::NEWLINE);
+    if len == text.len() {
+        return Err(Refusal::BadLine);
     }
-    reader::row_in(&text[..len])
+    reader::row_in(&text[..len]).ok_or(Refusal::BadLine)
 }
 
 // Judges the row at the front of a text, where that of the setting at a place is due: 12 for a place past the table; then 14, then 15 for
-// another id, then 16 for a number outside the setting's own range.
-pub fn judge(text: &[u8], index: usize) -> Judged
+// another id, then 16 for a number outside the setting's own range, and five digits can say more than any range has.
+#[tactic(auto, using(crate::proofs::Ranges::range_wide), unfolding(crate::specs::Calls::judging, crate::specs::Calls::judged_as, settings::specs::Calls::placing, settings::specs::Calls::ranging))]
+pub fn judge(text: &[u8], index: usize) -> Result<Judged, Refusal>
     ensures { result ≡ judging index text.now }
 {
-    if COUNT <= index {
-        return Judged::Refused(paper::NOT_ALLOWED);
+    let due = settings::at(index).ok_or(Refusal::NotAllowed)?;
+    let Row { id, number, len } = read(text)?;
+    if id != due.id {
+        return Err(Refusal::OtherId);
     }
-    let read = read(text);
-    match read {
-        Row::Is { id, number, len } => reader::judged(index, id, number, len),
-        Row::Refused(number) => Judged::Refused(number),
+    match u16::try_from(number) {
+        Ok(number) if settings::in_range(index, number) => Ok(Judged { number, len }),
+        _ => Err(Refusal::OutOfRange),
     }
 }

@@ -1,5 +1,5 @@
 -- `rows::write` meets its contract. Assumes nothing.
-use mathlib.Core.Path.{◌≡◌, sym, ap, ◌∙◌}
+use mathlib.Core.Path.{◌≡◌, ap, ◌∙◌}
 use mathlib.Core.List.{List}
 use Prim.Native.Nat.{ℕ, ◌<◌, ◌≤◌, min}
 use native.Mathlib.Omega.{arith}
@@ -10,7 +10,7 @@ use Rattle.rows.specs.Row.{row_of}
 use Rattle.laws.specs.Promise.{overlaid}
 use Rattle.laws.proofs.Promise.{gives_none, gives_bytes}
 use Rattle.laws.proofs.Promise.{copied}
-use Rattle.rows.proofs.Rows.{write_short, write_made, row_short, line_text, line_len, line_room}
+use Rattle.rows.proofs.Rows.{write_short, write_made, row_short, line_text, line_room}
 use Rattle.rows.proofs.write.Goals as goal
 use Rattle.rows.proofs.write.Goals.{Start}
 
@@ -20,13 +20,8 @@ small c = search rules
 pub returns-then-out-lt-ROW_ROOM : goal.returns-then-out-lt-ROW_ROOM
 returns-then-out-lt-ROW_ROOM c = gives_none _ (write_short _ _ _ c.if-out-lt-ROW_ROOM.true)
 
-pub slice_bounds-chars-end : goal.slice_bounds-chars-end
-slice_bounds-chars-end c = line_room _ _ (small (goal.at.slice_bounds-chars-end c).Start) _ c.row_of-row.ensures
-
-pub slice_bounds-copy-end : goal.slice_bounds-copy-end
-slice_bounds-copy-end c =
-    let few = small (goal.at.slice_bounds-copy-end c).Start in
-    line_len _ _ few _ c.row_of-row.ensures ∙ sym (ap length (line_text _ _ few _ c.row_of-row.ensures))
+pub shared_ref_as_front-copy : goal.shared_ref_as_front-copy
+shared_ref_as_front-copy c = line_room _ _ (small (goal.at.shared_ref_as_front-copy c).Start) _ c.row_of-row.ensures
 
 pub returns : goal.returns
 returns c =

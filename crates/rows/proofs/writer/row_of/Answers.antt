@@ -6,5 +6,4 @@ use Rattle.rows.proofs.writer.row_of.Goals as goal
 pub returns : goal.returns
 unfolding row_of
 returns c =
-    let made = from_start _ c.start.ensures (further _ _ _ (further _ _ _ c.put-begun.ensures c.put_number.ensures) c.put.ensures) in
-    rw (c.front_of-front.ensures, c.number_of.ensures) at made
+    from_start _ c.start.ensures (further _ _ _ (further _ _ _ (rw (c.pair_of-high.ensures, c.pair_of-low.ensures) at c.put.ensures) c.put_number.ensures) c.put-2.ensures)
