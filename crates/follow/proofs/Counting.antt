@@ -19,7 +19,8 @@ use Rattle.restore.specs.Calls.{both_allowed, due_after, due_in}
 use Rattle.restore.specs.Laws.{Tells, a_set, none_left, not_allowed_lem}
 use Rattle.requests.specs.declared.Wanted.{Wanted}
 use Rattle.requests.specs.declared.Request.{Request}
-use Rattle.restore.specs.declared.Due.{Due}
+use Rattle.std.specs.Prelude.{Some, None, Ok, Err}
+use Rattle.restore.specs.Answers.{Due}
 use Rattle.restore.proofs.Theorems.{due_tells}
 use Rattle.restore.proofs.Rows.{due_is}
 use Rattle.reply.specs.Events.{Event, OnStream, a_frame, a_refusal, a_silence}
@@ -47,8 +48,8 @@ next n m = omega arith
 
 -- the Set that is due is the first of those that are left
 abbrev head_due : List Wanted → Due
-head_due [] = Due.Nothing
-head_due (w ∷ left) = Due.Set w
+head_due [] = Ok None
+head_due (w ∷ left) = Ok (Some w)
 
 after_drop : (l : List Wanted) (n : ℕ) → due_after l n ≡ head_due (drop n l)
 after_drop [] zero = refl
@@ -73,20 +74,20 @@ module _ (from to : Table) (ok : both_allowed from to ≡ true) where
   pub due_left : (n : ℕ) (l : List Wanted) → drop n (due_sets from to) ≡ l → due_in from to n ≡ head_due l
   due_left n l e = sym (due_is from to n ok) ∙ after_drop (due_sets from to) n ∙ ap head_due e
 
-  pub sound_due : (n : ℕ) (w : Wanted) → due_in from to n ≡ Due.Set w → Sound w
-  sound_due n w e = by (Due.Set w) (rw (sym e) (due_tells from to n)) refl
+  pub sound_due : (n : ℕ) (w : Wanted) → due_in from to n ≡ Ok (Some w) → Sound w
+  sound_due n w e = by (Ok (Some w)) (rw (sym e) (due_tells from to n)) refl
     where
       wanted_of : Due → Wanted
-      wanted_of (Due.Set due) = due
-      wanted_of Due.Nothing = w
-      wanted_of (Due.Refused number) = w
+      wanted_of (Ok (Some due)) = due
+      wanted_of (Ok None) = w
+      wanted_of (Err refusal) = w
 
       is_set : Due → Bool
-      is_set (Due.Set due) = true
-      is_set Due.Nothing = false
-      is_set (Due.Refused number) = false
+      is_set (Ok (Some due)) = true
+      is_set (Ok None) = false
+      is_set (Err refusal) = false
 
-      by : (d : Due) → Tells from to n d → d ≡ Due.Set w → Sound w
+      by : (d : Due) → Tells from to n d → d ≡ Ok (Some w) → Sound w
       by d (a_set k is below both more) f = rw (sym (ap wanted_of f)) (wanted_sound to (and_right (allowed from) _ ok) k below)
       by d (none_left both none) f = absurd (false≢true (ap is_set f))
       by d (not_allowed_lem bad) f = absurd (false≢true (ap is_set f))
@@ -96,19 +97,19 @@ module _ (from to : Table) (ok : both_allowed from to ≡ true) where
   stays f h [] = refl
   stays f h (e ∷ more) = rw (h e) (stays f h more)
 
-  stopped_stays : (n : ℕ) (w : Wanted) → due_in from to n ≡ Due.Set w → (e : Event) → advanced (at n true) e ≡ at n true
-  stopped_stays n w due e = sym (advanced_is (at n true) e (Standing.Stopped w) (sym (standing_is (at n true) (Due.Set w) due)))
+  stopped_stays : (n : ℕ) (w : Wanted) → due_in from to n ≡ Ok (Some w) → (e : Event) → advanced (at n true) e ≡ at n true
+  stopped_stays n w due e = sym (advanced_is (at n true) e (Standing.Stopped w) (sym (standing_is (at n true) (Ok (Some w)) due)))
 
-  none_stays : (n : ℕ) (stopped : Bool) → due_in from to n ≡ Due.Nothing → (e : Event) → advanced (at n stopped) e ≡ at n stopped
+  none_stays : (n : ℕ) (stopped : Bool) → due_in from to n ≡ Ok None → (e : Event) → advanced (at n stopped) e ≡ at n stopped
   none_stays n stopped due e = by (eqb n 0) refl
     where
       by : (b : Bool) → eqb n 0 ≡ b → advanced (at n stopped) e ≡ at n stopped
-      by true z = sym (advanced_is (at n stopped) e Standing.Equal (sym (standing_is (at n stopped) Due.Nothing due) ∙ rw z))
-      by false z = sym (advanced_is (at n stopped) e Standing.Done (sym (standing_is (at n stopped) Due.Nothing due) ∙ rw z))
+      by true z = sym (advanced_is (at n stopped) e Standing.Equal (sym (standing_is (at n stopped) (Ok None) due) ∙ rw z))
+      by false z = sym (advanced_is (at n stopped) e Standing.Done (sym (standing_is (at n stopped) (Ok None) due) ∙ rw z))
 
   -- one that waits moves by the effect
-  pub waits_moves : (n : ℕ) (w : Wanted) → due_in from to n ≡ Due.Set w → (e : Event) → advanced (at n false) e ≡ moved (at n false) (effect_of (Request.Set w) e)
-  waits_moves n w due e = sym (advanced_is (at n false) e (Standing.Waiting (Request.Set w)) (sym (standing_is (at n false) (Due.Set w) due)))
+  pub waits_moves : (n : ℕ) (w : Wanted) → due_in from to n ≡ Ok (Some w) → (e : Event) → advanced (at n false) e ≡ moved (at n false) (effect_of (Request.Set w) e)
+  waits_moves n w due e = sym (advanced_is (at n false) e (Standing.Waiting (Request.Set w)) (sym (standing_is (at n false) (Ok (Some w)) due)))
 
   -- what is confirmed is what matched of the Sets that were left, and it has stopped where one of them was ended
   goes_as : (n : ℕ) (l : List Wanted) (events : List Event) → drop n (due_sets from to) ≡ l → OnStream events
@@ -119,7 +120,7 @@ module _ (from to : Table) (ok : both_allowed from to ≡ true) where
   goes_as n (w ∷ l) (x ∷ more) e r = by (matches w x) (ends w x) refl refl
       (goes_as (suc n) l more (drop_next (due_sets from to) l n w e) (later r)) (goes_as n (w ∷ l) more e (later r))
     where
-      due : due_in from to n ≡ Due.Set w
+      due : due_in from to n ≡ Ok (Some w)
       due = due_left n (w ∷ l) e
 
       moves : advanced (at n false) x ≡ moved (at n false) (cond (matches w x) Effect.Confirms (cond (ends w x) Effect.Stops Effect.Waits))
@@ -157,18 +158,18 @@ module _ (from to : Table) (ok : both_allowed from to ≡ true) where
   ended_few n e = ltb-true _ _ (and_right (both_allowed from to) _ e)
 
   -- what is left, by how many there are
-  pub some_left : (n : ℕ) → n < length (due_sets from to) → (w : Wanted) × (due_in from to n ≡ Due.Set w)
+  pub some_left : (n : ℕ) → n < length (due_sets from to) → (w : Wanted) × (due_in from to n ≡ Ok (Some w))
   some_left n h = by (due_in from to n) (due_tells from to n) refl
     where
-      by : (d : Due) → Tells from to n d → due_in from to n ≡ d → (w : Wanted) × (due_in from to n ≡ Due.Set w)
+      by : (d : Due) → Tells from to n d → due_in from to n ≡ d → (w : Wanted) × (due_in from to n ≡ Ok (Some w))
       by d (a_set k is below both more) e = (wanted to k, e)
       by d (none_left both none) e = absurd (omega arith)
       by d (not_allowed_lem bad) e = absurd (false≢true (sym bad ∙ ok))
 
-  pub all_done : (n : ℕ) → length (due_sets from to) ≤ n → due_in from to n ≡ Due.Nothing
+  pub all_done : (n : ℕ) → length (due_sets from to) ≤ n → due_in from to n ≡ Ok None
   all_done n h = by (due_in from to n) (due_tells from to n) refl
     where
-      by : (d : Due) → Tells from to n d → due_in from to n ≡ d → due_in from to n ≡ Due.Nothing
+      by : (d : Due) → Tells from to n d → due_in from to n ≡ d → due_in from to n ≡ Ok None
       by d (a_set k is below both more) e = absurd (omega arith)
       by d (none_left both none) e = e
       by d (not_allowed_lem bad) e = absurd (false≢true (sym bad ∙ ok))

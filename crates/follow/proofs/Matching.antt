@@ -1,6 +1,7 @@
 -- An event, in bytes and by what it says to the Set that is due: the same of both says whether it confirms, stops or waits. Assumes nothing.
 use mathlib.Core.Path.{◌≡◌, refl, sym, ap, ap₂, ◌∙◌}
 use mathlib.Core.Bool.{Bool, true, false, cond, false≢true}
+use mathlib.Core.Logic.{◌≢◌}
 use mathlib.Core.List.{List}
 use Prim.Native.Nat.{ℕ, ◌^◌, ◌<◌}
 use borrow.Author.Tests.{eqb-true, eq-eqb}
@@ -18,12 +19,13 @@ use Rattle.reply.specs.Calls.{heeding}
 use Rattle.reply.specs.Events.{Event, heard, refused_frame, no_answer}
 use Rattle.reply.specs.Laws.{Says, says_good, says_bad, says_nothing}
 use Rattle.reply.specs.declared.Status.{Status}
-use Rattle.reply.specs.declared.Heeded.{Heeded}
+use Rattle.std.specs.Prelude.{Some, None}
+use Rattle.reply.specs.Answers.{Heeded}
 use Rattle.reply.proofs.Flags.{flag_good, said_answers, none_answers}
 use Rattle.reply.proofs.Theorems.{heed_is_said}
 use Rattle.requests.specs.declared.Wanted.{Wanted}
 use Rattle.requests.specs.declared.Request.{Request}
-use Rattle.follow.specs.Following.{carries, on_heeded, on_reply, effect_of}
+use Rattle.follow.specs.Following.{carries, on_status, on_heeded, on_reply, effect_of}
 use Rattle.follow.specs.Laws.{own_data, matches, ends}
 use Rattle.follow.specs.declared.effect.Effect.{Effect}
 use Rattle.follow.proofs.Effects.{heeded_is}
@@ -67,24 +69,33 @@ module _ (due : Wanted) (sound : Sound due) (command : ℕ) (bytes : List ℕ) (
   own_flag : (status : Status) → bytes ≡ said id (flag_of status) (rest bytes) → matches due (heard command bytes) ≡ true → status ≡ Status.Good
   own_flag status are e = flag_good status (ap (λ (l : List ℕ). get_or l 2 0) (sym are ∙ (matches_said e).1))
 
-  said_effect : (h : Heeded) → Says set_code id command bytes h → on_heeded due (rest bytes) h
-      ≡ cond (matches due (heard command bytes)) Effect.Confirms (cond (ends due (heard command bytes)) Effect.Stops Effect.Waits)
-  said_effect Heeded.Good (says_good stated is are) = by (carries due (rest bytes)) refl
+  abbrev meant : Effect
+  meant = cond (matches due (heard command bytes)) Effect.Confirms (cond (ends due (heard command bytes)) Effect.Stops Effect.Waits)
+
+  good_effect : command ≡ set_code → bytes ≡ said id 0 (rest bytes) → on_status due (rest bytes) Status.Good ≡ meant
+  good_effect is are = by (carries due (rest bytes)) refl
     where
-      by : (b : Bool) → carries due (rest bytes) ≡ b → cond b Effect.Confirms Effect.Stops
-          ≡ cond (matches due (heard command bytes)) Effect.Confirms (cond (ends due (heard command bytes)) Effect.Stops Effect.Waits)
+      by : (b : Bool) → carries due (rest bytes) ≡ b → cond b Effect.Confirms Effect.Stops ≡ meant
       by true e = rw (own_bytes is are e)
       by false e =
           rw (no_test (matches due (heard command bytes)) (λ m. false≢true (sym e ∙ own_carried m)), said_answers set_code id command bytes Status.Good is are)
-  said_effect (Heeded.Bad status) (says_bad bad stated is are) =
+
+  bad_effect : (status : Status) → status ≢ Status.Good → command ≡ set_code → bytes ≡ said id (flag_of status) (rest bytes) → Effect.Stops ≡ meant
+  bad_effect status bad is are =
       rw (no_test (matches due (heard command bytes)) (λ m. bad (own_flag status are m)), said_answers set_code id command bytes status is are)
-  said_effect Heeded.Waits (says_nothing none) =
+
+  said_effect : (h : Heeded) → Says set_code id command bytes h → on_heeded due (rest bytes) h ≡ meant
+  said_effect (Some Status.Good) (says_good stated is are) = good_effect is are
+  said_effect (Some Status.Good) (says_bad bad stated is are) = absurd (bad refl)
+  said_effect (Some Status.UnknownId) (says_bad bad stated is are) = bad_effect Status.UnknownId bad is are
+  said_effect (Some Status.NotSupported) (says_bad bad stated is are) = bad_effect Status.NotSupported bad is are
+  said_effect (Some Status.ParameterError) (says_bad bad stated is are) = bad_effect Status.ParameterError bad is are
+  said_effect None (says_nothing none) =
       let other : matches due (heard command bytes) ≡ false =
       no_test (matches due (heard command bytes)) (λ m. none Status.Good refl (matches_said m).0 ((matches_said m).1 ∙ ap (said id 0) (sym (ap (drop 3) (matches_said m).1)))) in
       rw (other, none_answers set_code id command bytes (λ status. none status refl))
 
-  heard_effect : on_reply due command bytes
-      ≡ cond (matches due (heard command bytes)) Effect.Confirms (cond (ends due (heard command bytes)) Effect.Stops Effect.Waits)
+  heard_effect : on_reply due command bytes ≡ meant
   heard_effect =
       sym (heeded_is due command bytes (heeding set_code id command bytes) refl)
       ∙ said_effect (heeding set_code id command bytes) (heed_is_said set_code id command bytes sound.id_fits small)

@@ -18,7 +18,8 @@ use Rattle.restore.specs.Calls.{both_allowed, due_after, due_in}
 use Rattle.restore.proofs.Rows.{due_is}
 use Rattle.requests.specs.declared.Wanted.{Wanted}
 use Rattle.requests.specs.declared.Request.{Request}
-use Rattle.restore.specs.declared.Due.{Due}
+use Rattle.std.specs.Prelude.{Some, None, Ok, Err}
+use Rattle.restore.specs.Answers.{Due}
 use Rattle.reply.proofs.Flags.{said_small}
 use Rattle.reply.specs.Events.{Event, no_answer, OnStream, nothing, a_frame, a_silence}
 use Rattle.follow.specs.Following.{effect_of, stands_at, standing, moved, advanced, begun, follower_allowed}
@@ -117,7 +118,7 @@ few_of from to ok n false e = going_few from to ok n e
 
 module _ (from to : Table) (ok : both_allowed from to ≡ true) where
   -- the board's own replies to the Sets that are left, one after another
-  own_moves : (n : ℕ) (w : Wanted) → due_in from to n ≡ Due.Set w → advanced (at from to ok n false) (own_reply w) ≡ at from to ok (suc n) false
+  own_moves : (n : ℕ) (w : Wanted) → due_in from to n ≡ Ok (Some w) → advanced (at from to ok n false) (own_reply w) ≡ at from to ok (suc n) false
   own_moves n w due =
       let confirms : effect_of (Request.Set w) (own_reply w) ≡ Effect.Confirms = rw (own_matches w) at (effect_is w (sound_due from to ok n w due) (own_reply w) (frame_read (own_bytes w))) in
       waits_moves from to ok n w due (own_reply w) ∙ ap (moved (at from to ok n false)) confirms
@@ -173,15 +174,15 @@ module _ (from to : Table) (ok : both_allowed from to ≡ true) where
           let some = drop_some (due_sets from to) k (ltb-true _ _ less) in
           let w : Wanted = some.0 in
           let is : drop k (due_sets from to) ≡ w ∷ some.1 = some.2 in
-          let due : due_in from to k ≡ Due.Set w = due_left from to ok k (w ∷ some.1) is in
+          let due : due_in from to k ≡ Ok (Some w) = due_left from to ok k (w ∷ some.1) is in
           let left : drop (suc k) (due_sets from to) ≡ some.1 = drop_next (due_sets from to) some.1 k w is in
           let step : following (at from to ok k false) (own_reply w) ≡ answered (at from to ok (suc k) false) =
           sym (following_good (at from to ok k false) (own_reply w) (going_allowed from to ok k h)) ∙ ap answered (own_moves k w due) in
-          ap (on_named next) (sym (standing_is (at from to ok k false) (Due.Set w) due))
+          ap (on_named next) (sym (standing_is (at from to ok k false) (Ok (Some w)) due))
           ∙ ap (λ (l : List Wanted). w ∷ l) (ap (named n) step ∙ later (ltb-true _ _ less) ∙ ap (take n) left) ∙ ap (take (suc n)) (sym is)
       by false most later =
           let none : length (due_sets from to) ≤ k = ltb-false _ _ most in
-          ap (on_named next) (sym (standing_is (at from to ok k false) Due.Nothing (all_done from to ok k none))) ∙ ended (eqb k 0)
+          ap (on_named next) (sym (standing_is (at from to ok k false) (Ok None) (all_done from to ok k none))) ∙ ended (eqb k 0)
           ∙ ap (take (suc n)) (sym (drop_of_length-le (due_sets from to) none))
 
 -- the statements
@@ -205,7 +206,7 @@ is_refused (Standing.Waiting due) = false
 is_refused Standing.Equal = false
 is_refused Standing.Done = false
 is_refused (Standing.Stopped due) = false
-is_refused (Standing.Refused number) = true
+is_refused (Standing.Refused refusal) = true
 
 pub allowed_stands : (f : Follower) → follower_allowed f ≡ true → is_refused (standing f) ≡ false
 allowed_stands f ok = by (due_in f.from f.to f.confirmed) refl (due_known f.from f.to f.confirmed _ refl)
@@ -219,9 +220,9 @@ allowed_stands f ok = by (due_in f.from f.to f.confirmed) refl (due_known f.from
     none_stands false = refl
 
     by : (d : Due) → due_in f.from f.to f.confirmed ≡ d → Known f.from f.to f.confirmed d → is_refused (standing f) ≡ false
-    by (Due.Set w) e k = ap is_refused (sym (standing_is f (Due.Set w) e)) ∙ set_stands f.stopped w
-    by Due.Nothing e k = ap is_refused (sym (standing_is f Due.Nothing e)) ∙ none_stands (eqb f.confirmed 0)
-    by (Due.Refused number) e k = absurd (false≢true (sym k ∙ both_of f ok))
+    by (Ok (Some w)) e k = ap is_refused (sym (standing_is f (Ok (Some w)) e)) ∙ set_stands f.stopped w
+    by (Ok None) e k = ap is_refused (sym (standing_is f (Ok None) e)) ∙ none_stands (eqb f.confirmed 0)
+    by (Err refusal) e k = absurd (false≢true (sym k ∙ both_of f ok))
 
 module _ (f : Follower) where
   -- refused exactly where the follower is stray, for an answer that is of an allowed follower where this one is allowed
@@ -264,7 +265,7 @@ module _ (from to : Table) (ok : both_allowed from to ≡ true) (events : List E
   stands : (d : Due) → due_in from to (matched (due_sets from to) events) ≡ d → (calls (starting from to) events).standing ≡ stands_at end.stopped end.confirmed d
   stands d e = ap (λ (t : Followed). t.standing) told_end ∙ sym (standing_is end d e)
 
-  tells_set : (w : Wanted) → due_after (due_sets from to) (matched (due_sets from to) events) ≡ Due.Set w → (b : Bool) → is_ended (due_sets from to) events ≡ b
+  tells_set : (w : Wanted) → due_after (due_sets from to) (matched (due_sets from to) events) ≡ Ok (Some w) → (b : Bool) → is_ended (due_sets from to) events ≡ b
       → Tells from to events (cond b (Standing.Stopped w) (Standing.Waiting (Request.Set w)))
   tells_set w due true e = stopped ok e due
   tells_set w due false e = waiting ok e due
@@ -283,10 +284,10 @@ module _ (from to : Table) (ok : both_allowed from to ≡ true) (events : List E
       by : (b : Bool) → ltb (matched (due_sets from to) events) (length (due_sets from to)) ≡ b → Tells from to events (calls (starting from to) events).standing
       by true less =
           let due = some_left from to ok _ (ltb-true _ _ less) in
-          subst (Tells from to events) (sym (stands (Due.Set due.0) due.1)) (tells_set due.0 (due_is from to _ ok ∙ due.1) (is_ended (due_sets from to) events) refl)
+          subst (Tells from to events) (sym (stands (Ok (Some due.0)) due.1)) (tells_set due.0 (due_is from to _ ok ∙ due.1) (is_ended (due_sets from to) events) refl)
       by false most =
           let none : length (due_sets from to) ≤ matched (due_sets from to) events = ltb-false _ _ most in
-          subst (Tells from to events) (sym (stands Due.Nothing (all_done from to ok _ none))) (tells_none none (eqb (matched (due_sets from to) events) 0) refl)
+          subst (Tells from to events) (sym (stands (Ok None) (all_done from to ok _ none))) (tells_none none (eqb (matched (due_sets from to) events) 0) refl)
 
 pub counts_told : CountIsTold
 counts_told from to events r = by (both_allowed from to) refl
@@ -301,15 +302,15 @@ module _ (from to : Table) (events : List Event) (r : OnStream events) where
   tells_any false bad = subst (Tells from to events) (sym (ap (λ (t : Followed). t.standing) (told_not from to bad events))) (refused bad)
 
   given : (answer : Standing) → Tells from to events answer → (calls (starting from to) events).standing ≡ answer
-  given (Standing.Refused number) (refused bad) = ap (λ (t : Followed). t.standing) (told_not from to bad events)
+  given (Standing.Refused refusal) (refused bad) = ap (λ (t : Followed). t.standing) (told_not from to bad events)
   given Standing.Equal (equal ok none) =
       let most : matched (due_sets from to) events ≤ length (due_sets from to) = few from to ok events r in
-      stands from to ok events r Due.Nothing (all_done from to ok _ (omega arith)) ∙ rw (eq-eqb (matched (due_sets from to) events) 0 (omega arith))
+      stands from to ok events r (Ok None) (all_done from to ok _ (omega arith)) ∙ rw (eq-eqb (matched (due_sets from to) events) 0 (omega arith))
   given Standing.Done (done ok some all) =
       let other : matched (due_sets from to) events ≢ 0 = λ none. absurd (omega arith) in
-      stands from to ok events r Due.Nothing (all_done from to ok _ (omega arith)) ∙ rw (ne_eqb (matched (due_sets from to) events) 0 other)
-  given (Standing.Stopped due) (stopped ok e is) = stands from to ok events r (Due.Set due) (sym (due_is from to _ ok) ∙ is) ∙ rw e
-  given (Standing.Waiting request) (waiting {due = due} ok e is) = stands from to ok events r (Due.Set due) (sym (due_is from to _ ok) ∙ is) ∙ rw e
+      stands from to ok events r (Ok None) (all_done from to ok _ (omega arith)) ∙ rw (ne_eqb (matched (due_sets from to) events) 0 other)
+  given (Standing.Stopped due) (stopped ok e is) = stands from to ok events r (Ok (Some due)) (sym (due_is from to _ ok) ∙ is) ∙ rw e
+  given (Standing.Waiting request) (waiting {due = due} ok e is) = stands from to ok events r (Ok (Some due)) (sym (due_is from to _ ok) ∙ is) ∙ rw e
 
 pub stands_exactly : StandingExactly
 stands_exactly from to events answer r =

@@ -1,10 +1,7 @@
--- What the program asks of a Set and of a state, in words that its functions cite. Assumes nothing.
-use Rattle.std.specs.Prelude.{ℕ, ◌-◌, ◌≤◌, Bool, true, false, cond, eqb}
-use Rattle.tables.specs.declared.Table.{Table}
-use Rattle.restore.specs.Calls.{due_in}
+-- What the program asks of a Set and of how far it is, in words that its functions cite. Assumes nothing.
+use Rattle.std.specs.Prelude.{◌≤◌}
 use Rattle.requests.specs.declared.Wanted.{Wanted}
 use Rattle.requests.specs.declared.Request.{Request}
-use Rattle.restore.specs.declared.Due.{Due}
 use Rattle.follow.specs.declared.Standing.{Standing}
 
 -- a Set of one or two bytes
@@ -23,13 +20,4 @@ Awaits (Standing.Waiting request) = Sent request
 Awaits Standing.Equal = Unit {0}
 Awaits Standing.Done = Unit {0}
 Awaits (Standing.Stopped due) = Unit {0}
-Awaits (Standing.Refused number) = Unit {0}
-
-abbrev pub is_set : Due → Bool
-is_set (Due.Set due) = true
-is_set Due.Nothing = false
-is_set (Due.Refused number) = false
-
--- this many Sets can have been confirmed: none, or there is a last one of them
-unfoldable pub reached : Table → Table → ℕ → Bool
-reached from to confirmed = cond (eqb confirmed 0) true (is_set (due_in from to (confirmed - 1)))
+Awaits (Standing.Refused refusal) = Unit {0}

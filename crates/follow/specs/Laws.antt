@@ -1,6 +1,6 @@
 -- What is proved of the calls, as statements to compare with the papers. Each is proved under its name in proofs/Theorems.antt.
 -- Assumes nothing.
-use Rattle.std.specs.Prelude.{ℕ, zero, suc, ◌<◌, ◌≡◌, ◌↔◌, Bool, true, false, cond, ◌&&◌, List, [], ◌∷◌, map, length, take, eqb}
+use Rattle.std.specs.Prelude.{ℕ, zero, suc, ◌<◌, ◌≡◌, ◌↔◌, Bool, true, false, cond, ◌&&◌, List, [], ◌∷◌, map, length, take, eqb, Some, Ok}
 use Rattle.laws.specs.Lists.{same}
 use Rattle.endian.specs.Numbers.{little, said}
 use Rattle.tables.specs.Rules.{allowed}
@@ -8,7 +8,7 @@ use Rattle.tables.specs.declared.Table.{Table}
 use Rattle.paper.specs.Numbers.{set_code, not_allowed}
 use Rattle.restore.specs.Order.{due_sets}
 use Rattle.restore.specs.Calls.{due_after}
-use Rattle.restore.specs.declared.Due.{Due}
+use Rattle.paper.specs.declared.Refusal.{Refusal}
 use Rattle.requests.specs.declared.Wanted.{Wanted}
 use Rattle.requests.specs.declared.Request.{Request}
 use Rattle.reply.specs.Events.{Event, heard, refused_frame, no_answer, OnStream, answers}
@@ -36,12 +36,12 @@ AllowedIsReached = (f : Follower) → (follower_allowed f ≡ true) ↔ Reached 
 
 -- and every call on another is refused 12, with the follower "as it was, with counts [..] 0", and on no other: allowed tables with a count that
 -- their list cannot give, or stopped after its last Set, are refused like tables that are not allowed.
-abbrev pub refused_by : ℕ → Follower → Followed
-refused_by number f = record { follower = f; standing = Standing.Refused number; confirmed = 0 }
+abbrev pub refused_by : Refusal → Follower → Followed
+refused_by refusal f = record { follower = f; standing = Standing.Refused refusal; confirmed = 0 }
 
 abbrev pub RefusedIsStray : Type 0
 RefusedIsStray =
-    (f : Follower) → ((told f ≡ refused_by 12 f) ↔ (Reached f → ⊥)) × ((e : Event) → (following f e ≡ refused_by 12 f) ↔ (Reached f → ⊥))
+    (f : Follower) → ((told f ≡ refused_by not_allowed f) ↔ (Reached f → ⊥)) × ((e : Event) → (following f e ≡ refused_by not_allowed f) ↔ (Reached f → ⊥))
 
 -- 2. "Counting sent Sets as confirmed" is a slip of the trade: demand 2 wants "the number of replies that matched the Set due when they came".
 -- Matched, with no follower in it: a row of Sets and a row of events, where an event matches the first Set if it is the very reply that a
@@ -87,9 +87,9 @@ pub data Tells (from to : Table) (events : List Event) : Standing → Type 0 whe
   done : (allowed from && allowed to) ≡ true → 0 < length (due_sets from to) → matched (due_sets from to) events ≡ length (due_sets from to)
       → Tells from to events Standing.Done
   stopped : {due : Wanted} → (allowed from && allowed to) ≡ true → is_ended (due_sets from to) events ≡ true
-      → due_after (due_sets from to) (matched (due_sets from to) events) ≡ Due.Set due → Tells from to events (Standing.Stopped due)
+      → due_after (due_sets from to) (matched (due_sets from to) events) ≡ Ok (Some due) → Tells from to events (Standing.Stopped due)
   waiting : {due : Wanted} → (allowed from && allowed to) ≡ true → is_ended (due_sets from to) events ≡ false
-      → due_after (due_sets from to) (matched (due_sets from to) events) ≡ Due.Set due → Tells from to events (Standing.Waiting (Request.Set due))
+      → due_after (due_sets from to) (matched (due_sets from to) events) ≡ Ok (Some due) → Tells from to events (Standing.Waiting (Request.Set due))
 
 abbrev pub StandingExactly : Type 0
 StandingExactly =
@@ -112,7 +112,7 @@ on_named next (Standing.Waiting (Request.Get id)) = []
 on_named next Standing.Equal = []
 on_named next Standing.Done = []
 on_named next (Standing.Stopped due) = []
-on_named next (Standing.Refused number) = []
+on_named next (Standing.Refused refusal) = []
 
 -- the Sets named by this many calls
 abbrev pub named : ℕ → Followed → List Wanted

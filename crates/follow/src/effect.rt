@@ -1,12 +1,11 @@
 // What an event does to a follower.
-ghost use Rattle.std.specs.Prelude.{◌≡◌, cond};
+ghost use Rattle.std.specs.Prelude.{◌≡◌};
 ghost use Rattle.reply.specs.Events.{heard, no_answer};
-ghost use Rattle.follow.specs.Following.{carries, on_reply, on_request, effect_at};
-ghost use Rattle.follow.specs.AsHeld.{Narrow, Sent, Awaits};
-ghost use Rattle.follow.specs.declared.effect.Effect.{Effect};
+ghost use Rattle.follow.specs.Following.{carries, on_reply, effect_at};
+ghost use Rattle.follow.specs.AsHeld.{Narrow, Awaits};
 
 use crate::Standing;
-use reply::Heeded;
+use reply::Status;
 use requests::{Request, Wanted};
 
 // What a frame does: a Set reply with the due id, flag 00 and the due number confirms; one with the due id and anything else stops; all
@@ -19,62 +18,35 @@ pub(crate) enum Effect {
 }
 
 // Returns whether a value is the due number in its width.
-fn is_carried(wanted: Wanted, value: &[u8]) -> bool
-    requires { Narrow wanted }
-    ensures { result ≡ carries wanted value.now }
+#[tactic(auto, using(endian::proofs::Little::all_first), unfolding(crate::specs::Following::carries))]
+fn is_carried(due: Wanted, value: &[u8]) -> bool
+    requires { Narrow due }
+    ensures { result ≡ carries due value.now }
 {
-    if value.len() != wanted.setting.width {
-        return false;
-    }
-    endian::read_16(value) == wanted.number
-}
-
-// Returns what the value of a good reply to the due Set does.
-fn on_value(wanted: Wanted, value: &[u8]) -> Effect
-    requires { Narrow wanted }
-    ensures { result ≡ cond (carries wanted value.now) Effect.Confirms Effect.Stops }
-{
-    if is_carried(wanted, value) {
-        return Effect::Confirms;
-    }
-    Effect::Stops
+    value.len() == due.setting.width && endian::read_16(value) == due.number
 }
 
 // Returns what a frame does, as an answer to the Set that is due.
-fn on_reply(wanted: Wanted, command: u8, bytes: &[u8]) -> Effect
-    requires { Narrow wanted }
-    ensures { result ≡ on_reply wanted command bytes.now }
+#[tactic(auto, using(crate::proofs::Effects::good_long, laws::proofs::Lists::part_to_end), unfolding(crate::specs::Following::on_reply))]
+fn on_reply(due: Wanted, command: u8, bytes: &[u8]) -> Effect
+    requires { Narrow due }
+    ensures { result ≡ on_reply due command bytes.now }
 {
-    let heeded = reply::heed(paper::SET_CODE, wanted.setting.id, command, bytes);
-    match heeded {
-        Heeded::Waits => Effect::Waits,
-        Heeded::Good => on_value(wanted, &bytes[paper::FRONT..]),
-        Heeded::Bad(_) => Effect::Stops,
+    match reply::heed(paper::SET_CODE, due.setting.id, command, bytes) {
+        None => Effect::Waits,
+        Some(Status::Good) if is_carried(due, &bytes[paper::FRONT..]) => Effect::Confirms,
+        Some(_) => Effect::Stops,
     }
 }
 
-// Returns what a frame does while a request is due.
-fn on_request(request: Request, command: u8, bytes: &[u8]) -> Effect
-    requires { Sent request }
-    ensures { result ≡ on_request request command bytes.now }
-{
-    match request {
-        Request::Get(_) => Effect::Waits,
-        Request::Set(due) => on_reply(due, command, bytes),
-    }
-}
-
-// Returns what a frame does to a follower that is this far: an ended one stays as it was.
+// Returns what a frame does to a follower that is this far: one that has ended stays as it was, and a Get would keep waiting.
 pub(crate) fn of_frame(standing: Standing, command: u8, bytes: &[u8]) -> Effect
     requires { Awaits standing }
     ensures { result ≡ effect_at standing (heard command bytes.now) }
 {
     match standing {
-        Standing::Waiting(request) => on_request(request, command, bytes),
-        Standing::Equal => Effect::Waits,
-        Standing::Done => Effect::Waits,
-        Standing::Stopped(_) => Effect::Waits,
-        Standing::Refused(_) => Effect::Waits,
+        Standing::Waiting(Request::Set(due)) => on_reply(due, command, bytes),
+        _ => Effect::Waits,
     }
 }
 
@@ -84,9 +56,6 @@ pub(crate) fn of_silence(standing: Standing) -> Effect
 {
     match standing {
         Standing::Waiting(_) => Effect::Stops,
-        Standing::Equal => Effect::Waits,
-        Standing::Done => Effect::Waits,
-        Standing::Stopped(_) => Effect::Waits,
-        Standing::Refused(_) => Effect::Waits,
+        _ => Effect::Waits,
     }
 }

@@ -7,6 +7,7 @@ ghost use Rattle.reply.specs.Events.{heard, refused_frame, no_answer};
 ghost use Rattle.follow.specs.Calls.{starting, told, following};
 
 use effect::Effect;
+use paper::Refusal;
 use requests::{Request, Wanted};
 use tables::Table;
 
@@ -14,7 +15,8 @@ mod effect;
 mod state;
 
 // A restore on its way: the two tables that it started from, how many of the list's Sets the board has confirmed, and whether it has
-// stopped. What is due, and whether all is done, follows from these.
+// stopped. What is due, and whether all is done, follows from these. Count and flag stay apart: the laws speak of any pair of them, and
+// whoever hands in one that no start and events give is refused.
 #[derive(Clone, Copy)]
 pub struct Follower {
     pub from: Table,
@@ -23,15 +25,15 @@ pub struct Follower {
     pub stopped: bool,
 }
 
-// How far a restore is: a request is due, always a Set; the tables were equal; all Sets are confirmed; it stopped at a Set; or document
-// 01's number of the refusal.
+// How far a restore is: a request is due, always a Set; the tables were equal; all Sets are confirmed; it stopped at a Set; or it is
+// refused.
 #[derive(Clone, Copy)]
 pub enum Standing {
     Waiting(Request),
     Equal,
     Done,
     Stopped(Wanted),
-    Refused(u8),
+    Refused(Refusal),
 }
 
 // The advanced follower, how far it is, and how many Sets are confirmed.
@@ -44,35 +46,38 @@ pub struct Followed {
 
 impl Follower {
     // Begins to follow the list that turns the table `from` into `to`. Refuses 12 for a table that is not allowed.
+    #[tactic(auto, unfolding(crate::specs::Calls::starting))]
     pub fn start(from: Table, to: Table) -> Followed
         ensures { result ≡ starting from to }
     {
-        let follower = Follower {
+        Follower {
             from,
             to,
             confirmed: 0,
             stopped: false,
-        };
-        follower.told()
+        }
+        .told()
     }
 
     // Returns how far a follower is, with nothing heard. Refuses 12 for one that no start and events give.
+    #[tactic(auto, unfolding(crate::specs::Calls::told))]
     pub fn told(self) -> Followed
         ensures { result ≡ told self }
     {
-        state::after(self, Effect::Waits)
+        self.after(Effect::Waits)
     }
 
     // Takes a frame of the stream: its command and its data. Refuses 12 for a follower that no start and events give.
+    #[tactic(auto, using(crate::proofs::Standings::standing_awaits), unfolding(crate::specs::Calls::following, crate::specs::Following::advanced))]
     pub fn reply(self, command: u8, bytes: &[u8]) -> Followed
         ensures { result ≡ following self (heard command bytes.now) }
     {
-        let standing = state::standing_of(self);
-        state::after(self, effect::of_frame(standing, command, bytes))
+        self.after(effect::of_frame(self.standing(), command, bytes))
     }
 
     // Takes a frame that the stream refused: it says nothing of the Set that is due. Refuses 12 for a follower that no start and events
     // give.
+    #[tactic(auto, using(crate::proofs::Standings::following_refused))]
     pub fn refused_frame(self) -> Followed
         ensures { result ≡ following self refused_frame }
     {
@@ -80,10 +85,10 @@ impl Follower {
     }
 
     // Notes that the board gave no answer in time, which stops a follower that waits. Refuses 12 for one that no start and events give.
+    #[tactic(auto, unfolding(crate::specs::Calls::following, crate::specs::Following::advanced))]
     pub fn no_answer(self) -> Followed
         ensures { result ≡ following self no_answer }
     {
-        let standing = state::standing_of(self);
-        state::after(self, effect::of_silence(standing))
+        self.after(effect::of_silence(self.standing()))
     }
 }

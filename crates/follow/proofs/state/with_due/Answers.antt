@@ -1,9 +1,0 @@
--- `follow::state::with_due` meets its contract. Assumes nothing.
-
-use Rattle.follow.proofs.state.with_due.Goals as goal
-
-pub returns-then-stopped : goal.returns-then-stopped
-returns-then-stopped c = rw c.if-stopped.true
-
-pub returns : goal.returns
-returns c = rw c.if-stopped.false
