@@ -13,7 +13,7 @@ use Rattle.paper.specs.Numbers as paper
 use Rattle.paper.specs.Numbers.{colon, newline}
 use Rattle.wire.specs.Frame.{frame}
 use Rattle.wire.specs.Parsing.{refused, good, body_says, broken_says, bad_count, sums_up, command_of, data_of}
-use Rattle.wire.specs.Calls.{writing, unwritten, written_as, parsing, read_as, whole_says, parsing_chars, well_enclosed, between}
+use Rattle.wire.specs.Calls.{writing, written_as, parsing, read_as, whole_says, parsing_chars, well_enclosed, between}
 
 -- the characters of a frame, in the order of the refusals
 pub body_long : (chars : List ℕ) → 73 < length chars → body_says chars ≡ refused paper.too_long
@@ -56,22 +56,9 @@ broken_silent count = by (ltb 73 count) refl
     by false e = rw (broken_short count (ltb-false 73 count e))
 
 -- the frame writer
-pub writing_short : (command : ℕ) (bytes : List ℕ) (room : ℕ) → room < 75 → writing command bytes room ≡ unwritten paper.short_buffer
+pub writing_made : (command : ℕ) (bytes : List ℕ) (room : ℕ) → 75 ≤ room → command ≤ 15 → length bytes ≤ 35 → writing command bytes room ≡ written_as (frame command bytes)
 unfolding writing
-writing_short command bytes room h = simp (lt-ltb room 75 h)
-
-module _ (command : ℕ) (bytes : List ℕ) (room : ℕ) (enough : 75 ≤ room) where
-  pub writing_nibble : 15 < command → writing command bytes room ≡ unwritten paper.not_allowed
-  unfolding writing
-  writing_nibble h = simp (le-ltb room 75 enough, lt-ltb 15 command h)
-
-  pub writing_long : command ≤ 15 → 35 < length bytes → writing command bytes room ≡ unwritten paper.not_allowed
-  unfolding writing
-  writing_long k h = simp (le-ltb room 75 enough, le-ltb 15 command k, lt-ltb 35 (length bytes) h)
-
-  pub writing_made : command ≤ 15 → length bytes ≤ 35 → writing command bytes room ≡ written_as (frame command bytes)
-  unfolding writing
-  writing_made k h = simp (le-ltb room 75 enough, le-ltb 15 command k, le-ltb 35 (length bytes) h)
+writing_made command bytes room enough k h = simp (le-ltb room 75 enough, le-ltb 15 command k, le-ltb 35 (length bytes) h)
 
 -- the whole-frame reader
 pub reading_short : (slice : List ℕ) (room : ℕ) → room < 35 → parsing slice room ≡ read_as (refused paper.short_buffer)
@@ -91,10 +78,6 @@ enclosed_long slice e =
     leb-true 2 (length slice) (and_left (leb 2 (length slice)) (eqb (get_or slice 0 0) colon && eqb (get_or slice (length slice - 1) 0) newline) e)
 
 -- the reader of the characters alone
-pub chars_short : (chars : List ℕ) (room : ℕ) → room < 35 → parsing_chars chars room ≡ read_as (refused paper.short_buffer)
-unfolding parsing_chars
-chars_short chars room h = simp (lt-ltb room 35 h)
-
 pub chars_read : (chars : List ℕ) (room : ℕ) → 35 ≤ room → parsing_chars chars room ≡ read_as (body_says chars)
 unfolding parsing_chars
 chars_read chars room h = simp (le-ltb room 35 h)

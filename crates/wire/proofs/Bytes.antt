@@ -1,18 +1,16 @@
--- Two digits for each byte: lengths, and what one turn of the loops that write and read them shows. Assumes nothing.
+-- Two digits for each byte: lengths, and the parts of an array with the payload at its front. Assumes nothing.
 use mathlib.Core.Path.{◌≡◌, refl, sym, ◌∙◌}
 use mathlib.Core.Bool.{false}
 use mathlib.Core.List.{List, [], ◌∷◌}
-use Prim.Native.Nat.{ℕ, suc, ◌+◌, ◌*◌, ◌/◌, ◌%◌, ◌≤◌, ◌<◌, ◌-◌}
+use Prim.Native.Nat.{ℕ, ◌+◌, ◌*◌, ◌/◌, ◌%◌, ◌≤◌, ◌<◌, ◌-◌}
 use native.Mathlib.Nat.{not-suc-le-zero, le_of_suc-le-suc}
 use native.Mathlib.Omega.{arith}
-use lib.ListN.{length, take, drop, get_or, set, replicate, length-take, length-drop, drop_of_length-le}
+use lib.ListN.{length, take, drop, replicate, length-take, length-drop}
 use lib.Seq.{sets, take-take}
 use borrow.Author.Tests.{ltb-false, eqb-false}
 use lib.Dec.{ltb, eqb}
 use Rattle.laws.proofs.Bools.{nor_left, nor_right}
-use Rattle.laws.proofs.Lists.{drop_turn}
 use Rattle.laws.proofs.Promise.{sets_front}
-use Rattle.wire.specs.Digits.{nibble}
 use Rattle.wire.specs.Frame.{digits_of}
 use Rattle.wire.specs.Parsing.{bytes_of, payload_of, data_of, bad_count}
 
@@ -31,29 +29,7 @@ bytes_of_short [] h = refl
 bytes_of_short (x ∷ []) h = refl
 bytes_of_short (x ∷ y ∷ rest) h = absurd (not-suc-le-zero (le_of_suc-le-suc (le_of_suc-le-suc h)))
 
--- writing: the digits of one byte, and then of those after it
-pub digits_turn : (bytes : List ℕ) (i : ℕ) → i < length bytes → (out : List ℕ) (at : ℕ)
-    → sets (sets out (at + 2 * i) (digits_of (get_or bytes i 0 ∷ []))) (at + 2 * (i + 1)) (digits_of (drop (i + 1) bytes))
-    ≡ sets out (at + 2 * i) (digits_of (drop i bytes))
-digits_turn bytes i h out at =
-    let e : at + 2 * (i + 1) ≡ suc (suc (at + 2 * i)) = omega arith in
-    rw (drop_turn bytes i h, e)
-
--- reading: the byte of two digits, and then those after it
-pub bytes_turn : (chars : List ℕ) (i : ℕ) → 2 * i + 2 < length chars → (into : List ℕ)
-    → sets (set into i (nibble (get_or chars (2 * i + 1) 0) * 16 + nibble (get_or chars (2 * i + 2) 0))) (i + 1) (bytes_of (drop (2 * (i + 1) + 1) chars))
-    ≡ sets into i (bytes_of (drop (2 * i + 1) chars))
-bytes_turn chars i h into =
-    let one : 2 * i + 1 < length chars = omega arith in
-    let a : 2 * i + 1 + 1 ≡ 2 * i + 2 = omega arith in
-    let b : 2 * i + 2 + 1 ≡ 2 * (i + 1) + 1 = omega arith in
-    let e : i + 1 ≡ suc i = omega arith in
-    rw (drop_turn chars (2 * i + 1) one, a, drop_turn chars (2 * i + 2) h, b, e)
-
--- at the end of the loops nothing is left to write, and nothing to read
-pub digits_end : (bytes : List ℕ) (i : ℕ) → length bytes ≤ i → (out : List ℕ) (at : ℕ) → sets out at (digits_of (drop i bytes)) ≡ out
-digits_end bytes i h out at = rw (drop_of_length-le bytes h)
-
+-- at the end of the loop nothing is left to read
 pub payload_front : (chars : List ℕ) (i : ℕ) → length chars ≤ 2 * i + 2 → length chars ≤ 73 → (payload : List ℕ)
     → sets payload i (bytes_of (drop (2 * i + 1) chars)) ≡ sets (replicate 36 0) 0 (payload_of chars)
     → take (length (payload_of chars)) payload ≡ payload_of chars

@@ -1,14 +1,13 @@
 // Hex digits of frames and rows, made and read here alone. Document 01, Frames: "`0`-`9`, `A`-`F` only."
 ghost use Rattle.std.specs.Prelude.{◌+◌, ◌*◌, ◌<◌, ◌≡◌};
 ghost use Rattle.wire.specs.Digits.{digit, nibble, is_digit};
-ghost use Rattle.wire.specs.Calls.{pair_of};
 
-use crate::Pair;
 use spans::Kind;
 
 const TEN: u8 = 10;
 
 // Returns the digit of a nibble.
+#[tactic(auto, unfolding(crate::specs::Digits::digit))]
 pub(crate) fn digit_of(n: u8) -> u8
     requires { n < 16 }
     ensures { result ≡ digit n }
@@ -23,6 +22,7 @@ pub(crate) struct Digit;
 impl Kind for Digit {
     ghost holds = { λ _ c. is_digit c };
 
+    #[tactic(auto, using(crate::proofs::Nibbles::digit_test))]
     fn holds(self, c: u8) -> bool {
         ((b'0' <= c) & (c <= b'9')) | ((b'A' <= c) & (c <= b'F'))
     }
@@ -30,21 +30,12 @@ impl Kind for Digit {
 
 // Returns the nibble of a digit. The low four bits count from 0 for a decimal digit and from 1 for a letter, and letters alone are 64 or
 // more. The sum has no branch, so the processor has none to predict.
+#[tactic(auto, using(crate::proofs::Nibbles::nibble_bits))]
 pub(crate) fn nibble_of(c: u8) -> u8
     requires { nibble c < 16 }
     ensures { result ≡ nibble c }
 {
     c % 16 + 9 * (c / 64)
-}
-
-// Returns both digits of a byte, the high nibble first.
-pub(crate) fn pair_of(byte: u8) -> Pair
-    ensures { result ≡ pair_of byte }
-{
-    Pair {
-        high: digit_of(byte / 16),
-        low: digit_of(byte % 16),
-    }
 }
 
 // Returns the byte of two digits.

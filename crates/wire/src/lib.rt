@@ -35,7 +35,10 @@ pub struct Frame {
 pub fn pair_of(byte: u8) -> Pair
     ensures { result ≡ pair_of byte }
 {
-    digits::pair_of(byte)
+    Pair {
+        high: digits::digit_of(byte / 16),
+        low: digits::digit_of(byte % 16),
+    }
 }
 
 // Returns the nibble of a digit, and none for any other character.
@@ -58,6 +61,7 @@ pub fn all_digits(chars: &[u8]) -> bool
 
 // Writes the frame of a command and its data to the front of `out`, and returns its length. Refuses 11 under 75 bytes of room, then 12 for a
 // command over 15 or over 35 data bytes; then nothing is written.
+#[tactic(auto, unfolding(crate::specs::Calls::writing, laws::specs::Promise::overlaid))]
 pub fn write_frame(command: u8, bytes: &[u8], out: &mut [u8]) -> Result<usize, Refusal>
     ensures { Gives Written (writing command bytes.now (length out.old)) out.old result out.new }
 {
@@ -72,6 +76,7 @@ pub fn write_frame(command: u8, bytes: &[u8], out: &mut [u8]) -> Result<usize, R
 
 // Reads one whole frame, from its colon to its newline, and puts its data at the front of `into`. Refuses 11 under 35 bytes of room, then 2
 // for a slice that a colon and a newline do not enclose, then 1 to 4 for the characters between.
+#[tactic(auto, unfolding(crate::specs::Calls::parsing, crate::specs::Calls::parsing_chars, crate::specs::Calls::whole_says, laws::specs::Promise::overlaid))]
 pub fn read_frame(frame: &[u8], into: &mut [u8]) -> Result<Frame, Refusal>
     ensures { Gives Read (parsing frame.now (length into.old)) into.old result into.new }
 {
@@ -88,6 +93,7 @@ pub fn read_frame(frame: &[u8], into: &mut [u8]) -> Result<Frame, Refusal>
 
 // Reads the characters between a frame's colon and its newline, without those two, and puts the data at the front of `into`. Refuses 11
 // under 35 bytes of room, then 1 to 4 for the characters.
+#[tactic(auto, unfolding(crate::specs::Calls::parsing_chars, crate::specs::Parsing::body_says, laws::specs::Promise::overlaid))]
 pub fn read_chars(chars: &[u8], into: &mut [u8]) -> Result<Frame, Refusal>
     ensures { Gives Read (parsing_chars chars.now (length into.old)) into.old result into.new }
 {

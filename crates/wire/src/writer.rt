@@ -4,7 +4,7 @@ ghost use Rattle.laws.specs.Lists.{sum_of};
 ghost use Rattle.laws.specs.Promise.{overlaid};
 ghost use Rattle.wire.specs.Frame.{frame, check, digits_of};
 
-use crate::digits;
+use crate::{Pair, digits, pair_of};
 
 // Returns the sum of some bytes, modulo 256.
 pub(crate) fn sum_of(bytes: &[u8]) -> u8
@@ -18,6 +18,7 @@ pub(crate) fn sum_of(bytes: &[u8]) -> u8
 }
 
 // Returns the check byte that brings command and data to the total.
+#[tactic(auto, unfolding(crate::specs::Frame::check))]
 fn check_of(command: u8, bytes: &[u8]) -> u8
     ensures { result ≡ check command bytes.now }
 {
@@ -31,9 +32,9 @@ fn put_byte(out: &mut [u8], at: usize, byte: u8)
     requires { at + 1 < length out.old }
     ensures { out.new ≡ sets out.old at (digits_of (byte ∷ [])) }
 {
-    let pair = digits::pair_of(byte);
-    out[at] = pair.high;
-    out[at + 1] = pair.low;
+    let Pair { high, low } = pair_of(byte);
+    out[at] = high;
+    out[at + 1] = low;
 }
 
 // Puts the digits of some bytes from a place on.

@@ -9,39 +9,20 @@ use Rattle.laws.specs.Lists.{sum_of}
 use Rattle.laws.proofs.Promise.{copied, gives_none, gives_bytes}
 use Rattle.wire.specs.Parsing.{command_of, payload_of, data_of}
 use Rattle.wire.specs.Calls.{read_as}
-use Rattle.wire.proofs.Nibbles.{nibble_at_lem}
-use Rattle.wire.proofs.Bytes.{odd_count, length_data, payload_part, data_part}
+use Rattle.wire.proofs.Bytes.{length_data, payload_part, data_part}
 use Rattle.wire.proofs.Answers.{body_sum, body_good}
 use Rattle.wire.proofs.reader.read_digits.Goals as goal
-use Rattle.wire.proofs.reader.read_digits.Goals.{After-sum_of, Start}
-
-many : (c : Start) → 3 ≤ length c.args.chars.now
-many c = (odd_count (length c.args.chars.now) c.requires.2).0
+use Rattle.wire.proofs.reader.read_digits.Goals.{After-sum_of}
 
 -- the sum as it was taken is that of the whole payload
 sums : (c : After-sum_of) → (c.nibble_of-command.result + c.sum_of.result) % 256 ≡ (command_of c.args.chars.now + sum_of (payload_of c.args.chars.now)) % 256
 sums c =
     rw (c.nibble_of-command.ensures, c.sum_of.ensures, payload_part _ _ c.requires.2 c.payload_of-payload.ensures.1) (add-mod-mod _ _ 256)
 
-pub bounds-chars-0 : goal.bounds-chars-0
-bounds-chars-0 c =
-    omega (arith, many (goal.at.bounds-chars-0 c).Start)
-
-pub nibble_of-command-requires : goal.nibble_of-command-requires
-nibble_of-command-requires c =
-    nibble_at_lem c.args.chars.now c.requires.1 0 (omega (arith, many (goal.at.nibble_of-command-requires c).Start))
-
-pub slice_bounds-sum_of-end : goal.slice_bounds-sum_of-end
-slice_bounds-sum_of-end c = rw length-take (omega (arith, c.payload_of-payload.ensures.0))
-
 pub returns-then-command-sum_of-ne-FRAME_TOTAL : goal.returns-then-command-sum_of-ne-FRAME_TOTAL
 returns-then-command-sum_of-ne-FRAME_TOTAL c =
     let pre = c.requires in
     gives_none _ (ap read_as (body_sum _ pre.0 pre.1 pre.2 (ne_eqb _ _ (λ e. c.if-command-sum_of-ne-FRAME_TOTAL.true (sums (goal.at.returns-then-command-sum_of-ne-FRAME_TOTAL c).After-sum_of ∙ e)))))
-
-pub slice_bounds-copy-length : goal.slice_bounds-copy-length
-slice_bounds-copy-length c =
-    rw length-take (omega (arith, c.payload_of-payload.ensures.0))
 
 pub returns : goal.returns
 returns c =
