@@ -12,6 +12,8 @@ use lib.Dec.{ltb, eqb}
 use Rattle.laws.specs.Lists.{every}
 use Rattle.laws.specs.Promise.{Given}
 use Rattle.laws.proofs.Bools.{pick}
+use Rattle.paper.specs.declared.Refusal.{Refusal}
+use Rattle.paper.specs.Numbers as paper
 use Rattle.paper.specs.Numbers.{colon, newline}
 use Rattle.wire.specs.Digits.{is_digit}
 use Rattle.wire.specs.Parsing.{Ended, good, refused, command_of, data_of, bad_count, sums_up, body_says, broken_says}
@@ -114,22 +116,23 @@ first_some (x ∷ xs) ys n e = by x.holds e (first_some xs ys n)
 
 -- the refusals of a frame's characters are 1 to 4, and a colon leaves nothing else
 abbrev Faulty : Ended → Type 0
-Faulty e = (n : ℕ) → e ≡ refused n → (1 ≤ n) × (n ≤ 4)
+Faulty e = (r : Refusal) → e ≡ refused r → (1 ≤ paper.number_of r) × (paper.number_of r ≤ 4)
 
-fault : (k : ℕ) → 1 ≤ k → k ≤ 4 → Faulty (refused k)
-fault k low high n e = let is : k ≡ n = cc in (omega arith, omega arith)
+fault : (k : Refusal) → 1 ≤ paper.number_of k → paper.number_of k ≤ 4 → Faulty (refused k)
+fault k low high r e = let is : k ≡ r = cc in rw (sym is) (low, high)
 
 body_faulty : (chars : List ℕ) → Faulty (body_says chars)
 unfolding body_says
 body_faulty chars =
-    pick Faulty (ltb 73 (length chars)) (fault 1 (omega arith) (omega arith)) (pick Faulty (not (every is_digit chars)) (fault 2 (omega arith) (omega arith))
-    (pick Faulty (bad_count (length chars)) (fault 3 (omega arith) (omega arith)) (pick Faulty (not (sums_up chars)) (fault 4 (omega arith) (omega arith))
+    pick Faulty (ltb 73 (length chars)) (fault paper.too_long (omega arith) (omega arith)) (pick Faulty (not (every is_digit chars)) (fault paper.no_digit (omega arith) (omega arith))
+    (pick Faulty (bad_count (length chars)) (fault paper.bad_count (omega arith) (omega arith)) (pick Faulty (not (sums_up chars)) (fault paper.bad_sum (omega arith) (omega arith))
     (λ n e. let z : ◌≡◌ {A = ℕ} 0 1 = cc in absurd (omega arith)))))
 
-broken_faulty : (count : ℕ) → (n : ℕ) × (broken_says count ≡ refused n) × (1 ≤ n) × (n ≤ 4)
+broken_faulty : (count : ℕ) → (r : Refusal) × (broken_says count ≡ refused r) × (1 ≤ paper.number_of r) × (paper.number_of r ≤ 4)
 unfolding broken_says
 broken_faulty count =
-    pick (λ (e : Ended). (n : ℕ) × (e ≡ refused n) × (1 ≤ n) × (n ≤ 4)) (ltb 73 count) (1, refl, omega arith, omega arith) (2, refl, omega arith, omega arith)
+    pick (λ (e : Ended). (r : Refusal) × (e ≡ refused r) × (1 ≤ paper.number_of r) × (paper.number_of r ≤ 4)) (ltb 73 count)
+    (paper.too_long, refl, omega arith, omega arith) (paper.no_digit, refl, omega arith, omega arith)
 
 -- what is decided of a frame with these characters
 module _ (core : Core) (ok : core_allowed core ≡ true) (chars : List ℕ) where
@@ -141,7 +144,7 @@ module _ (core : Core) (ok : core_allowed core ≡ true) (chars : List ℕ) wher
       let parts = is command bytes refl in
       rw (parts.0, parts.1) (frame_rows core (data_of chars) (table_allowed core ok) (command_of chars))
       ∙ sym (first_none (faults chars b) (rows core (command_of chars) (data_of chars)) (sym e))
-  judged b (refused n) is e = sym (first_some (faults chars b) (rows core (command_of chars) (data_of chars)) n (sym e))
+  judged b (refused r) is e = sym (first_some (faults chars b) (rows core (command_of chars) (data_of chars)) (paper.number_of r) (sym e))
 
   body_judged : number_of (deciding core (body_says chars ∷ [])).outcome ≡ first_of (faults chars newline ++ rows core (command_of chars) (data_of chars))
   body_judged =

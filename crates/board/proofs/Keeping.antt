@@ -8,6 +8,7 @@ use lib.ListN.{length, take}
 use lib.Dec.{ltb}
 use Rattle.laws.specs.Promise.{Given}
 use Rattle.laws.proofs.Bools.{both}
+use Rattle.paper.specs.declared.Refusal.{Refusal}
 use Rattle.wire.specs.Parsing.{Ended, good, refused}
 use Rattle.stream.specs.Stream.{taken}
 use Rattle.stream.specs.Calls as stream
@@ -44,13 +45,13 @@ module _ (core : Core) (long : length core.table.numbers ≡ count) where
   decided_allowed ok (good command bytes ∷ rest) =
       rw (identity_stays_it core command bytes, answer_makes_it core command bytes)
       (both _ _ (identity_allowed_lem core ok) ((makes_keeps_allowed core.table command bytes long).0 (table_allowed core ok)))
-  decided_allowed ok (refused number ∷ rest) = ok
+  decided_allowed ok (refused refusal ∷ rest) = ok
 
   pub decided_count : (fs : List Ended) → length (deciding core fs).core.table.numbers ≡ count
   unfolding deciding
   decided_count [] = long
   decided_count (good command bytes ∷ rest) = rw (answer_makes_it core command bytes) (makes_keeps_allowed core.table command bytes long).1
-  decided_count (refused number ∷ rest) = long
+  decided_count (refused refusal ∷ rest) = long
 
 heard_board_allowed : (board : Board) (piece : List ℕ) → length board.core.table.numbers ≡ count → board_allowed board ≡ true
     → board_allowed (heard_by board piece).answer.board ≡ true
@@ -68,20 +69,20 @@ answer_allowed board piece room long ok =
     (λ h e. rw (answering_heard board piece room h e) (heard_board_allowed board piece long ok))
 
 -- a refusal
-decided_stays : (core : Core) (fs : List Ended) (number : ℕ) → (deciding core fs).outcome ≡ Outcome.Refused number → (deciding core fs).core ≡ core
+decided_stays : (core : Core) (fs : List Ended) (refusal : Refusal) → (deciding core fs).outcome ≡ Outcome.Refused refusal → (deciding core fs).core ≡ core
 unfolding deciding
-decided_stays core [] number e = refl
-decided_stays core (good command bytes ∷ rest) number e = refused_stays_it core command bytes number e
-decided_stays core (refused n ∷ rest) number e = refl
+decided_stays core [] refusal e = refl
+decided_stays core (good command bytes ∷ rest) refusal e = refused_stays_it core command bytes refusal e
+decided_stays core (refused fault ∷ rest) refusal e = refl
 
-heard_keeps : (board : Board) (piece : List ℕ) (number : ℕ) → (heard_by board piece).answer.outcome ≡ Outcome.Refused number
+heard_keeps : (board : Board) (piece : List ℕ) (refusal : Refusal) → (heard_by board piece).answer.outcome ≡ Outcome.Refused refusal
     → (heard_by board piece).answer.board.core ≡ board.core
 unfolding heard_by decided_by
 heard_keeps board piece = decided_stays board.core (ended_in board.held piece)
 
 pub refusal_keeps : RefusalKeeps
-refusal_keeps board piece room number =
-    cases board piece room (λ (g : Given Answered). g.answer.outcome ≡ Outcome.Refused number → g.answer.board.core ≡ board.core)
+refusal_keeps board piece room refusal =
+    cases board piece room (λ (g : Given Answered). g.answer.outcome ≡ Outcome.Refused refusal → g.answer.board.core ≡ board.core)
     (λ h. rw (answering_short board piece room h) (λ e. refl))
     (λ h a. rw (answering_stray board piece room h a) (λ e. refl))
-    (λ h a. rw (answering_heard board piece room h a) (heard_keeps board piece number))
+    (λ h a. rw (answering_heard board piece room h a) (heard_keeps board piece refusal))

@@ -5,6 +5,7 @@ pub mod Sending
 pub mod Pieces
 pub mod Keeping
 pub mod Replying
+pub mod Heeding
 pub mod Giving
 pub mod Judging
 pub mod Theorems

@@ -75,7 +75,7 @@ readable error f =
     let one : Alone 4 (0xAA ∷ 0xAA ∷ []) = alone 4 (0xAA ∷ 0xAA ∷ []) w in
     record { short = leb-true 9 75 refl; frames_are = ap frames_of error_frame_lem ∙ one.frames_are; none_left = ap left_by error_frame_lem ∙ one.none_left }
 
-decided_fits : (core : Core) → core_allowed core ≡ true → (fs : List Ended) → Writables fs → Fits (deciding core fs).reply
+pub decided_fits : (core : Core) → core_allowed core ≡ true → (fs : List Ended) → Writables fs → Fits (deciding core fs).reply
 unfolding deciding
 decided_fits core ok [] w = fitting.nothing
 decided_fits core ok (good command bytes ∷ rest) (whole w others) =

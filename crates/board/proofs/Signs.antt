@@ -1,98 +1,80 @@
--- Signed numbers: a number within the ends of a width fits it, and keeps its value where it is handed on. Assumes nothing.
+-- Numbers of 64 bits at the published widths: a conversion gives a number exactly where document 01 says that it fits. Assumes nothing.
 use mathlib.Core.Path.{◌≡◌, refl, sym, ap, ◌∙◌}
-use mathlib.Core.Bool.{Bool, true, false≢true, ◌&&◌}
+use mathlib.Core.Bool.{Bool, true, false, cond, false≢true, ◌&&◌}
 use Prim.Native.Nat.{ℕ, suc, ◌≤◌, ◌<◌, ◌^◌}
 use native.Mathlib.Omega.{arith}
-use borrow.Author.Tests.{leb-true}
-use lib.Dec.{T, leb}
+use borrow.Author.Tests.{leb-true, le-leb}
+use lib.Dec.{leb}
 use lib.IntN.{ℤ, pos, negsuc, nat_abs}
-use lib.Signed.{mag, non_neg}
-use mir.Val.{SFits, Fits, to_z, of_z, hbits}
+use mir.Val.{SFits, to_z, of_z, hbits}
 use mir.ValLaws.{to_z-of_z}
 use mir.Syntax.{Width, w16, w32, w64}
-use Rattle.laws.proofs.Bools.{and_left, and_right}
-use Rattle.board.specs.Parts.{fits16, fits32, fits_charge, sample_fits}
-use Rattle.board.specs.declared.Sample.{Sample}
+use Rattle.std.proofs.Common.{Result, Ok, Err, Option, Some, None}
+use Rattle.std.specs.Result.{OkIff, result_ok}
+use Rattle.std.specs.Int.{FitsUnsignedBits}
+use Rattle.laws.proofs.Bools.{and_left, and_right, both}
+use Rattle.board.specs.Parts.{within, fits16, fits32, fits_charge}
 
--- how far a number that fits is from 0, or a negative one from -1
-mag_16 : (x : ℤ) → fits16 x ≡ true → mag x ≤ 0x7FFF
-mag_16 (pos n) e = let most = leb-true n _ e in omega arith
-mag_16 (negsuc n) e = leb-true n 0x7FFF (and_left (leb n 0x7FFF) true e)
+-- a result that is there exactly where a test passes
+when_told : {T E : Type 0} (b : Bool) {P : Type 0} (v : T) → (b ≡ true → P) → (P → b ≡ true) → (r : Result T E) → OkIff r P v → result_ok r ≡ cond b (Some v) None
+when_told true v f g (Ok x) told = ap Some told.1
+when_told true v f g (Err e) told = absurd (told (f refl))
+when_told false v f g (Ok x) told = absurd (false≢true (g told.0))
+when_told false v f g (Err e) told = refl
 
-mag_32 : (x : ℤ) → fits32 x ≡ true → mag x ≤ 0x7FFFFFFF
-mag_32 (pos n) e = let most = leb-true n _ e in omega arith
-mag_32 (negsuc n) e = leb-true n 0x7FFFFFFF (and_left (leb n 0x7FFFFFFF) true e)
+pub some_told : {T : Type 0} (b : Bool) (v x : T) → Some v ≡ cond b (Some x) None → (b ≡ true) × (v ≡ x)
+some_told true v x e = (refl, cc)
+some_told false v x e = let z : ◌≡◌ {A = ℕ} 0 1 = cc in absurd (omega arith)
 
-mag_charge : (x : ℤ) → fits_charge x ≡ true → mag x ≤ 0xFFFF
-mag_charge (pos n) e = leb-true n 0xFFFF (and_right (leb 0 n) _ e)
-mag_charge (negsuc n) e = absurd (false≢true e)
+pub none_told : {T : Type 0} (b : Bool) (x : T) → None ≡ cond b (Some x) None → b ≡ false
+none_told true x e = let z : ◌≡◌ {A = ℕ} 0 1 = cc in absurd (omega arith)
+none_told false x e = refl
 
-mag_fits : (w : Width) (m : ℕ) → suc m ≡ 2 ^ hbits w → (x : ℤ) → mag x ≤ m → SFits w x
-mag_fits w m half x few = record { sfits = rw (sym half) (omega arith) }
+-- a number is within the ends of a width exactly where it fits it
+fits_is : (w : Width) (m : ℕ) → suc m ≡ 2 ^ hbits w → (x : ℤ) → within (negsuc m) (pos m) x ≡ true → SFits w x
+fits_is w m half (pos n) e = let most = leb-true n m e in record { sfits = rw (sym half) (omega arith) }
+fits_is w m half (negsuc n) e = let most = leb-true n m (and_left (leb n m) true e) in record { sfits = rw (sym half) (omega arith) }
 
-pub fits_16 : (x : ℤ) → fits16 x ≡ true → SFits w16 x
-fits_16 x e = mag_fits w16 0x7FFF refl x (mag_16 x e)
+is_fit : (w : Width) (m : ℕ) → suc m ≡ 2 ^ hbits w → (x : ℤ) → SFits w x → within (negsuc m) (pos m) x ≡ true
+is_fit w m half (pos n) f = let less : n < suc m = rw half f.sfits in le-leb n m (omega arith)
+is_fit w m half (negsuc n) f = let less : n < suc m = rw half f.sfits in rw (le-leb n m (omega arith))
 
-pub fits_32 : (x : ℤ) → fits32 x ≡ true → SFits w32 x
-fits_32 x e = mag_fits w32 0x7FFFFFFF refl x (mag_32 x e)
+-- an argument of a call, as the call sees it
+kept : (x : ℤ) → SFits w64 x → to_z w64 (of_z w64 x) ≡ x
+kept = to_z-of_z w64
 
-pub charge_fits : (x : ℤ) → fits_charge x ≡ true → T (non_neg x) × Fits w16 (nat_abs x)
-charge_fits (pos n) e = let few : n ≤ 0xFFFF = mag_charge (pos n) e in (tt, record { fits = omega arith })
-charge_fits (negsuc n) e = absurd (false≢true e)
+signed_told : {E : Type 0} (w : Width) (m : ℕ) → suc m ≡ 2 ^ hbits w → (x : ℤ) → SFits w64 x → (r : Result ℤ E)
+    → OkIff r (SFits w (to_z w64 (of_z w64 x))) (to_z w64 (of_z w64 x)) → result_ok r ≡ cond (within (negsuc m) (pos m) x) (Some x) None
+signed_told w m half x wide r told = when_told (within (negsuc m) (pos m) x) x (fits_is w m half x) (is_fit w m half x) r (rw (kept x wide) at told)
+
+pub told_16 : {E : Type 0} (x : ℤ) → SFits w64 x → (r : Result ℤ E) → OkIff r (SFits w16 (to_z w64 (of_z w64 x))) (to_z w64 (of_z w64 x))
+    → result_ok r ≡ cond (fits16 x) (Some x) None
+told_16 = signed_told w16 0x7FFF refl
+
+pub told_32 : {E : Type 0} (x : ℤ) → SFits w64 x → (r : Result ℤ E) → OkIff r (SFits w32 (to_z w64 (of_z w64 x))) (to_z w64 (of_z w64 x))
+    → result_ok r ≡ cond (fits32 x) (Some x) None
+told_32 = signed_told w32 0x7FFFFFFF refl
+
+charge_is : (x : ℤ) → fits_charge x ≡ true → FitsUnsignedBits 16 x
+charge_is (pos n) e = let most = leb-true n 0xFFFF (and_right (leb 0 n) _ e) in omega arith
+charge_is (negsuc n) e = absurd (false≢true e)
+
+is_charge : (x : ℤ) → FitsUnsignedBits 16 x → fits_charge x ≡ true
+is_charge (pos n) f = both _ _ (le-leb 0 n (omega arith)) (le-leb n 0xFFFF (omega arith))
+is_charge (negsuc n) f = absurd f
+
+pub told_charge : {E : Type 0} (x : ℤ) → SFits w64 x → (r : Result ℕ E) → OkIff r (FitsUnsignedBits 16 (to_z w64 (of_z w64 x))) (nat_abs (to_z w64 (of_z w64 x)))
+    → result_ok r ≡ cond (fits_charge x) (Some (nat_abs x)) None
+told_charge x wide r told = when_told (fits_charge x) (nat_abs x) (charge_is x) (is_charge x) r (rw (kept x wide) at told)
+
+-- and it stays what it is at the narrower width
+pub narrow_16 : (x : ℤ) → fits16 x ≡ true → to_z w16 (of_z w16 x) ≡ x
+narrow_16 x e = to_z-of_z w16 x (fits_is w16 0x7FFF refl x e)
+
+pub narrow_32 : (x : ℤ) → fits32 x ≡ true → to_z w32 (of_z w32 x) ≡ x
+narrow_32 x e = to_z-of_z w32 x (fits_is w32 0x7FFFFFFF refl x e)
 
 -- a charge is its own distance to 0
 pub charge_back : (x : ℤ) → fits_charge x ≡ true → pos (nat_abs x) ≡ x
 charge_back (pos n) e = refl
 charge_back (negsuc n) e = absurd (false≢true e)
-
--- an argument of a call, as the call sees it
-pub kept : (x : ℤ) → SFits w64 x → to_z w64 (of_z w64 x) ≡ x
-kept = to_z-of_z w64
-
-pub kept_in : (p : ℤ → Bool) (x : ℤ) → SFits w64 x → p (to_z w64 (of_z w64 x)) ≡ p x
-kept_in p x fits = ap p (kept x fits)
-
--- a cast to a narrower width keeps what fits it
-pub narrow : (w : Width) (x r : ℤ) → SFits w64 x → SFits w x → r ≡ to_z w64 (of_z w64 x) → to_z w (of_z w r) ≡ x
-narrow w x r wide fits e = ap (λ (z : ℤ). to_z w (of_z w z)) (e ∙ kept x wide) ∙ to_z-of_z w x fits
-
--- what a small number is at the widest width
-small_wide : (m : ℕ) (x : ℤ) → m < 0x8000000000000000 → mag x ≤ m → SFits w64 x
-small_wide m x less few = record { sfits = omega arith }
-
--- five numbers that fit, one by one
-pub record Fit (given : Sample) : Type 0 where
-  pub voltage : fits16 given.voltage ≡ true
-  pub current : fits16 given.current ≡ true
-  pub fine : fits32 given.fine ≡ true
-  pub consumed : fits32 given.consumed ≡ true
-  pub charge : fits_charge given.charge ≡ true
-
-pub fit_parts : (given : Sample) → sample_fits given ≡ true → Fit given
-unfolding sample_fits
-fit_parts given e =
-    let v : Bool = fits16 given.voltage in
-    let i : Bool = fits16 given.current in
-    let f : Bool = fits32 given.fine in
-    let a : Bool = fits32 given.consumed in
-    let c : Bool = fits_charge given.charge in
-    let four : (v && i && f && a) ≡ true = and_left (v && i && f && a) c e in
-    let three : (v && i && f) ≡ true = and_left (v && i && f) a four in
-    let two : (v && i) ≡ true = and_left (v && i) f three in
-    record {
-      voltage = and_left v i two;
-      current = and_right v i two;
-      fine = and_right (v && i) f three;
-      consumed = and_right (v && i && f) a four;
-      charge = and_right (v && i && f && a) c e;
-    }
-
--- a number that fits is at home at the widest width
-pub wide_16 : (x : ℤ) → fits16 x ≡ true → SFits w64 x
-wide_16 x e = small_wide 0x7FFF x (leb-true _ _ refl) (mag_16 x e)
-
-pub wide_32 : (x : ℤ) → fits32 x ≡ true → SFits w64 x
-wide_32 x e = small_wide 0x7FFFFFFF x (leb-true _ _ refl) (mag_32 x e)
-
-pub wide_charge : (x : ℤ) → fits_charge x ≡ true → SFits w64 x
-wide_charge x e = small_wide 0xFFFF x (leb-true _ _ refl) (mag_charge x e)

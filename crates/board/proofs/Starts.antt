@@ -3,6 +3,8 @@ use mathlib.Core.Path.{◌≡◌, refl, sym, ap, ◌∙◌}
 use mathlib.Core.Bool.{Bool, true, false, cond, not, ◌&&◌}
 use mathlib.Core.List.{List, [], ◌∷◌}
 use Prim.Native.Nat.{ℕ}
+use Rattle.std.proofs.Common.{Ok, Err}
+use Rattle.std.specs.Prelude.{is_ok}
 use Rattle.laws.specs.Refusals.{row, first_of}
 use Rattle.laws.proofs.Bools.{and_left, and_right, both}
 use Rattle.stream.proofs.Reached.{left_allowed}
@@ -15,16 +17,14 @@ use Rattle.who.specs.Calls.{naming}
 use Rattle.who.specs.Laws.{is_serial, refusal_of}
 use Rattle.who.specs.declared.Identity.{Identity}
 use Rattle.answers.specs.Answers.{core_allowed, with_readings}
-use Rattle.who.specs.declared.Verdict.{Verdict}
-use Rattle.who.specs.declared.Named.{Named}
 use Rattle.who.proofs.Identities.{serial_back, identity_fits, named_accepted, named_refused}
-use Rattle.board.specs.Parts.{fresh_board, sample_fits, readings_of, board_allowed}
+use Rattle.board.specs.Parts.{fresh_board, fits_charge, sample_fits, readings_of, board_allowed}
 use Rattle.board.specs.Calls.{refused_start, starting, storing}
 use Rattle.board.specs.Laws.{StartIsAllowed, StartHoldsIt, StartGivenWhen, StartIsRefused, StoreStores, is_sample, StoreGivenWhen, StoreKeepsAllowed}
 use Rattle.board.specs.declared.Board.{Board}
 use Rattle.board.specs.declared.Sample.{Sample}
 use Rattle.board.specs.declared.Handed.{Handed}
-use Rattle.board.proofs.Signs.{fit_parts, charge_back}
+use Rattle.board.proofs.Signs.{charge_back}
 
 module _ (product version : ℕ) (serial : List ℕ) (table : Table) where
   pub start_refused : (serial_fits serial && allowed table) ≡ false
@@ -33,17 +33,17 @@ module _ (product version : ℕ) (serial : List ℕ) (table : Table) where
   start_refused e = rw e
 
   pub start_accepted : (serial_fits serial && allowed table) ≡ true
-      → starting product version serial table ≡ record { board = fresh_board (identity_of product version serial) table; verdict = Verdict.Accepted }
+      → starting product version serial table ≡ record { board = fresh_board (identity_of product version serial) table; verdict = Ok tt }
   unfolding starting
   start_accepted e = rw e
 
 module _ (board : Board) (given : Sample) where
-  pub store_refused : (board_allowed board && sample_fits given) ≡ false → storing board given ≡ record { board = board; verdict = Verdict.Refused not_allowed }
+  pub store_refused : (board_allowed board && sample_fits given) ≡ false → storing board given ≡ record { board = board; verdict = Err not_allowed }
   unfolding storing
   store_refused e = rw e
 
   pub store_accepted : (board_allowed board && sample_fits given) ≡ true
-      → storing board given ≡ record { board = record { core = with_readings board.core (readings_of given); held = board.held }; verdict = Verdict.Accepted }
+      → storing board given ≡ record { board = record { core = with_readings board.core (readings_of given); held = board.held }; verdict = Ok tt }
   unfolding storing
   store_accepted e = rw e
 
@@ -85,7 +85,7 @@ start_allowed product version serial table = by (serial_fits serial && allowed t
     by false e = rw (start_refused product version serial table e) refused_allowed
 
 pub store_stores : StoreStores
-unfolding readings_of
+unfolding sample_fits readings_of
 store_stores board given ok fits =
     let is = store_accepted board given (both _ _ ok fits) in
     record {
@@ -94,7 +94,7 @@ store_stores board given ok fits =
       current_is = rw is;
       fine_is = rw is;
       consumed_is = rw is;
-      charge_is = rw is (charge_back given.charge (fit_parts given fits).charge);
+      charge_is = rw is (charge_back given.charge (and_right _ (fits_charge given.charge) fits));
       identity_same = rw is;
       table_same = rw is;
       held_same = rw is;
@@ -115,7 +115,7 @@ unfolding starting serial_fits refused_start
 start_given product version serial table = by (is_serial serial && allowed table)
   where
     by : (b : Bool)
-        → refusal_of (cond b (record { board = fresh_board (identity_of product version serial) table; verdict = Verdict.Accepted }) refused_start).verdict
+        → refusal_of (cond b (record { board = fresh_board (identity_of product version serial) table; verdict = Ok tt }) refused_start).verdict
         ≡ first_of (row 12 (not b) ∷ [])
     by true = refl
     by false = refl
@@ -125,37 +125,16 @@ unfolding storing sample_fits
 store_given board given = by (board_allowed board && is_sample given)
   where
     stored : Handed
-    stored = record { board = record { core = with_readings board.core (readings_of given); held = board.held }; verdict = Verdict.Accepted }
+    stored = record { board = record { core = with_readings board.core (readings_of given); held = board.held }; verdict = Ok tt }
 
-    by : (b : Bool) → refusal_of (cond b stored (record { board = board; verdict = Verdict.Refused not_allowed })).verdict ≡ first_of (row 12 (not b) ∷ [])
+    by : (b : Bool) → refusal_of (cond b stored (record { board = board; verdict = Err not_allowed })).verdict ≡ first_of (row 12 (not b) ∷ [])
     by true = refl
     by false = refl
 
 -- a start by what became of its identity
-abbrev accepts : Verdict → Bool
-accepts Verdict.Accepted = true
-accepts (Verdict.Refused number) = false
-
-module _ (product version : ℕ) (serial : List ℕ) (table : Table) where
-  pub start_stray : allowed table ≡ false → starting product version serial table ≡ refused_start
-  start_stray e = start_refused product version serial table (rw e (by (serial_fits serial)))
-    where
-      by : (b : Bool) → (b && false) ≡ false
-      by true = refl
-      by false = refl
-
-  module _ {named : Named} (is : named ≡ naming product version serial) where
-    fits_told : (b : Bool) → serial_fits serial ≡ b → accepts named.verdict ≡ b
-    fits_told true e = rw (is, named_accepted product version serial e)
-    fits_told false e = rw (is, named_refused product version serial e)
-
-    pub start_named : allowed table ≡ true → named.verdict ≡ Verdict.Accepted
-        → record { board = fresh_board named.identity table; verdict = Verdict.Accepted } ≡ starting product version serial table
-    start_named ok e =
-        let fits : serial_fits serial ≡ true = sym (fits_told (serial_fits serial) refl) ∙ ap accepts e in
-        rw (is, named_accepted product version serial fits) (sym (start_accepted product version serial table (both _ _ fits ok)))
-
-    pub start_unnamed : (number : ℕ) → named.verdict ≡ Verdict.Refused number → starting product version serial table ≡ refused_start
-    start_unnamed number e =
-        let fits : serial_fits serial ≡ false = sym (fits_told (serial_fits serial) refl) ∙ ap accepts e in
-        start_refused product version serial table (rw fits)
+pub named_told : (product version : ℕ) (serial : List ℕ) → is_ok (naming product version serial).verdict ≡ serial_fits serial
+named_told product version serial = by (serial_fits serial) refl
+  where
+    by : (b : Bool) → serial_fits serial ≡ b → is_ok (naming product version serial).verdict ≡ b
+    by true e = rw (named_accepted product version serial e)
+    by false e = rw (named_refused product version serial e)

@@ -1,5 +1,5 @@
 -- What each public call answers, for every input. Assumes nothing.
-use Rattle.std.specs.Prelude.{ℕ, zero, cond, not, ◌&&◌, List, [], ◌∷◌, length, take, ltb}
+use Rattle.std.specs.Prelude.{ℕ, zero, Ok, Err, cond, not, ◌&&◌, List, [], ◌∷◌, length, take, ltb}
 use Rattle.laws.specs.Promise.{Given}
 use Rattle.paper.specs.Numbers.{frame_room, short_buffer, not_allowed}
 use Rattle.wire.specs.Frame.{frame}
@@ -13,7 +13,7 @@ use Rattle.who.specs.Parts.{serial_fits, identity_of, no_identity}
 use Rattle.answers.specs.Answers.{with_readings, Sent, silent, sent, error, Decision, staying, frame_answer}
 use Rattle.answers.specs.declared.Core.{Core}
 use Rattle.answers.specs.declared.Outcome.{Outcome}
-use Rattle.who.specs.declared.Verdict.{Verdict}
+use Rattle.paper.specs.declared.Refusal.{Refusal}
 use Rattle.board.specs.Parts.{fresh_board, sample_fits, readings_of, board_allowed}
 use Rattle.board.specs.declared.Board.{Board}
 use Rattle.board.specs.declared.Sample.{Sample}
@@ -22,20 +22,20 @@ use Rattle.board.specs.declared.Answered.{Answered}
 
 -- "A refused start (12) returns product and version 0, an empty serial and the factory table."
 unfoldable pub refused_start : Handed
-refused_start = record { board = fresh_board no_identity factory; verdict = Verdict.Refused not_allowed }
+refused_start = record { board = fresh_board no_identity factory; verdict = Err not_allowed }
 
 unfoldable pub starting : ℕ → ℕ → List ℕ → Table → Handed
 starting product version serial table =
     cond (serial_fits serial && allowed table)
-    (record { board = fresh_board (identity_of product version serial) table; verdict = Verdict.Accepted })
+    (record { board = fresh_board (identity_of product version serial) table; verdict = Ok tt })
     refused_start
 
 -- "The board program stores readings as whole numbers; one that does not fit its width is refused (12) and none of the five changes."
 unfoldable pub storing : Board → Sample → Handed
 storing board given =
     cond (board_allowed board && sample_fits given)
-    (record { board = record { core = with_readings board.core (readings_of given); held = board.held }; verdict = Verdict.Accepted })
-    (record { board = board; verdict = Verdict.Refused not_allowed })
+    (record { board = record { core = with_readings board.core (readings_of given); held = board.held }; verdict = Ok tt })
+    (record { board = board; verdict = Err not_allowed })
 
 -- The call on a piece of input. "The error frame is the fixed nine bytes `:4AAAAFD` and newline."
 abbrev pub error_frame : List ℕ
@@ -55,7 +55,7 @@ ended_in held piece = let u = unfinished held in frames_from u (take (taken u pi
 unfoldable pub deciding : Core → List Ended → Decision
 deciding core [] = staying core Outcome.Nothing silent
 deciding core (good command bytes ∷ rest) = frame_answer core command bytes
-deciding core (refused number ∷ rest) = staying core (Outcome.Refused number) error
+deciding core (refused refusal ∷ rest) = staying core (Outcome.Refused refusal) error
 
 -- what a decision comes to with the frame that is now held: the board as decided, and the reply
 unfoldable pub decided_by : Held → Decision → ℕ → Given Answered
@@ -73,9 +73,9 @@ heard_by board piece =
     decided_by (held_of (left_from u (take (taken u piece) piece))) (deciding board.core (ended_in board.held piece)) (taken u piece)
 
 -- "Under 11 and 12 a state handed in comes back as it was, with counts and lengths 0."
-abbrev pub unanswered : Board → ℕ → Given Answered
-unanswered board number =
-    record { answer = record { board = board; outcome = Outcome.Refused number; len = zero; taken = zero }; written = [] }
+abbrev pub unanswered : Board → Refusal → Given Answered
+unanswered board refusal =
+    record { answer = record { board = board; outcome = Outcome.Refused refusal; len = zero; taken = zero }; written = [] }
 
 -- "A reply buffer needs 75 bytes, always, also where no reply comes."
 unfoldable pub answering : Board → List ℕ → ℕ → Given Answered

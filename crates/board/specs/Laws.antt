@@ -1,6 +1,6 @@
 -- What is proved of the definitions, as statements to compare with the papers. Each is proved under its name in proofs/Theorems.antt.
 -- Assumes nothing.
-use Rattle.std.specs.Prelude.{ℕ, ◌^◌, ◌≤◌, ◌<◌, ◌≡◌, ◌↔◌, Bool, true, false, not, ◌&&◌, List, [], ◌∷◌, length, ℤ, pos, negsuc}
+use Rattle.std.specs.Prelude.{ℕ, ◌^◌, ◌≤◌, ◌<◌, ◌≡◌, ◌↔◌, Bool, true, false, not, ◌&&◌, List, [], ◌∷◌, length, Ok, Err, ℤ, pos, negsuc}
 use Rattle.std.specs.Int.Signed.{le_z}
 use Rattle.paper.specs.Numbers as paper
 use Rattle.laws.specs.Promise.{Given}
@@ -21,7 +21,7 @@ use Rattle.answers.specs.Answers.{with_table, with_readings, frame_answer}
 use Rattle.answers.specs.declared.Core.{Core}
 use Rattle.requests.specs.Requests.{get_request, set_request}
 use Rattle.answers.specs.Refusals.{number_of}
-use Rattle.who.specs.declared.Verdict.{Verdict}
+use Rattle.paper.specs.declared.Refusal.{Refusal}
 use Rattle.answers.specs.declared.Outcome.{Outcome}
 use Rattle.board.specs.Parts.{within, sample_fits, readings_of, board_allowed}
 use Rattle.board.specs.Calls.{starting, storing, decided_by, answering}
@@ -36,7 +36,7 @@ abbrev pub StartIsAllowed : Type 0
 StartIsAllowed = (product version : ℕ) (serial : List ℕ) (table : Table) → board_allowed (starting product version serial table).board ≡ true
 
 pub record Started (product version : ℕ) (serial : List ℕ) (table : Table) (j : Handed) : Type 0 where
-  pub accepted : j.verdict ≡ Verdict.Accepted
+  pub accepted : j.verdict ≡ Ok tt
   pub product_is : j.board.core.identity.product ≡ product
   pub version_is : j.board.core.identity.version ≡ version
   pub serial_is : serial_of j.board.core.identity ≡ serial
@@ -59,12 +59,12 @@ StartGivenWhen =
 abbrev pub StartIsRefused : Type 0
 StartIsRefused =
     (product version : ℕ) (serial : List ℕ) (table : Table) → (serial_fits serial && allowed table) ≡ false
-    → starting product version serial table ≡ record { board = (starting 0 0 [] factory).board; verdict = Verdict.Refused 12 }
+    → starting product version serial table ≡ record { board = (starting 0 0 [] factory).board; verdict = Err paper.not_allowed }
 
 -- 2. Readings that fit are stored, each as it was given, and a board stays what it was in all else: allowed if it was. (`core_is` says it of
 -- the core as one value.)
 pub record Stored (board : Board) (given : Sample) : Type 0 where
-  pub accepted : (storing board given).verdict ≡ Verdict.Accepted
+  pub accepted : (storing board given).verdict ≡ Ok tt
   pub voltage_is : (storing board given).board.core.readings.voltage ≡ given.voltage
   pub current_is : (storing board given).board.core.readings.current ≡ given.current
   pub fine_is : (storing board given).board.core.readings.fine ≡ given.fine
@@ -97,7 +97,7 @@ StoreGivenWhen =
 abbrev pub StoreIsRefused : Type 0
 StoreIsRefused =
     (board : Board) (given : Sample) → (board_allowed board && sample_fits given) ≡ false
-    → storing board given ≡ record { board = board; verdict = Verdict.Refused 12 }
+    → storing board given ≡ record { board = board; verdict = Err paper.not_allowed }
 
 abbrev pub StoreKeepsAllowed : Type 0
 StoreKeepsAllowed = (board : Board) (given : Sample) → board_allowed board ≡ true → board_allowed (storing board given).board ≡ true
@@ -111,7 +111,7 @@ AnswerKeepsAllowed =
 -- 4. "On 1 to 10 the settings and readings stay", and under 11 and 12 too.
 abbrev pub RefusalKeeps : Type 0
 RefusalKeeps =
-    (board : Board) (piece : List ℕ) (room number : ℕ) → (answering board piece room).answer.outcome ≡ Outcome.Refused number
+    (board : Board) (piece : List ℕ) (room : ℕ) (refusal : Refusal) → (answering board piece room).answer.outcome ≡ Outcome.Refused refusal
     → (answering board piece room).answer.board.core ≡ board.core
 
 -- 5. The outcome, the bytes written and what the board holds afterwards belong together, and the other end reads in the bytes the frame that
@@ -201,9 +201,9 @@ abbrev pub RefusalGivenWhen : Type 0
 RefusalGivenWhen = (board : Board) (piece : List ℕ) (room : ℕ) → number_of (answering board piece room).answer.outcome ≡ first_of (call_rows board piece room)
 
 -- 11 and 12: "none; no byte taken or written"; "a state handed in comes back as it was, with counts and lengths 0".
-abbrev pub nothing_done : Board → ℕ → Given Answered
-nothing_done board number = record { answer = record { board = board; outcome = Outcome.Refused number; len = 0; taken = 0 }; written = [] }
+abbrev pub nothing_done : Board → Refusal → Given Answered
+nothing_done board refusal = record { answer = record { board = board; outcome = Outcome.Refused refusal; len = 0; taken = 0 }; written = [] }
 
 pub record CallIsRefused : Type 0 where
-  pub short : (board : Board) (piece : List ℕ) (room : ℕ) → room < 75 → answering board piece room ≡ nothing_done board 11
-  pub stray : (board : Board) (piece : List ℕ) (room : ℕ) → 75 ≤ room → board_allowed board ≡ false → answering board piece room ≡ nothing_done board 12
+  pub short : (board : Board) (piece : List ℕ) (room : ℕ) → room < 75 → answering board piece room ≡ nothing_done board paper.short_buffer
+  pub stray : (board : Board) (piece : List ℕ) (room : ℕ) → 75 ≤ room → board_allowed board ≡ false → answering board piece room ≡ nothing_done board paper.not_allowed

@@ -1,6 +1,7 @@
 -- "Given exactly when", and what is sent and changes: document 01, "Numbers of refusal", of the call on a piece of input. Assumes nothing.
 use Rattle.std.specs.Prelude.{ℕ, ◌≤◌, ◌≡◌, Bool, true, false, not, cond, List, [], ◌∷◌, ◌++◌, length, take, get_or, ltb}
 use Rattle.laws.specs.Promise.{Given}
+use Rattle.paper.specs.declared.Refusal.{Refusal}
 use Rattle.paper.specs.Numbers as paper
 use Rattle.paper.specs.Numbers.{newline, frame_room}
 use Rattle.wire.specs.Frame.{frame}
@@ -43,11 +44,12 @@ call_rows board piece room =
 -- The outcome, the reply and what the board holds afterwards belong together.
 pub data Says (board : Board) (piece : List ℕ) : Outcome → Sent → Core → Type 0 where
   -- 11 and 12: "none"
-  row_11 : Says board piece (Outcome.Refused 11) silent board.core
-  row_12 : Says board piece (Outcome.Refused 12) silent board.core
+  row_11 : Says board piece (Outcome.Refused paper.short_buffer) silent board.core
+  row_12 : Says board piece (Outcome.Refused paper.not_allowed) silent board.core
   no_frame : has_end board.held piece ≡ false → Says board piece Outcome.Nothing silent board.core
   -- 1 to 4: "error frame"
-  rows_1_to_4 : (number : ℕ) → 1 ≤ number → number ≤ 4 → has_end board.held piece ≡ true → Says board piece (Outcome.Refused number) error board.core
+  rows_1_to_4 : (refusal : Refusal) → 1 ≤ paper.number_of refusal → paper.number_of refusal ≤ 4 → has_end board.held piece ≡ true
+      → Says board piece (Outcome.Refused refusal) error board.core
   -- the others: by the command and the data of the frame that a newline ended and 1 to 4 let pass
   a_frame : {outcome : Outcome} {reply : Sent} {core : Core} (command : ℕ) (bytes : List ℕ) → has_end board.held piece ≡ true
       → ending_of board.held piece ≡ newline → body_says (chars_of board.held piece) ≡ good command bytes

@@ -10,16 +10,16 @@ ghost use Rattle.board.specs.Calls.{starting, refused_start, storing, answering,
 ghost use Rattle.board.specs.declared.Answered.{Answered};
 
 use answers::{Core, Outcome};
+use paper::Refusal;
 use stream::Held;
 use tables::Table;
-use who::{Identity, Readings, Verdict};
+use who::{Identity, Named, Readings};
 
 mod hearing;
 mod measured;
-mod numbers;
 
 // Five readings as they are handed in, in more bits than a board stores: it stores them all or none.
-#[derive(Clone, Copy)]
+#[derive(Clone, Copy, PartialEq, Eq)]
 pub struct Sample {
     pub voltage: i64,
     pub current: i64,
@@ -29,21 +29,21 @@ pub struct Sample {
 }
 
 // A board: what it is and holds, and the unfinished frame of its serial line.
-#[derive(Clone, Copy)]
+#[derive(Clone, Copy, PartialEq, Eq)]
 pub struct Board {
     pub core: Core,
     pub held: Held,
 }
 
 // A board, and whether what was asked of it was accepted.
-#[derive(Clone, Copy)]
+#[derive(Clone, Copy, PartialEq, Eq)]
 pub struct Handed {
     pub board: Board,
-    pub verdict: Verdict,
+    pub verdict: Result<(), Refusal>,
 }
 
 // What a call on a piece of input answers: the advanced board, the outcome, the reply's length, and how many bytes it took.
-#[derive(Clone, Copy)]
+#[derive(Clone, Copy, PartialEq, Eq)]
 pub struct Answered {
     pub board: Board,
     pub outcome: Outcome,
@@ -54,21 +54,18 @@ pub struct Answered {
 impl Board {
     // Starts a board with an identity and a table: readings 0 and no frame. Refuses 12 for a serial that is too long or has a byte outside
     // 0x20..0x7E, or a table that is not allowed; then product and version 0, an empty serial and the factory table.
+    #[tactic(auto, unfolding(crate::specs::Calls::starting, who::specs::Calls::naming))]
     pub fn start(product: u16, version: u16, serial: &[u8], table: Table) -> Handed
         ensures { result ≡ starting product version serial.now table }
     {
-        if !table.is_allowed() {
-            return refused_start();
-        }
-        let named = Identity::named(product, version, serial);
-        let identity = named.identity;
-        let verdict = named.verdict;
-        match verdict {
-            Verdict::Accepted => Handed {
+        let Named { identity, verdict } = Identity::named(product, version, serial);
+        if verdict.is_ok() && table.is_allowed() {
+            Handed {
                 board: fresh(identity, table),
-                verdict: Verdict::Accepted,
-            },
-            Verdict::Refused(_) => refused_start(),
+                verdict: Ok(()),
+            }
+        } else {
+            refused_start()
         }
     }
 
@@ -80,21 +77,25 @@ impl Board {
     }
 
     // Stores five readings, or none: refuses 12 for a board that is not allowed, or a number that does not fit its width.
+    #[tactic(auto, unfolding(crate::specs::Calls::storing))]
     pub fn store(self, given: Sample) -> Handed
         ensures { result ≡ storing self given }
     {
-        if !(self.is_allowed() & measured::fit(given)) {
-            return Handed {
+        match measured::readings_of(given) {
+            Some(readings) if self.is_allowed() => Handed {
+                board: Board {
+                    core: Core {
+                        readings,
+                        ..self.core
+                    },
+                    ..self
+                },
+                verdict: Ok(()),
+            },
+            _ => Handed {
                 board: self,
-                verdict: Verdict::Refused(paper::NOT_ALLOWED),
-            };
-        }
-        let mut core = self.core;
-        let held = self.held;
-        core.readings = measured::readings_of(given);
-        Handed {
-            board: Board { core, held },
-            verdict: Verdict::Accepted,
+                verdict: Err(Refusal::NotAllowed),
+            },
         }
     }
 
@@ -104,26 +105,25 @@ impl Board {
         ensures { Gives Answered (answering self piece.now (length reply.old)) reply.old result reply.new }
     {
         if reply.len() < paper::FRAME_ROOM {
-            return unanswered(self, paper::SHORT_BUFFER);
+            return unanswered(self, Refusal::ShortBuffer);
         }
-        let core = self.core;
-        if !core.is_allowed() {
-            return unanswered(self, paper::NOT_ALLOWED);
+        if !self.core.is_allowed() {
+            return unanswered(self, Refusal::NotAllowed);
         }
         hearing::heard(self, piece, reply)
     }
 
     // Returns whether the board is allowed: what it is and holds, and its unfinished frame.
+    #[tactic(auto, unfolding(crate::specs::Parts::board_allowed))]
     pub fn is_allowed(self) -> bool
         ensures { result ≡ board_allowed self }
     {
-        let core = self.core;
-        let held = self.held;
-        core.is_allowed() & held.is_allowed()
+        self.core.is_allowed() & self.held.is_allowed()
     }
 }
 
 // Returns a board that has just been started: readings 0 and no frame.
+#[tactic(auto, unfolding(crate::specs::Parts::fresh_board))]
 fn fresh(identity: Identity, table: Table) -> Board
     ensures { result ≡ fresh_board identity table }
 {
@@ -138,24 +138,24 @@ fn fresh(identity: Identity, table: Table) -> Board
 }
 
 // Refuses a start by 12: product and version 0, an empty serial and the factory table.
+#[tactic(auto, unfolding(crate::specs::Calls::refused_start, who::specs::Calls::naming, who::specs::Parts::serial_fits, who::specs::Parts::no_identity))]
 fn refused_start() -> Handed
     ensures { result ≡ refused_start }
 {
-    let named = Identity::named(0, 0, &[]);
-    let identity = named.identity;
+    let nobody = Identity::named(0, 0, &[]).identity;
     Handed {
-        board: fresh(identity, Table::factory()),
-        verdict: Verdict::Refused(paper::NOT_ALLOWED),
+        board: fresh(nobody, Table::factory()),
+        verdict: Err(Refusal::NotAllowed),
     }
 }
 
 // Refuses a call: the board is as it was, nothing is taken, and there is no reply.
-fn unanswered(board: Board, number: u8) -> Answered
-    ensures { result ≡ (unanswered board number).answer }
+fn unanswered(board: Board, refusal: Refusal) -> Answered
+    ensures { result ≡ (unanswered board refusal).answer }
 {
     Answered {
         board,
-        outcome: Outcome::Refused(number),
+        outcome: Outcome::Refused(refusal),
         len: 0,
         taken: 0,
     }

@@ -10,11 +10,5 @@ returns-then-reply-lt-FRAME_ROOM c = rw c.unanswered.ensures (gives_none _ (answ
 pub returns-then-not-is_allowed : goal.returns-then-not-is_allowed
 returns-then-not-is_allowed c = rw c.unanswered-then-not-is_allowed.ensures (gives_none _ (answering_unfit _ _ _ c.if-reply-lt-FRAME_ROOM.false (sym c.is_allowed.ensures ∙ c.if-not-is_allowed.true)))
 
-pub heard-requires : goal.heard-requires
-heard-requires c = (c.if-reply-lt-FRAME_ROOM.false, sym c.is_allowed.ensures ∙ c.if-not-is_allowed.false)
-
 pub returns : goal.returns
-returns c =
-    let ok = sym c.is_allowed.ensures ∙ c.if-not-is_allowed.false in
-    let board = c.args.self in
-    rw (answering_fit board _ _ c.if-reply-lt-FRAME_ROOM.false ok) c.heard.ensures
+returns c = rw (answering_fit c.args.self _ _ c.if-reply-lt-FRAME_ROOM.false (sym c.is_allowed.ensures ∙ c.if-not-is_allowed.false)) c.heard.ensures

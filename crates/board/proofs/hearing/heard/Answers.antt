@@ -1,47 +1,29 @@
 -- `board::hearing::heard` meets its contract. Assumes nothing.
-use mathlib.Core.Path.{◌≡◌}
-use native.Mathlib.Omega.{arith}
-use borrow.Author.Rules.{rules}
-use Prim.Native.Nat.{◌≤◌}
-use lib.ListN.{length, length-take}
-use Rattle.board.proofs.Pieces.{heard_nothing_lem, heard_frame_lem, whole_few, if_heard, if_refused}
+use mathlib.Core.Path.{◌≡◌, subst, sym, ◌∙◌}
+use Rattle.laws.specs.Promise.{Given, Gives}
+use Rattle.stream.specs.Calls.{hearing}
+use Rattle.answers.specs.AsHeld.{decided_of}
+use Rattle.board.specs.declared.Answered.{Answered}
+use Rattle.board.proofs.Sending.{sendable, decided_is}
+use Rattle.board.proofs.Heeding.{decision, heeded}
 use Rattle.board.proofs.hearing.heard.Goals as goal
-use Rattle.board.proofs.hearing.heard.Goals.{In-Frame}
+use Rattle.board.proofs.hearing.heard.Goals.{After-decided-outcome}
 
-long : (c : In-Frame) → length c.hear-heard.new.into ≡ 35
-long c = search rules
+-- what is decided
+decides : (c : After-decided-outcome) → c.decided-outcome.result ≡ decided_of (decision c.args.board.core (hearing c.args.board.held c.args.piece.now 35))
+decides c = c.decided-outcome.ensures ∙ rw (c.hear-event.ensures.answered, c.hear-event.ensures.left)
 
-few : (c : In-Frame) → c.in-Frame.len ≤ 35
-few c =
-    let told = c.in-Frame.is in
-    whole_few c.args.board _ c.requires.1 c.hear-heard.ensures.answered (rw told) _ _ told
+pub decided-outcome-requires-clause-within : goal.decided-outcome-requires-clause-within
+decided-outcome-requires-clause-within c = rw c.hear-event.ensures.answered (heeded _ _ c.requires.allowed).few
 
-pub slice_bounds-bytes-end : goal.slice_bounds-bytes-end
-slice_bounds-bytes-end c = omega (arith, long (goal.at.slice_bounds-bytes-end c).In-Frame, few (goal.at.slice_bounds-bytes-end c).In-Frame)
+pub put-requires-clause-fits : goal.put-requires-clause-fits
+unfolding decided_of
+put-requires-clause-fits c = rw (decides (goal.at.put-requires-clause-fits c).After-decided-outcome) (sendable _ (heeded _ _ c.requires.allowed).fits)
 
-pub slice_bounds-framed-end : goal.slice_bounds-framed-end
-slice_bounds-framed-end c = rw length-take (omega (arith, long (goal.at.slice_bounds-framed-end c).In-Frame, few (goal.at.slice_bounds-framed-end c).In-Frame))
-
-pub framed-requires : goal.framed-requires
-framed-requires c =
-    c.requires
-
-pub put_fault-requires : goal.put_fault-requires
-put_fault-requires c = c.requires.0
-
-pub returns-in-Nothing : goal.returns-in-Nothing
-returns-in-Nothing c =
-    let fit = c.requires.1 in
-    let heard = c.hear-heard.ensures.answered in
-    let told = c.in-Nothing.is in
-    if_heard _ _ fit heard (rw told) (λ ok. heard_nothing_lem _ _ ok heard told)
-
-pub returns-in-Frame : goal.returns-in-Frame
-returns-in-Frame c =
-    let heard = c.hear-heard.ensures.answered in
-    let told = c.in-Frame.is in
-    if_heard _ _ c.requires.1 heard (rw told) (λ ok. heard_frame_lem _ _ ok heard _ _ told _ c.hear-heard.ensures.left c.framed.ensures)
-
-pub returns-in-Refused : goal.returns-in-Refused
-returns-in-Refused c =
-    if_refused _ _ c.requires.1 c.hear-heard.ensures.answered _ c.in-Refused.is c.put_fault.ensures
+pub returns : goal.returns
+unfolding decided_of
+returns c =
+    let is = decides (goal.at.returns c).After-decided-outcome in
+    let g = rw is at c.put.ensures in
+    rw (is, c.hear-event.ensures.answered, sym (heeded c.args.board c.args.piece.now c.requires.allowed).answers)
+    (decided_is (hearing c.args.board.held c.args.piece.now 35).answer.held (decision c.args.board.core (hearing c.args.board.held c.args.piece.now 35)) (hearing c.args.board.held c.args.piece.now 35).answer.taken g)

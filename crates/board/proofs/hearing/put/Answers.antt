@@ -1,23 +1,29 @@
 -- `board::hearing::put` meets its contract. Assumes nothing.
-use mathlib.Core.Path.{refl}
+use mathlib.Core.Path.{◌≡◌, refl}
+use Prim.Native.Nat.{◌≤◌}
+use native.Mathlib.Omega.{arith}
+use lib.ListN.{length, take, length-take}
 use Rattle.laws.proofs.Promise.{gives_none}
-use Rattle.board.specs.AsHeld.{sent_by}
+use Rattle.board.specs.AsHeld.{Sendable}
+use Rattle.board.proofs.Sending.{made_is, made_whole}
 use Rattle.board.proofs.hearing.put.Goals as goal
+use Rattle.board.proofs.hearing.put.Goals.{In-Frame}
 
-pub put_reply-requires : goal.put_reply-requires
-put_reply-requires c = c.requires
+fits : (c : In-Frame) → (c.in-Frame.message.command ≤ 15) × (c.in-Frame.message.len ≤ 35)
+fits c = rw c.in-Frame.is at c.requires.fits
 
-pub put_error-requires : goal.put_error-requires
-put_error-requires c = c.requires.0
+few : (c : In-Frame) → length (take c.in-Frame.message.len c.in-Frame.message.bytes) ≤ 35
+few c = rw length-take (omega (arith, (fits c).1))
+
+pub unwrap-requires : goal.unwrap-requires
+unwrap-requires c =
+    let f = (goal.at.unwrap-requires c).In-Frame in
+    rw (made_is _ _ c.requires.room (fits f).0 (few f) c.write_frame.ensures)
 
 pub returns-in-Nothing : goal.returns-in-Nothing
-unfolding sent_by
 returns-in-Nothing c = rw c.in-Nothing.is (gives_none _ refl)
 
 pub returns-in-Frame : goal.returns-in-Frame
-unfolding sent_by
-returns-in-Frame c = rw c.in-Frame.is c.put_reply.ensures
-
-pub returns-in-Error : goal.returns-in-Error
-unfolding sent_by
-returns-in-Error c = rw c.in-Error.is c.put_error.ensures
+returns-in-Frame c =
+    let f = (goal.at.returns-in-Frame c).In-Frame in
+    rw c.in-Frame.is (made_whole _ _ c.requires.room (fits f).0 (few f) c.write_frame.ensures _ c.unwrap.ensures)
