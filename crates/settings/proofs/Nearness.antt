@@ -1,11 +1,11 @@
--- The nearest number: at most one has the paper's property, the search finds it, and so does the window. Assumes nothing.
+-- The nearest number: at most one has the paper's property, and the search finds it; and what a window holds. Assumes nothing.
 use mathlib.Core.Path.{◌≡◌, refl, sym, ◌∙◌}
 use mathlib.Core.Logic.{◌⊎◌, inl, inr, ⊎_elim}
-use mathlib.Core.Bool.{Bool, true, false, cond, ◌&&◌, ◌||◌, false≢true}
-use Prim.Native.Nat.{ℕ, zero, suc, ◌+◌, ◌-◌, ◌≤◌, ◌<◌, zero-le}
-use native.Mathlib.Nat.{le_antisymm, le_refl, le_trans, le_of_eq, le_of_lt, lt_irrefl, eq-or-lt_of_le}
+use mathlib.Core.Bool.{Bool, true, false, ◌&&◌, ◌||◌, false≢true}
+use Prim.Native.Nat.{ℕ, zero, suc, ◌+◌, ◌-◌, ◌≤◌, ◌<◌}
+use native.Mathlib.Nat.{le_antisymm, le_of_eq, eq-or-lt_of_le}
 use native.Mathlib.Omega.{arith}
-use borrow.Author.Tests.{leb-true, leb-false, le-leb, lt-leb, eq-eqb, eqb-true}
+use borrow.Author.Tests.{leb-true, leb-false, le-leb, eq-eqb, eqb-true}
 use lib.Dec.{leb, eqb}
 use Rattle.laws.proofs.Bools.{and_left, and_right, or_cases, or_first, or_second, both}
 use Rattle.settings.specs.Rules.{in_window, distance, NearestIn, seek}
@@ -68,7 +68,7 @@ seek_nearest p wished d (suc fuel) none m e near = by (leb d wished && p (wished
         ⊎_elim (λ is. ⊎_elim (λ under. not_under p wished d k below h under) (λ over. absurd (false≢true (sym above ∙ rw over at h))) (at_distance k wished d (sym is)))
         (λ less. less) (eq-or-lt_of_le far)))
 
--- A window: what is in it, and what of it is nearest.
+-- A window: what is in it.
 
 module _ (zero_too : Bool) (low high n : ℕ) where
   pub window_zero : zero_too ≡ true → n ≡ 0 → in_window zero_too low high n ≡ true
@@ -83,69 +83,10 @@ module _ (zero_too : Bool) (low high n : ℕ) where
       (λ r. inr (leb-true low n (and_left _ (leb n high) r), leb-true n high (and_right (leb low n) _ r)))
       (or_cases (zero_too && eqb n 0) _ e)
 
-module _ (low high wished : ℕ) (some : low ≤ high) where
-  -- in the row: the wished number, or the end that it is beyond
-  row_nearest : (n : ℕ) → low ≤ n → n ≤ high → ((m : ℕ) → low ≤ m → m ≤ high → distance n wished ≤ distance m wished)
-      → ((m : ℕ) → low ≤ m → m ≤ high → distance m wished ≡ distance n wished → n ≤ m) → NearestIn (in_window false low high) wished n
-  row_nearest n a b near tie =
-      record {
-        is_allowed = window_row false low high n a b;
-        least = λ m e. ⊎_elim (λ z. absurd (false≢true z.0)) (λ r. near m r.0 r.1) (window_cases false low high m e);
-        smaller = λ m e same. ⊎_elim (λ z. absurd (false≢true z.0)) (λ r. tie m r.0 r.1 same) (window_cases false low high m e);
-      }
-
-  pub row_low : wished < low → NearestIn (in_window false low high) wished low
-  row_low h = row_nearest low (omega arith) some (λ m a b. omega arith) (λ m a b e. a)
-
-  pub row_high : high < wished → NearestIn (in_window false low high) wished high
-  row_high h = row_nearest high some (omega arith) (λ m a b. omega arith) (λ m a b e. omega arith)
-
-  pub row_wished : low ≤ wished → wished ≤ high → NearestIn (in_window false low high) wished wished
-  row_wished h k = row_nearest wished h k (λ m a b. omega arith) (λ m a b e. omega arith)
-
--- with 0 besides: 0 where it is at least as near
-pub with_zero : (low high wished c : ℕ) → NearestIn (in_window false low high) wished c → NearestIn (in_window true low high) wished (cond (leb wished (distance c wished)) 0 c)
-with_zero low high wished c row = by (leb wished (distance c wished)) refl
-  where
-    zero_at_lem : distance 0 wished ≡ wished
-    zero_at_lem = omega arith
-
-    by : (t : Bool) → leb wished (distance c wished) ≡ t → NearestIn (in_window true low high) wished (cond (leb wished (distance c wished)) 0 c)
-    by true e =
-        let near : wished ≤ distance c wished = leb-true wished (distance c wished) e in
-        rw e (record {
-          is_allowed = window_zero true low high 0 refl refl;
-          least = λ m h. ⊎_elim (λ z. rw z.1 (le_refl _)) (λ r. rw zero_at_lem (le_trans near (row.least m (window_row false low high m r.0 r.1)))) (window_cases true low high m h);
-          smaller = λ m h same. zero-le;
-        })
-    by false e =
-        let far : distance c wished < wished = leb-false wished (distance c wished) e in
-        let in_row : (low ≤ c) × (c ≤ high) = ⊎_elim (λ z. absurd (false≢true z.0)) (λ r. r) (window_cases false low high c row.is_allowed) in
-        rw e (record {
-          is_allowed = window_row true low high c in_row.0 in_row.1;
-          least = λ m h. ⊎_elim (λ z. rw (z.1, zero_at_lem) (le_of_lt far)) (λ r. row.least m (window_row false low high m r.0 r.1)) (window_cases true low high m h);
-          smaller = λ m h same. ⊎_elim (λ z. absurd (lt_irrefl _ (rw (sym (rw (z.1, zero_at_lem) at same)) at far))) (λ r. row.smaller m (window_row false low high m r.0 r.1) same) (window_cases true low high m h);
-        })
-
--- with none but 0
-pub only_zero : (low high wished : ℕ) → high < low → NearestIn (in_window true low high) wished 0
-only_zero low high wished h =
-    record {
-      is_allowed = window_zero true low high 0 refl refl;
-      least = λ m e. ⊎_elim (λ z. rw z.1 (le_refl _)) (λ r. absurd (none m r)) (window_cases true low high m e);
-      smaller = λ m e same. zero-le;
-    }
-  where
-    none : (m : ℕ) → (low ≤ m) × (m ≤ high) → ⊥
-    none m r = let a : low ≤ m = r.0 in let b : m ≤ high = r.1 in omega arith
-
--- a window with a number in it is not empty, and one with an empty row has 0
+-- a window with a number in it is not empty
 pub window_some : (zero_too : Bool) (low high m : ℕ) → in_window zero_too low high m ≡ true → (zero_too || leb low high) ≡ true
 window_some zero_too low high m e =
     ⊎_elim (λ z. or_first _ _ z.0) (λ r. let a : low ≤ m = r.0 in let b : m ≤ high = r.1 in or_second zero_too _ (le-leb low high (omega arith))) (window_cases zero_too low high m e)
-
-pub window_none : (zero_too : Bool) (low high : ℕ) → high < low → (zero_too || leb low high) ≡ true → zero_too ≡ true
-window_none zero_too low high h e = ⊎_elim (λ z. z) (λ r. absurd (false≢true (sym (lt-leb low high h) ∙ r))) (or_cases zero_too _ e)
 
 -- the property speaks of what is allowed, however that is put
 pub nearest_same : (p q : ℕ → Bool) → ((n : ℕ) → p n ≡ q n) → (wished n : ℕ) → NearestIn p wished n → NearestIn q wished n

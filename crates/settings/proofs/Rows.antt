@@ -1,17 +1,20 @@
 -- The rules of the table's columns: each is one computed test, carried to every entry. Assumes nothing.
-use mathlib.Core.Path.{◌≡◌, refl, sym}
+use mathlib.Core.Path.{◌≡◌, ◌∙◌, refl, sym, ap}
 use mathlib.Core.Bool.{Bool, true, false, cond}
 use mathlib.Core.List.{List, [], ◌∷◌}
 use Prim.Native.Nat.{ℕ, zero, suc, ◌-◌, ◌^◌, ◌≤◌, ◌<◌}
 use native.Mathlib.Omega.{arith}
 use native.Mathlib.Nat.{le_of_suc-le-suc}
 use borrow.Author.Tests.{lt-ltb, le-ltb, ltb-true, ltb-false, leb-true, eqb-true}
-use Rattle.std.specs.Prelude.{Some, None}
+use Rattle.std.specs.Prelude.{Some, None, unwrap_or}
+use Rattle.std.specs.List.{position}
+use Rattle.std.proofs.lemmas.List.Recursion.{is_position_or_len}
 use Rattle.std.proofs.lemmas.Option.{cond_some, none-some}
+use Rattle.laws.specs.Lists.{before}
 use lib.ListN.{length, get_or}
 use lib.Dec.{ltb, leb, eqb}
 use Rattle.laws.proofs.Lists.{up_to_at, before_first}
-use Rattle.settings.specs.Columns.{count, ids, id_at, width_at, low_at, high_at, factory_at, partner_ids, partner_at, place_of, role_at}
+use Rattle.settings.specs.Columns.{count, ids, id_at, widths, width_at, low_at, high_at, factory_at, partner_ids, partner_at, place_of, role_at}
 use Rattle.settings.specs.Rules.{in_range, agrees, low_agrees, high_agrees}
 use Rattle.settings.specs.Calls.{setting_at, placing, finding}
 use Rattle.settings.specs.Laws.{Row, PlaceIsFound, FindIsFound, FoundHasId}
@@ -53,7 +56,7 @@ module _ (k : ℕ) (h : k < count) where
       }
 
 -- a partner with the larger id is at the next place, one with the smaller id at the place before
-abbrev partner_id : ℕ → ℕ
+abbrev pub partner_id : ℕ → ℕ
 partner_id k = get_or partner_ids k 0
 
 abbrev by_id : ℕ → Bool
@@ -67,17 +70,43 @@ module _ (k : ℕ) (h : k < count) where
   pub partner_after : id_at k < partner_id k → partner_at k ≡ suc k
   partner_after less = eqb-true _ _ (rw (lt-ltb _ _ less) at by_id_lem)
 
-  pub partner_before : partner_id k ≤ id_at k → partner_id k < id_at k → suc (partner_at k) ≡ k
-  partner_before few less = eqb-true _ _ (rw (le-ltb _ _ few, lt-ltb _ _ less) at by_id_lem)
+  pub partner_before : partner_id k < id_at k → suc (partner_at k) ≡ k
+  partner_before less = eqb-true _ _ (rw (le-ltb (id_at k) (partner_id k) (omega arith), lt-ltb _ _ less) at by_id_lem)
 
-  pub partner_self : partner_id k ≤ id_at k → id_at k ≤ partner_id k → partner_at k ≡ k
-  partner_self few many = eqb-true _ _ (rw (le-ltb _ _ few, le-ltb _ _ many) at by_id_lem)
+  pub partner_self : partner_id k ≡ id_at k → partner_at k ≡ k
+  partner_self same = eqb-true _ _ (rw (le-ltb (id_at k) (partner_id k) (omega arith), le-ltb (partner_id k) (id_at k) (omega arith)) at by_id_lem)
 
 -- past the table a column has nothing
 pub get_d_past : (l : List ℕ) (k d : ℕ) → length l ≤ k → get_or l k d ≡ d
 get_d_past [] k d h = refl
 get_d_past (x ∷ l) zero d h = absurd (omega arith)
 get_d_past (x ∷ l) (suc k) d h = get_d_past l k d (le_of_suc-le-suc h)
+
+pub setting_past : (k : ℕ) → unwrap_or (placing k) (record { index = k; id = 0; width = 0; partner = count }) ≡ setting_at k
+unfolding placing partner_at place_of
+setting_past k = by (ltb k count) refl
+  where
+    by : (b : Bool) → ltb k count ≡ b → unwrap_or (cond b (Some (setting_at k)) None) (record { index = k; id = 0; width = 0; partner = count }) ≡ setting_at k
+    by true h = refl
+    by false h = let past = ltb-false _ _ h in rw (get_d_past ids k 0 past, get_d_past widths k 0 past, get_d_past partner_ids k 0 past)
+
+-- the place of an id, as it is looked for
+module _ (id : ℕ) where
+  looked_for : position (λ x. eqb x id) ids ≡ cond (ltb (place_of id) count) (Some (place_of id)) None
+  unfolding place_of
+  looked_for =
+      ap (λ (n : ℕ). cond (ltb n count) (Some n) None)
+      (sym (is_position_or_len (before (λ x. eqb x id)) (λ x. eqb x id) refl (λ x xs. ap (λ (n : ℕ). cond (eqb x id) 0 n) (omega arith)) ids))
+
+  pub looked_none : None ≡ position (λ x. eqb x id) ids → count ≤ place_of id
+  looked_none none = by (ltb (place_of id) count) refl (none ∙ looked_for)
+    where
+      by : (b : Bool) → ltb (place_of id) count ≡ b → None ≡ cond b (Some (place_of id)) None → count ≤ place_of id
+      by true h e = absurd (none-some (place_of id) e)
+      by false h e = ltb-false _ _ h
+
+  pub looked_some : (k : ℕ) → Some k ≡ position (λ x. eqb x id) ids → k ≡ place_of id
+  looked_some k some = sym (cond_some (ltb (place_of id) count) (place_of id) k (sym (some ∙ looked_for))).1
 
 -- a look-up finds each setting, and only by its id
 pub placed : (k : ℕ) → k < count → place_of (id_at k) ≡ k

@@ -1,45 +1,22 @@
 -- What is allowed for a setting is a window, and is never empty; so the nearest allowed number exists. Assumes nothing.
 use mathlib.Core.Path.{◌≡◌, refl, sym, ap, ◌∙◌}
 use mathlib.Core.Logic.{⊎_elim}
-use mathlib.Core.Bool.{Bool, true, false, ◌&&◌, and-true}
+use mathlib.Core.Bool.{Bool, true, false, ◌&&◌}
 use mathlib.Core.List.{List}
-use Prim.Native.Nat.{ℕ, ◌^◌, ◌≤◌, ◌<◌, min, max, zero-le}
+use Prim.Native.Nat.{ℕ, ◌^◌, ◌≤◌, ◌<◌, zero-le}
 use native.Mathlib.Omega.{arith}
-use borrow.Author.Tests.{lt-ltb, le-leb, leb-true, eq-eqb, eqb-true}
+use borrow.Author.Tests.{lt-ltb, eqb-true}
 use lib.ListN.{get_or}
-use lib.Dec.{leb, eqb}
-use Rattle.laws.proofs.Bools.{and_left, and_right, both, same_test, or_cases}
+use lib.Dec.{eqb}
+use Rattle.laws.proofs.Bools.{and_left, and_right, both, or_cases}
 use Rattle.settings.specs.Columns.{count, width_at, low_at, high_at, zero_at, zeros, lows, highs, partner_at, role_at}
 use Rattle.settings.specs.Rules.{in_window, in_range, agrees, allowed_for, Nearest, nearest_of}
 use Rattle.settings.specs.Calls.{partner_fits, nearing}
 use Rattle.settings.specs.Laws.{NearestIsAnswered, RangeHasRoom, AllowedHasRoom}
 use Rattle.settings.specs.declared.columns.Role.{Role}
-use Rattle.settings.proofs.Nearness.{window_zero, window_row, window_cases, seek_nearest}
+use Rattle.settings.proofs.Nearness.{window_row, window_cases, seek_nearest}
 use Rattle.settings.proofs.Rows.{low_high, high_small, row_holds, placed}
 use Rattle.settings.proofs.Pairs.{agrees_alone, agrees_self, alone_none, same_range}
-
-module _ (z : Bool) (low high p n : ℕ) where
-  -- what of a window is at most a number
-  most_same : in_window z low (min high p) n ≡ (in_window z low high n && leb n p)
-  most_same = same_test _ _
-      (λ e. ⊎_elim (λ c. both _ _ (window_zero z low high n c.0 c.1) (le-leb n p (let is : n ≡ 0 = c.1 in omega arith)))
-      (λ c. let a : n ≤ min high p = c.1 in both _ _ (window_row z low high n c.0 (omega arith)) (le-leb n p (omega arith)))
-      (window_cases z low (min high p) n e))
-      (λ e. let under : n ≤ p = leb-true n p (and_right (in_window z low high n) _ e) in
-      ⊎_elim (λ c. window_zero z low (min high p) n c.0 c.1)
-      (λ c. let a : n ≤ high = c.1 in window_row z low (min high p) n c.0 (omega arith))
-      (window_cases z low high n (and_left _ (leb n p) e)))
-
-  -- what of a window is at least a number
-  least_same : in_window (z && eqb p 0) (max low p) high n ≡ (in_window z low high n && leb p n)
-  least_same = same_test _ _
-      (λ e. ⊎_elim (λ c. let none : p ≡ 0 = eqb-true p 0 (and_right z _ c.0) in both _ _ (window_zero z low high n (and_left z (eqb p 0) c.0) c.1) (le-leb p n (omega arith)))
-      (λ c. let a : max low p ≤ n = c.0 in both _ _ (window_row z low high n (omega arith) c.1) (le-leb p n (omega arith)))
-      (window_cases (z && eqb p 0) (max low p) high n e))
-      (λ e. let over : p ≤ n = leb-true p n (and_right (in_window z low high n) _ e) in
-      ⊎_elim (λ c. let is : n ≡ 0 = c.1 in window_zero (z && eqb p 0) (max low p) high n (both _ _ c.0 (eq-eqb p 0 (omega arith))) c.1)
-      (λ c. let a : low ≤ n = c.0 in window_row (z && eqb p 0) (max low p) high n (omega arith) c.1)
-      (window_cases z low high n (and_left _ (leb p n) e)))
 
 -- a setting's own range, by columns that are the table's
 pub window_at : {zs : List Bool} {ls hs : List ℕ} → zs ≡ zeros → ls ≡ lows → hs ≡ highs
@@ -47,24 +24,11 @@ pub window_at : {zs : List Bool} {ls hs : List ℕ} → zs ≡ zeros → ls ≡ 
 unfolding in_range
 window_at z l h k n = rw (z, l, h)
 
--- What is allowed, by the setting's part in its pair.
-
+-- what is allowed, by the setting's part in its pair
 allowed_by : (k partner n : ℕ) (r : Role) (test : Bool) → role_at k ≡ r → agrees r n partner ≡ test → (in_window (zero_at k) (low_at k) (high_at k) n && test) ≡ allowed_for k n partner
 unfolding allowed_for in_range
 allowed_by k partner n r test is rule =
     ap (λ (b : Bool). in_window (zero_at k) (low_at k) (high_at k) n && b) (sym rule ∙ ap (λ (x : Role). agrees x n partner) (sym is))
-
-module _ (k partner : ℕ) where
-  pub own_window : role_at k ≡ Role.Alone → (n : ℕ) → in_window (zero_at k) (low_at k) (high_at k) n ≡ allowed_for k n partner
-  own_window is n = sym (and-true _) ∙ allowed_by k partner n Role.Alone true is (agrees_alone n partner)
-
-  pub most_window : (r : Role) → ((n : ℕ) → agrees r n partner ≡ leb n partner) → role_at k ≡ r
-      → (n : ℕ) → in_window (zero_at k) (low_at k) (min (high_at k) partner) n ≡ allowed_for k n partner
-  most_window r rule is n = most_same (zero_at k) (low_at k) (high_at k) partner n ∙ allowed_by k partner n r (leb n partner) is (rule n)
-
-  pub least_window : (r : Role) → ((n : ℕ) → agrees r n partner ≡ leb partner n) → role_at k ≡ r
-      → (n : ℕ) → in_window (zero_at k && eqb partner 0) (max (low_at k) partner) (high_at k) n ≡ allowed_for k n partner
-  least_window r rule is n = least_same (zero_at k) (low_at k) (high_at k) partner n ∙ allowed_by k partner n r (leb partner n) is (rule n)
 
 -- "in its own range and agrees with the partner", apart and together
 pub allowed_range : (k n p : ℕ) → allowed_for k n p ≡ true → in_range k n ≡ true

@@ -1,12 +1,16 @@
 // The constant table of document 01, "Settings", column by column, in the order of the ids, and a function for each column. Every look-up
 // of an id, a width, an end, a factory number or a partner comes here.
-ghost use Rattle.std.specs.Prelude.{◌<◌, ◌≡◌};
-ghost use Rattle.settings.specs.Columns.{count, id_at, width_at, low_at, high_at, zero_at, partner_at, role_at, lows, highs, zeros, roles, place_of};
+ghost use Rattle.std.specs.Prelude.{◌<◌, ◌≤◌, ◌≡◌, MatchOption, eqb};
+ghost use Rattle.std.specs.List.{position};
+ghost use Rattle.settings.specs.Columns.{count, low_at, high_at, zero_at, partner_at, role_at, lows, highs, zeros, roles, place_of};
+ghost use Rattle.settings.specs.Calls.{setting_at};
 
-use crate::COUNT;
+use crate::window::Window;
+use crate::{COUNT, Setting};
+use std::cmp::Ordering;
 
 // A setting's part in its pair.
-#[derive(Clone, Copy)]
+#[derive(Clone, Copy, PartialEq, Eq)]
 pub enum Role {
     Alone,
     LowFirst,
@@ -249,83 +253,81 @@ const ROLES: [Role; COUNT] = [
     Role::Alone, // EEFE
 ];
 
-// Returns the id of the setting at a place.
-pub(crate) fn id_of(index: usize) -> u16
-    requires { index < count }
-    ensures { result ≡ id_at index }
+// Returns where a number is among some.
+fn position(numbers: &[u16], wanted: u16) -> Option<usize>
+    ensures { result ≡ position (λ x. eqb x wanted) numbers.now }
 {
-    IDS[index]
+    numbers.iter().position(|n| *n == wanted)
 }
 
-// Returns the width in bytes of the setting at a place.
-pub(crate) fn width_of(index: usize) -> usize
-    requires { index < count }
-    ensures { result ≡ width_at index }
-{
-    WIDTHS[index]
+// A place of the table.
+#[derive(Clone, Copy)]
+pub(crate) struct Place {
+    pub(crate) index: usize,
+    ghost inside: { index < count },
 }
 
-// Returns the low end of the range of the setting at a place.
-pub(crate) fn low_of(index: usize) -> u16
-    requires { index < count }
-    ensures { result ≡ low_at index }
-{
-    LOWS[index]
-}
-
-// Returns the high end of the range of the setting at a place.
-pub(crate) fn high_of(index: usize) -> u16
-    requires { index < count }
-    ensures { result ≡ high_at index }
-{
-    HIGHS[index]
-}
-
-// Returns whether 0 is allowed besides for the setting at a place.
-pub(crate) fn zero_of(index: usize) -> bool
-    requires { index < count }
-    ensures { result ≡ zero_at index }
-{
-    ZEROS[index]
-}
-
-// Returns the place of the other one of its pair. Ids ascend and the two are neighbours, so a larger id is at the next place.
-pub(crate) fn partner_of(index: usize) -> usize
-    requires { index < count }
-    ensures { result ≡ partner_at index }
-{
-    let own = IDS[index];
-    let partner = PARTNER_IDS[index];
-    if own < partner {
-        return index + 1;
-    }
-    if partner < own {
-        return index - 1;
-    }
-    index
-}
-
-// Returns the part in its pair of the setting at a place.
-pub(crate) fn role_of(index: usize) -> Role
-    requires { index < count }
-    ensures { result ≡ role_at index }
-{
-    let roles = roles();
-    roles[index]
-}
-
-// Returns the place of an id, or the number of settings where it is none.
-pub(crate) fn place_of(id: u16) -> usize
-    ensures { result ≡ place_of id }
-{
-    let mut i = 0;
-    while i < COUNT {
-        if id_of(i) == id {
-            return i;
+impl Place {
+    // Returns a place, unless it is past the table.
+    pub(crate) fn new(index: usize) -> Option<Place>
+        ensures { MatchOption result (count ≤ index) (λ p. p.index ≡ index) }
+    {
+        if index < COUNT {
+            Some(Place { index })
+        } else {
+            None
         }
-        i += 1;
     }
-    i
+
+    // Returns the place of an id, if it is a setting's.
+    pub(crate) fn of(id: u16) -> Option<Place>
+        ensures { MatchOption result (count ≤ place_of id) (λ p. p.index ≡ place_of id) }
+    {
+        let index = position(&IDS, id)?;
+        Some(Place { index })
+    }
+
+    // Returns the place of the other one of its pair. Ids ascend and the two are neighbours, so a larger id is at the next place.
+    pub(crate) fn partner(self) -> Place
+        ensures { result.index ≡ partner_at self.index }
+    {
+        let index = match PARTNER_IDS[self.index].cmp(&IDS[self.index]) {
+            Ordering::Greater => self.index + 1,
+            Ordering::Less => self.index - 1,
+            Ordering::Equal => self.index,
+        };
+        Place { index }
+    }
+
+    // Returns the setting at a place.
+    pub(crate) fn setting(self) -> Setting
+        ensures { result ≡ setting_at self.index }
+    {
+        Setting {
+            index: self.index,
+            id: IDS[self.index],
+            width: WIDTHS[self.index],
+            partner: self.partner().index,
+        }
+    }
+
+    // Returns the setting's own range.
+    pub(crate) fn range(self) -> Window
+        ensures { result ≡ record { zero = zero_at self.index; low = low_at self.index; high = high_at self.index } }
+    {
+        Window {
+            zero: ZEROS[self.index],
+            low: LOWS[self.index],
+            high: HIGHS[self.index],
+        }
+    }
+
+    // Returns the setting's part in its pair.
+    pub(crate) fn role(self) -> Role
+        ensures { result ≡ role_at self.index }
+    {
+        ROLES[self.index]
+    }
 }
 
 // Returns all low ends. Whole columns are for a loop over all settings: each use of a constant array makes it anew.

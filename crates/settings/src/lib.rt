@@ -1,12 +1,13 @@
 // The settings of document 01: the constant table, the pairs, and the nearest allowed number. Every call takes anything, and its promise
 // fixes its answer (specs/Calls.antt).
-#![tactic(auto)]
+#![tactic(auto, unfolding(crate::specs::Calls::placing, crate::specs::Calls::finding, crate::specs::Calls::ranging, crate::specs::Calls::allowing, crate::specs::Calls::nearing))]
 
 ghost use Rattle.std.specs.Prelude.{◌≡◌};
 ghost use Rattle.settings.specs.Columns.{factories};
 ghost use Rattle.settings.specs.Rules.{all_allowed};
 ghost use Rattle.settings.specs.Calls.{finding, placing, setting_at, ranging, allowing, nearing};
 
+use columns::Place;
 use paper::Refusal;
 
 mod columns;
@@ -29,17 +30,14 @@ pub struct Setting {
 pub fn find(id: u16) -> Option<Setting>
     ensures { result ≡ finding id }
 {
-    at(columns::place_of(id))
+    Place::of(id).map(|place| place.setting())
 }
 
 // Returns the setting at a place of the table, or none past its end.
 pub fn at(index: usize) -> Option<Setting>
     ensures { result ≡ placing index }
 {
-    if COUNT <= index {
-        return None;
-    }
-    Some(setting_at(index))
+    Place::new(index).map(|place| place.setting())
 }
 
 // Returns the setting at a place of the table, for a caller who knows that there is one. Past the table it is one with neither id nor
@@ -47,40 +45,26 @@ pub fn at(index: usize) -> Option<Setting>
 pub fn setting_at(index: usize) -> Setting
     ensures { result ≡ setting_at index }
 {
-    if COUNT <= index {
-        return Setting {
-            index,
-            id: 0,
-            width: 0,
-            partner: COUNT,
-        };
-    }
-    Setting {
+    at(index).unwrap_or(Setting {
         index,
-        id: columns::id_of(index),
-        width: columns::width_of(index),
-        partner: columns::partner_of(index),
-    }
+        id: 0,
+        width: 0,
+        partner: COUNT,
+    })
 }
 
 // Returns whether a number is in the setting's own range; false past the end of the table.
 pub fn in_range(index: usize, number: u16) -> bool
     ensures { result ≡ ranging index number }
 {
-    if COUNT <= index {
-        return false;
-    }
-    rules::in_range(index, number)
+    Place::new(index).is_some_and(|place| place.in_range(number))
 }
 
 // Returns whether a number is allowed for a setting while its partner holds another; false past the end of the table.
 pub fn allows(index: usize, number: u16, partner: u16) -> bool
     ensures { result ≡ allowing index number partner }
 {
-    if COUNT <= index {
-        return false;
-    }
-    rules::allowed_for(index, number, partner)
+    Place::new(index).is_some_and(|place| place.allows(number, partner))
 }
 
 // Returns the nearest allowed number for a setting, given its partner's number: 7 for an id that is no setting, 12 for a partner's number
@@ -88,14 +72,11 @@ pub fn allows(index: usize, number: u16, partner: u16) -> bool
 pub fn nearest(id: u16, wished: u16, partner: u16) -> Result<u16, Refusal>
     ensures { result ≡ nearing id wished partner }
 {
-    let index = columns::place_of(id);
-    if COUNT <= index {
-        return Err(Refusal::UnknownId);
-    }
-    if !rules::is_fit(index, partner) {
+    let place = Place::of(id).ok_or(Refusal::UnknownId)?;
+    if !place.fits(partner) {
         return Err(Refusal::NotAllowed);
     }
-    Ok(window::nearest_of(index, wished, partner))
+    Ok(place.nearest(wished, partner))
 }
 
 // Returns whether every number is in its own range and every pair agrees. It takes all numbers at once, because each use of a constant

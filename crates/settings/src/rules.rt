@@ -1,32 +1,15 @@
 // Document 01's rules for a number: a setting's own range, the pair rule, and both together.
-ghost use Rattle.std.specs.Prelude.{◌<◌, ◌≡◌, not, ◌&&◌, ◌||◌, get_or};
+#![tactic(auto, unfolding(crate::specs::Rules::in_range, crate::specs::Rules::low_agrees, crate::specs::Rules::high_agrees, crate::specs::Rules::agrees, crate::specs::Rules::allowed_for, crate::specs::Calls::partner_fits))]
+
+ghost use Rattle.std.specs.Prelude.{ℕ, ◌≡◌, true, not, ◌&&◌, ◌||◌, get_or};
 ghost use Rattle.laws.specs.Lists.{up_to};
 ghost use Rattle.settings.specs.Columns.{count, partner_at, role_at, is_low_first, is_high_first};
-ghost use Rattle.settings.specs.Rules.{in_window, in_range, low_agrees, high_agrees, agrees, allowed_for};
+ghost use Rattle.settings.specs.Rules.{in_window, in_range, low_agrees, high_agrees, agrees, allowed_for, nearest_of};
 ghost use Rattle.settings.specs.Calls.{partner_fits};
 
-use crate::columns::Role;
+use crate::columns::{Place, Role};
+use crate::window::Window;
 use crate::{COUNT, columns};
-
-// Returns whether a number is in a window: from low to high, or 0 where that is allowed besides.
-fn in_window(zero_too: bool, low: u16, high: u16, n: u16) -> bool
-    ensures { result ≡ in_window zero_too low high n }
-{
-    (zero_too & (n == 0)) | ((low <= n) & (n <= high))
-}
-
-// Returns whether a number is in the setting's own range.
-pub(crate) fn in_range(index: usize, n: u16) -> bool
-    requires { index < count }
-    ensures { result ≡ in_range index n }
-{
-    in_window(
-        columns::zero_of(index),
-        columns::low_of(index),
-        columns::high_of(index),
-        n,
-    )
-}
 
 // Returns whether a low pair agrees: the first is at most the second.
 fn low_agrees(first: u16, second: u16) -> bool
@@ -42,34 +25,72 @@ fn high_agrees(first: u16, second: u16) -> bool
     second <= first
 }
 
-// Returns whether a number agrees with the partner's, by the setting's part in its pair.
-pub(crate) fn agrees_by(role: Role, n: u16, partner: u16) -> bool
-    ensures { result ≡ agrees role n partner }
-{
-    match role {
-        Role::Alone => true,
-        Role::LowFirst => low_agrees(n, partner),
-        Role::LowSecond => low_agrees(partner, n),
-        Role::HighFirst => high_agrees(n, partner),
-        Role::HighSecond => high_agrees(partner, n),
+impl Role {
+    // Returns whether a number agrees with the partner's.
+    fn agrees(self, n: u16, partner: u16) -> bool
+        ensures { result ≡ agrees self n partner }
+    {
+        match self {
+            Role::Alone => true,
+            Role::LowFirst => low_agrees(n, partner),
+            Role::LowSecond => low_agrees(partner, n),
+            Role::HighFirst => high_agrees(n, partner),
+            Role::HighSecond => high_agrees(partner, n),
+        }
+    }
+
+    // Returns whether a setting agrees with the one after it, if that is its partner. It has no branch, so that the compiler may look at many
+    // settings at a time.
+    fn agrees_next(self, n: u16, next: u16) -> bool
+        ensures { result ≡ ((not (is_low_first self) || low_agrees n next) && (not (is_high_first self) || high_agrees n next)) }
+    {
+        ((self != Role::LowFirst) | low_agrees(n, next))
+            & ((self != Role::HighFirst) | high_agrees(n, next))
     }
 }
 
-// Returns whether a number is allowed for a setting while its partner holds another.
-pub(crate) fn allowed_for(index: usize, n: u16, partner: u16) -> bool
-    requires { index < count }
-    ensures { result ≡ allowed_for index n partner }
-{
-    in_range(index, n) & agrees_by(columns::role_of(index), n, partner)
-}
+impl Place {
+    // Returns whether a number is in the setting's own range.
+    pub(crate) fn in_range(self, n: u16) -> bool
+        ensures { result ≡ in_range self.index n }
+    {
+        self.range().holds(n)
+    }
 
-// Returns whether a partner's number may be handed in: it is in the partner's own range, or there is no partner.
-pub(crate) fn is_fit(index: usize, partner: u16) -> bool
-    requires { index < count }
-    ensures { result ≡ partner_fits index partner }
-{
-    let other = columns::partner_of(index);
-    (other == index) | in_range(other, partner)
+    // Returns whether a number is allowed for the setting while its partner holds another.
+    pub(crate) fn allows(self, n: u16, partner: u16) -> bool
+        ensures { result ≡ allowed_for self.index n partner }
+    {
+        self.in_range(n) & self.role().agrees(n, partner)
+    }
+
+    // Returns whether a partner's number may be handed in: it is in the partner's own range, or there is no partner.
+    pub(crate) fn fits(self, partner: u16) -> bool
+        ensures { result ≡ partner_fits self.index partner }
+    {
+        let other = self.partner();
+        (other.index == self.index) | other.in_range(partner)
+    }
+
+    // Returns what is allowed for the setting while its partner holds a number: its own range, cut by the pair rule.
+    fn allowed(self, partner: u16) -> Window
+        ensures { (n : ℕ) → in_window result.zero result.low result.high n ≡ allowed_for self.index n partner }
+    {
+        let range = self.range();
+        match self.role() {
+            Role::Alone => range,
+            Role::LowFirst | Role::HighSecond => range.at_most(partner),
+            Role::LowSecond | Role::HighFirst => range.at_least(partner),
+        }
+    }
+
+    // Returns the nearest allowed number, for a partner's number in its own range.
+    pub(crate) fn nearest(self, wished: u16, partner: u16) -> u16
+        requires { partner_fits self.index partner ≡ true }
+        ensures { result ≡ nearest_of self.index wished partner }
+    {
+        self.allowed(partner).nearest(wished)
+    }
 }
 
 // Returns whether every number is in its own range. Each column is made once, and not again for each number.
@@ -80,46 +101,15 @@ pub(crate) fn all_in_range(numbers: [u16; COUNT]) -> bool
     let lows = columns::lows();
     let highs = columns::highs();
     let mut all = true;
-    let mut i = 0;
-    while i < COUNT {
-        all = all & in_window(zeros[i], lows[i], highs[i], numbers[i]);
-        i += 1;
+    for i in 0..COUNT {
+        let range = Window {
+            zero: zeros[i],
+            low: lows[i],
+            high: highs[i],
+        };
+        all &= range.holds(numbers[i]);
     }
     all
-}
-
-// Returns whether a setting is the first of a low pair.
-fn is_low_first(role: Role) -> bool
-    ensures { result ≡ is_low_first role }
-{
-    match role {
-        Role::Alone => false,
-        Role::LowFirst => true,
-        Role::LowSecond => false,
-        Role::HighFirst => false,
-        Role::HighSecond => false,
-    }
-}
-
-// Returns whether a setting is the first of a high pair.
-fn is_high_first(role: Role) -> bool
-    ensures { result ≡ is_high_first role }
-{
-    match role {
-        Role::Alone => false,
-        Role::LowFirst => false,
-        Role::LowSecond => false,
-        Role::HighFirst => true,
-        Role::HighSecond => false,
-    }
-}
-
-// Returns whether a setting agrees with the one after it, if that is its partner. It has no branch, so that the compiler may look at many
-// settings at a time.
-fn agrees_next(role: Role, n: u16, next: u16) -> bool
-    ensures { result ≡ ((not (is_low_first role) || low_agrees n next) && (not (is_high_first role) || high_agrees n next)) }
-{
-    (!is_low_first(role) | low_agrees(n, next)) & (!is_high_first(role) | high_agrees(n, next))
 }
 
 // Returns whether every number agrees with its partner's. The two of a pair are neighbours, so only the first is compared with the number
@@ -129,11 +119,8 @@ pub(crate) fn all_agree(numbers: [u16; COUNT]) -> bool
 {
     let roles = columns::roles();
     let mut all = true;
-    let mut i = 0;
-    while i + 1 < COUNT {
-        let role = roles[i];
-        all = all & agrees_next(role, numbers[i], numbers[i + 1]);
-        i += 1;
+    for i in 0..COUNT - 1 {
+        all &= roles[i].agrees_next(numbers[i], numbers[i + 1]);
     }
     all
 }

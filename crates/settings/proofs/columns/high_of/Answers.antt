@@ -1,6 +1,0 @@
--- `settings::columns::high_of` meets its contract: the column has the table's entries. Assumes nothing.
-use mathlib.Core.Path.{refl}
-use Rattle.settings.proofs.columns.high_of.Goals as goal
-
-pub returns : goal.returns
-returns c = refl
