@@ -39,7 +39,7 @@ use Rattle.reply.specs.Events.{Event, refused_frame}
 use Rattle.restore.specs.Order.{order, wanted, due_sets}
 use Rattle.restore.specs.Calls.{both_allowed, frames_for, listed_as, listing}
 use Rattle.restore.specs.Laws.{Tables}
-use Rattle.restore.specs.declared.Listed.{Listed}
+use Rattle.restore.specs.Answers.{Listed}
 use Rattle.requests.specs.declared.Wanted.{Wanted}
 use Rattle.restore.proofs.Theorems.{list_restores_it, sets_are_differing}
 use Rattle.follow.specs.Following.{standing, begun, advanced}
@@ -130,7 +130,7 @@ fed core to two deeds e all =
     record {
       frames_are = frames;
       each_accepted = said;
-      counts_are = ap₂ Listed.List (sym all) (sym many);
+      counts_are = ap₂ (λ (l n : ℕ). Ok (record { len = l; sets = n })) (sym all) (sym many);
       board_is = reads.board_is ∙ rw (frames, whole, list.frames_are, list.none_left, ends.all_after, restored.wanted_stands);
     }
 

@@ -34,7 +34,7 @@ use Rattle.board.specs.Calls.{reply_bytes, deciding}
 use Rattle.restore.specs.Order.{wanted, order, due_sets}
 use Rattle.restore.specs.Calls.{both_allowed, frames_for, list_room, listed_as, listing, due_after, due_in}
 use Rattle.restore.specs.Laws.{Tables, is_accepted, accepted, left}
-use Rattle.restore.specs.declared.Listed.{Listed}
+use Rattle.restore.specs.Answers.{Listed}
 use Rattle.requests.specs.declared.Wanted.{Wanted}
 use Rattle.restore.proofs.Rows.{list_made}
 use Rattle.restore.proofs.Theorems as restore
@@ -153,7 +153,7 @@ one_for_each from to two room enough =
       each_once = restore.one_for_each from to;
       no_other = no_other_set from to;
       in_order = sets_are_in_order from to;
-      counts_are = ap (Listed.List (length (frames_for (due_sets from to)))) (sets_are_differing from to);
+      counts_are = ap (λ (n : ℕ). Ok (record { len = length (frames_for (due_sets from to)); sets = n })) (sets_are_differing from to);
     })
 
 -- and the Sets named one by one

@@ -18,7 +18,7 @@ use Rattle.tables.specs.Rules.{allowed, partner_number, changed}
 use Rattle.settings.specs.Calls.{setting_at, placing, finding}
 use Rattle.tables.specs.Calls.{set_to}
 use Rattle.tables.specs.declared.Table.{Table}
-use Rattle.settings.specs.declared.Found.{Found}
+use Rattle.settings.specs.Answers.{Found}
 use Rattle.tables.proofs.Tables.{set_accepted, set_refused}
 use Rattle.answers.specs.Answers as answers
 use Rattle.answers.proofs.Theorems.{answer_makes_it}
@@ -49,7 +49,7 @@ module _ (table : Table) (ok : allowed table ≡ true) (command : ℕ) (bytes : 
   makes_same = by front (ltb k count) (eqb (length (value_in bytes)) (width_at k)) refl refl refl
     where
       by : (a b c : Bool) → front ≡ a → ltb k count ≡ b → eqb (length (value_in bytes)) (width_at k) ≡ c
-          → cond front (answers.makes_found table (value_in bytes) (cond (ltb k count) (Found.At (setting_at k)) Found.Nothing)) table
+          → cond front (answers.makes_found table (value_in bytes) (cond (ltb k count) (Some (setting_at k)) None)) table
           ≡ cond ((front && (ltb k count && eqb (length (value_in bytes)) (width_at k))) && is_valid any_setting table k n) (changed table k n) table
       by false b c p q r = rw p
       by true false c p q r = rw (p, q)

@@ -99,7 +99,7 @@ is_answered Outcome.Nothing = false
 is_answered Outcome.Answered = true
 is_answered Outcome.Restarted = false
 is_answered Outcome.Ignored = false
-is_answered (Outcome.Refused number) = false
+is_answered (Outcome.Refused why) = false
 
 -- the reply to a Get of the capacity, by the number and by the table
 abbrev replied : ℕ → List ℕ

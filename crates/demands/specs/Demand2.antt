@@ -1,7 +1,7 @@
 -- Demand 2. "A frame written by one end is read by the other as the same command and data, and a frame read whole is byte for byte the one the
 -- writer makes for them. The number of confirmed settings is the number of replies that matched the Set due when they came." Each statement
 -- is proved under its name in proofs/Theorems.antt. Assumes nothing.
-use Rattle.std.specs.Prelude.{ℕ, ◌^◌, ◌%◌, ◌≤◌, ◌<◌, ◌≡◌, true, List, [], ◌∷◌, ◌++◌, length, take, pos}
+use Rattle.std.specs.Prelude.{ℕ, ◌^◌, ◌%◌, ◌≤◌, ◌<◌, ◌≡◌, true, List, [], ◌∷◌, ◌++◌, length, take, pos, Ok}
 use Rattle.paper.specs.Numbers as paper
 use Rattle.laws.specs.Promise.{Given}
 use Rattle.laws.specs.Cutting as Cutting
@@ -162,16 +162,16 @@ OutcomeAndReply = board.OutcomeAndReply
 -- own remainder by 256 ^ 2.)
 pub data Understood : Sent → List Ended → Type 0 where
   no_reply : Understood silent []
-  as_error : {code : ℕ} {bytes : List ℕ} → parsing code bytes ≡ Reply.Error 0xAAAA → Understood error (good code bytes ∷ [])
-  as_done : {code : ℕ} {bytes : List ℕ} (number : ℕ) → parsing code bytes ≡ Reply.Done → from_little bytes ≡ number % 256 ^ 2
+  as_error : {code : ℕ} {bytes : List ℕ} → parsing code bytes ≡ Ok (Reply.Error 0xAAAA) → Understood error (good code bytes ∷ [])
+  as_done : {code : ℕ} {bytes : List ℕ} (number : ℕ) → parsing code bytes ≡ Ok Reply.Done → from_little bytes ≡ number % 256 ^ 2
       → Understood (sent paper.done_code (little 2 number)) (good code bytes ∷ [])
-  as_unknown : {code : ℕ} {bytes : List ℕ} (command : ℕ) → parsing code bytes ≡ Reply.Unknown command
+  as_unknown : {code : ℕ} {bytes : List ℕ} (command : ℕ) → parsing code bytes ≡ Ok (Reply.Unknown command)
       → Understood (sent paper.unknown_code (command ∷ [])) (good code bytes ∷ [])
-  as_ping : {code : ℕ} {bytes : List ℕ} (version : ℕ) → parsing code bytes ≡ Reply.Ping (version % 256 ^ 2)
+  as_ping : {code : ℕ} {bytes : List ℕ} (version : ℕ) → parsing code bytes ≡ Ok (Reply.Ping (version % 256 ^ 2))
       → Understood (sent paper.pong_code (little 2 version)) (good code bytes ∷ [])
-  as_get : {code : ℕ} {bytes : List ℕ} (status : Status) (id : ℕ) (value : List ℕ) → parsing code bytes ≡ Reply.Get status id → rest bytes ≡ value
+  as_get : {code : ℕ} {bytes : List ℕ} (status : Status) (id : ℕ) (value : List ℕ) → parsing code bytes ≡ Ok (Reply.Get status id) → rest bytes ≡ value
       → Understood (sent paper.get_code (said id (flag_of status) value)) (good code bytes ∷ [])
-  as_set : {code : ℕ} {bytes : List ℕ} (status : Status) (id : ℕ) (value : List ℕ) → parsing code bytes ≡ Reply.Set status id → rest bytes ≡ value
+  as_set : {code : ℕ} {bytes : List ℕ} (status : Status) (id : ℕ) (value : List ℕ) → parsing code bytes ≡ Ok (Reply.Set status id) → rest bytes ≡ value
       → Understood (sent paper.set_code (said id (flag_of status) value)) (good code bytes ∷ [])
 
 pub record Understands (board : Board) (piece : List ℕ) (given : Given Answered) (heard : Step Held Ended) : Type 0 where

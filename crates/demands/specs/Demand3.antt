@@ -1,7 +1,7 @@
 -- Demand 3. "From a board started with an allowed table, after any bytes in any cutting, what a call did not take being handed on first, every
 -- setting is in range, every pair agrees, and the table is what the complete, valid Sets among the bytes taken, in order, make of the first
 -- one." Each statement is proved under its name in proofs/Theorems.antt. Assumes nothing.
-use Rattle.std.specs.Prelude.{ℕ, ◌≤◌, ◌<◌, ◌≡◌, Bool, true, false, cond, not, ◌&&◌, List, [], ◌∷◌, ◌++◌, map, length, take, drop, get_or, leb, ltb, eqb}
+use Rattle.std.specs.Prelude.{ℕ, ◌≤◌, ◌<◌, ◌≡◌, Bool, true, false, cond, not, ◌&&◌, List, [], ◌∷◌, ◌++◌, map, length, take, drop, get_or, leb, ltb, eqb, Some, None, Ok, Err}
 use Rattle.laws.specs.Promise.{Given}
 use Rattle.laws.specs.Lists.{every}
 use Rattle.laws.specs.Cutting as Cutting
@@ -13,7 +13,6 @@ use Rattle.stream.specs.Stream.{Unfinished, frames_from, left_from, frames_of}
 use Rattle.stream.specs.Calls as stream
 use Rattle.stream.specs.Calls.{most_held}
 use Rattle.stream.specs.declared.Held.{Held}
-use Rattle.stream.specs.declared.Event.{Event}
 use Rattle.settings.specs.Columns.{count, role_at}
 use Rattle.settings.specs.Rules.{in_range, agrees}
 use Rattle.tables.specs.Rules.{allowed, number_at, partner_number}
@@ -31,8 +30,7 @@ use Rattle.reply.specs.Events as events
 use Rattle.restore.specs.Calls.{list_room, listing, due_in}
 use Rattle.restore.specs.Laws as restore
 use Rattle.restore.specs.Laws.{Tables, differing}
-use Rattle.restore.specs.declared.Due.{Due}
-use Rattle.restore.specs.declared.Listed.{Listed}
+use Rattle.restore.specs.Answers.{Due, Listed}
 use Rattle.follow.specs.Calls as following
 use Rattle.follow.specs.Laws as follow
 use Rattle.follow.specs.declared.Followed.{Followed}
@@ -86,7 +84,7 @@ pub record EmptyChangesNothing : Type 0 where
   pub at_board : (board : Board) (room : ℕ) → length board.held.chars ≡ most_held → board_allowed board ≡ true → frame_room ≤ room
       → answering board [] room ≡ record { answer = record { board = board; outcome = Outcome.Nothing; len = 0; taken = 0 }; written = [] }
   pub at_box : (held : Held) (room : ℕ) → length held.chars ≡ most_held → stream.allowed held ≡ true → most_data ≤ room
-      → box_hearing held [] room ≡ record { answer = record { held = held; event = Event.Nothing; taken = 0 }; written = [] }
+      → box_hearing held [] room ≡ record { answer = record { held = held; event = Ok None; taken = 0 }; written = [] }
 
 -- Calls that are handed a byte at least and lend room enough take every byte, in as many calls as there are bytes; from any allowed state.
 abbrev pub is_feeding : List Deed → Bool
@@ -117,16 +115,16 @@ pub record IsList (from to : Table) (given : Given Listed) : Type 0 where
   pub each_once : (k : ℕ) → k < count → restore.times k settings ≡ cond (eqb (number_at from k) (number_at to k)) 0 1
   pub no_other : every (λ k. ltb k count && not (eqb (number_at from k) (number_at to k))) settings ≡ true
   pub in_order : (i j : ℕ) → i < j → j < length settings → restore.goes_first from to (get_or settings i 0) (get_or settings j 0) ≡ true
-  pub counts_are : given.answer ≡ Listed.List (length given.written) (differing count from to)
+  pub counts_are : given.answer ≡ Ok (record { len = length given.written; sets = differing count from to })
 
 abbrev pub OneSetForEach : Type 0
 OneSetForEach = (from to : Table) → Tables from to → (room : ℕ) → list_room ≤ room → IsList from to (listing from to room)
 
 -- The Sets that are named one by one, after 0, 1, 2 and so on, are the list's frames in their order, and none is named after the last.
 abbrev pub named : Due → List Ended
-named (Due.Set w) = good set_code (set_data w.setting.index w.number) ∷ []
-named Due.Nothing = []
-named (Due.Refused number) = refused number ∷ []
+named (Ok (Some w)) = good set_code (set_data w.setting.index w.number) ∷ []
+named (Ok None) = []
+named (Err why) = refused why ∷ []
 
 abbrev pub DueIsNext : Type 0
 DueIsNext =
@@ -162,12 +160,12 @@ OneCallForEach =
 -- a Set accepted: answered, and the reply is the Set's own with flag 00, which is the request itself. (The list has no frame that is refused.)
 abbrev pub accepted : Ended → Said
 accepted (good command bytes) = record { outcome = Outcome.Answered; reply = frame command bytes }
-accepted (refused number) = record { outcome = Outcome.Refused number; reply = [] }
+accepted (refused why) = record { outcome = Outcome.Refused why; reply = [] }
 
 pub record Stands (board : Board) (to : Table) (given : Given Listed) (end : Talk) : Type 0 where
   pub frames_are : end.frames ≡ frames_of given.written
   pub each_accepted : end.said ≡ map accepted (frames_of given.written)
-  pub counts_are : given.answer ≡ Listed.List end.taken (length end.said)
+  pub counts_are : given.answer ≡ Ok (record { len = end.taken; sets = length end.said })
   pub board_is : end.board ≡ record { core = with_table board.core to; held = board.held }
 
 abbrev pub ListIsAccepted : Type 0
@@ -185,7 +183,7 @@ replies_of (s ∷ more) = s.reply ++ replies_of more
 
 abbrev pub event_for : Ended → events.Event
 event_for (good command bytes) = events.heard command bytes
-event_for (refused number) = events.refused_frame
+event_for (refused why) = events.refused_frame
 
 -- what the follower's calls answer on what the box hears of some bytes
 abbrev pub followed : Table → Table → Held → List ℕ → List (Offer ℕ) → Followed

@@ -1,16 +1,16 @@
 -- Document 01, "Worked lines to be shown together": "These thirteen are shown by a single statement, over one list, about the definitions
 -- themselves". What the lines are comes first, then the list in the paper's order, then what it is for a line to hold. Assumes nothing.
-use Rattle.std.specs.Prelude.{ℕ, ◌≡◌, Bool, true, false, ◌&&◌, List, [], ◌∷◌, map, length, eqb}
+use Rattle.std.specs.Prelude.{ℕ, ◌≡◌, Bool, true, false, ◌&&◌, List, [], ◌∷◌, map, length, eqb, Ok, Err}
 use Prim.Native.Char.{code}
 use Prim.Native.String.{String, [] as end, ◌∷◌ as ◌then◌}
 use Rattle.laws.specs.Lists.{same}
 use Rattle.laws.specs.Promise.{Given}
-use Rattle.paper.specs.Numbers.{newline, frame_room}
+use Rattle.paper.specs.Numbers.{newline, frame_room, number_of}
 use Rattle.tables.specs.Rules.{factory, changed}
 use Rattle.settings.specs.Calls.{nearing}
 use Rattle.settings.specs.Columns.{place_of}
 use Rattle.tables.specs.declared.Table.{Table}
-use Rattle.settings.specs.declared.Number.{Number}
+use Rattle.settings.specs.Answers.{Number}
 use Rattle.answers.specs.declared.Outcome.{Outcome}
 use Rattle.board.specs.Calls.{starting, answering}
 use Rattle.board.specs.declared.Board.{Board}
@@ -71,25 +71,25 @@ is_answered Outcome.Nothing = false
 is_answered Outcome.Answered = true
 is_answered Outcome.Restarted = false
 is_answered Outcome.Ignored = false
-is_answered (Outcome.Refused number) = false
+is_answered (Outcome.Refused why) = false
 
 abbrev pub is_restarted : Outcome → Bool
 is_restarted Outcome.Nothing = false
 is_restarted Outcome.Answered = false
 is_restarted Outcome.Restarted = true
 is_restarted Outcome.Ignored = false
-is_restarted (Outcome.Refused number) = false
+is_restarted (Outcome.Refused why) = false
 
 abbrev pub is_refused : ℕ → Outcome → Bool
 is_refused n Outcome.Nothing = false
 is_refused n Outcome.Answered = false
 is_refused n Outcome.Restarted = false
 is_refused n Outcome.Ignored = false
-is_refused n (Outcome.Refused number) = eqb number n
+is_refused n (Outcome.Refused why) = eqb (number_of why) n
 
 abbrev pub is_number : ℕ → Number → Bool
-is_number n (Number.Is number) = eqb number n
-is_number n (Number.Refused number) = false
+is_number n (Ok number) = eqb number n
+is_number n (Err why) = false
 
 -- the call on a request has the outcome that the test asks for, writes this reply and no other byte, and takes the whole request
 abbrev pub answers_with : String → (Outcome → Bool) → List ℕ → Bool

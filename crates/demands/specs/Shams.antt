@@ -6,6 +6,7 @@
 use Rattle.std.specs.Prelude.{ℕ, ◌≤◌, ◌<◌, ◌≡◌, Bool, true, false, cond, ◌&&◌, ◌||◌, List, [], ◌∷◌, length, take, eqb}
 use Rattle.laws.specs.Promise.{Given}
 use Rattle.paper.specs.Numbers.{frame_room, get_code, set_code, colon}
+use Rattle.paper.specs.declared.Refusal.{Refusal}
 use Rattle.wire.specs.Frame.{frame}
 use Rattle.wire.specs.Parsing.{Ended, good, refused}
 use Rattle.stream.specs.Calls.{unfinished}
@@ -56,9 +57,9 @@ pub data Asked : List ℕ → Type 0 where
 
 -- "refuses everything": with any number, whatever it writes and leaves
 pub record RefusesAll (answer : Board → List ℕ → ℕ → Given Answered) : Type 0 where
-  pub number : Board → List ℕ → ℕ → ℕ
+  pub why : Board → List ℕ → ℕ → Refusal
   pub refuses : (board : Board) (request : List ℕ) (room : ℕ) → board_allowed board ≡ true → frame_room ≤ room → Asked request
-      → (answer board request room).answer.outcome ≡ Outcome.Refused (number board request room)
+      → (answer board request room).answer.outcome ≡ Outcome.Refused (why board request room)
 
 -- "always answers alike": the same bytes, whatever they are
 pub record AnswersAlike (answer : Board → List ℕ → ℕ → Given Answered) : Type 0 where

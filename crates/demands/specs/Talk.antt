@@ -1,7 +1,7 @@
 -- A conversation with a board: readings are stored, and calls are made on the bytes of its serial line, what one call did not take being handed on
 -- before anything else. Assumes nothing.
 use Rattle.std.specs.Prelude.{ℕ, zero, ◌+◌, Bool, true, false, cond, ◌||◌, List, [], ◌∷◌, ◌++◌, take, drop, eqb}
-use Rattle.paper.specs.Numbers.{short_buffer, not_allowed}
+use Rattle.paper.specs.Numbers.{short_buffer, not_allowed, number_of}
 use Rattle.laws.specs.Promise.{Given}
 use Rattle.answers.specs.declared.Core.{Core}
 use Rattle.answers.specs.declared.Outcome.{Outcome}
@@ -36,7 +36,7 @@ of_frame s Outcome.Nothing = []
 of_frame s Outcome.Answered = s ∷ []
 of_frame s Outcome.Restarted = s ∷ []
 of_frame s Outcome.Ignored = s ∷ []
-of_frame s (Outcome.Refused number) = cond (eqb number short_buffer || eqb number not_allowed) [] (s ∷ [])
+of_frame s (Outcome.Refused why) = cond (eqb (number_of why) (number_of short_buffer) || eqb (number_of why) (number_of not_allowed)) [] (s ∷ [])
 
 unfoldable pub said_in : Given Answered → List Said
 said_in given = of_frame (record { outcome = given.answer.outcome; reply = given.written }) given.answer.outcome
