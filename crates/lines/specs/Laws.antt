@@ -9,9 +9,9 @@ use Rattle.lines.specs.declared.Line.{Line}
 -- 1. The line of a text has the first 160 characters of it, counts them, and has 0 in every place past them.
 pub record IsLine (text : List ℕ) (line : Line) : Type 0 where
   pub text_is : text_of line ≡ take 160 text
-  pub len_is : line.len ≡ length (take 160 text)
-  pub room_is : length line.chars ≡ 160
-  pub zeros_are : every (eqb 0) (drop line.len line.chars) ≡ true
+  pub len_is : line.text.len ≡ length (take 160 text)
+  pub room_is : length line.text.bytes ≡ 160
+  pub zeros_are : every (eqb 0) (drop line.text.len line.text.bytes) ≡ true
 
 abbrev pub LineIsText : Type 0
 LineIsText = (text : List ℕ) → IsLine text (line_of text)

@@ -1,7 +1,8 @@
--- A line that the night box prints (ours): up to 160 characters in an array of fixed room, 0 past them. Assumes nothing.
-use Rattle.std.specs.Prelude.{ℕ, min, ◌≡◌, List, [], ◌∷◌, ◌++◌, length, take, drop, replicate}
+-- A line that the night box prints (ours): up to 160 characters. Assumes nothing.
+use Rattle.std.specs.Prelude.{ℕ, ◌≡◌, List, [], ◌∷◌, ◌++◌, length, take, drop}
 use Prim.Native.Char.{code}
 use Prim.Native.String.{String, [] as end, ◌∷◌ as ◌then◌}
+use Rattle.spans.specs.Few.{few, those}
 use Rattle.lines.specs.declared.Line.{Line}
 
 abbrev pub most : ℕ
@@ -12,17 +13,13 @@ abbrev pub chars : String → List ℕ
 chars end = []
 chars (c then more) = code c ∷ chars more
 
--- an array with no character in it
-unfoldable pub blank : List ℕ
-blank = replicate most 0
-
 -- the line of a text: what is past 160 characters is cut
 unfoldable pub line_of : List ℕ → Line
-line_of text = record { len = min most (length text); chars = take most (text ++ blank) }
+line_of text = record { text = few most text }
 
 -- the text of a line, of any that a caller can make up
 abbrev pub text_of : Line → List ℕ
-text_of line = take line.len line.chars
+text_of line = those line.text
 
 -- a line with some more characters after it
 unfoldable pub adding : Line → List ℕ → Line

@@ -6,15 +6,15 @@ ghost use Rattle.std.specs.Prelude.{◌≡◌, [], ◌++◌};
 ghost use Rattle.lines.specs.Lines.{chars, line_of, adding};
 ghost use Rattle.lines.specs.Numbers.{last_digit, last_digits, decimal, steps, pointed};
 
+use spans::Few;
+
 // The most characters of a line. What a text has past them is cut off.
 pub const MOST: usize = 160;
 
-// The characters of a line, and 0 past them. A length beside an array: the promises fix the whole value, zeros too (`line_of`), and callers
-// may make up any.
-#[derive(Clone, Copy)]
+// The characters of a line.
+#[derive(Clone, Copy, PartialEq, Eq)]
 pub struct Line {
-    pub len: usize,
-    pub chars: [u8; MOST],
+    pub text: Few<MOST>,
 }
 
 // Returns how many steps a unit of this many decimals has.
@@ -34,22 +34,15 @@ impl Line {
     pub fn start() -> Line
         ensures { result ≡ line_of [] }
     {
-        Line {
-            len: 0,
-            chars: [0; MOST],
-        }
+        Line { text: Few::of(&[]) }
     }
 
-    // Returns the line with a text after it. Only its own characters are taken over, so any line that a caller makes up is safe.
+    // Returns the line with a text after it.
     pub fn put(self, text: &[u8]) -> Line
         ensures { result ≡ adding self text.now }
     {
-        let mut chars = [0; MOST];
-        let own = spans::copy(&self.chars[..self.len.min(MOST)], &mut chars);
-        let more = spans::copy(text, &mut chars[own..]);
         Line {
-            len: own + more,
-            chars,
+            text: self.text.put(text),
         }
     }
 

@@ -155,12 +155,6 @@ module _ (id n : ℕ) (h : n < 65536) (l : Line) (e : l ≡ line_of (row_of id n
   pub line_text : text_of l ≡ row_of id n
   line_text = is_line.text_is ∙ whole
 
-  pub line_len : l.len ≡ length (row_of id n)
-  line_len = is_line.len_is ∙ ap length whole
-
-  pub line_room : l.len ≤ 160
-  line_room = omega (arith, line_len, row_short id n (omega arith))
-
 -- four digits and their id are each other's
 id_bytes : (id : ℕ) → id < 65536 → every (λ b. ltb b 256) (id / 256 ∷ id % 256 ∷ []) ≡ true
 id_bytes id h = both _ _ (lt-ltb (id / 256) 256 (omega arith)) (both _ _ (lt-ltb (id % 256) 256 (omega arith)) refl)

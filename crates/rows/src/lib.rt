@@ -42,7 +42,7 @@ pub fn write(id: u16, number: u16, out: &mut [u8]) -> Result<usize, Refusal>
         return Err(Refusal::ShortBuffer);
     }
     let row = writer::row_of(id, number);
-    Ok(spans::copy(&row.chars[..row.len], out))
+    Ok(spans::copy(row.text.as_slice(), out))
 }
 
 // Reads the row at the front of a text: 14 for a line of another form, or a text that ends before a newline.

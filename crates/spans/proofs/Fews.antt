@@ -139,6 +139,18 @@ module _ (n : ℕ) where
     tidy_within few = rw (le-leb f.len n few) (ap (every (eqb 0)) (part_to_end f.bytes (length f.bytes) f.len refl))
 
   -- bytes of these are tidy, and what is tidy is the one value of its bytes
+  pub few_length : (bytes : List ℕ) → (few n bytes).len ≡ length (take n bytes)
+  unfolding few
+  few_length bytes = sym (length-take n bytes)
+
+  pub few_room : (bytes : List ℕ) → length (few n bytes).bytes ≡ n
+  unfolding few
+  few_room bytes = length-take-le n (bytes ++ replicate n 0) (rw (length-append, length-replicate) (omega arith))
+
+  pub few_zeros : (bytes : List ℕ) → every (eqb 0) (drop (few n bytes).len (few n bytes).bytes) ≡ true
+  unfolding few
+  few_zeros bytes = zeros_behind bytes n n (omega arith)
+
   pub few_tidy : (bytes : List ℕ) → tidy (few n bytes) ≡ true
   unfolding tidy few
   few_tidy bytes =
