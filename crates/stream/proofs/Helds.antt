@@ -87,10 +87,12 @@ module _ (h : Held) (ok : allowed h ≡ true) (long : length h.chars ≡ 74) (mo
       ∙ ap (λ (n : ℕ). take n ((take h.len h.chars ++ more) ++ replicate 74 0)) whole
 
   pub held_more : (last : List ℕ)
-      → last ≡ overlaid (take (min (length more) (74 - h.len)) more) (take (74 - h.len) (drop h.len h.chars))
+      → last ≡ overlaid (take (74 - h.len) more) (take (74 - h.len) (drop h.len h.chars))
       → within (h.len + min (length more) (74 - h.len)) (put_mid h.len (74 - h.len) h.chars last) ≡ held_of (inside (take h.len h.chars ++ more))
   unfolding held_of
-  held_more last e = ap₂ within more_len (more_chars last e)
+  held_more last e =
+      let turned : min (length more) (74 - h.len) ≡ min (74 - h.len) (length more) = omega arith in
+      ap₂ within more_len (more_chars last (rw (turned, take_min) e))
 
 -- What is dropped past the 74th character never shows: a frame over 73 is refused 1 whatever they are.
 
@@ -127,12 +129,10 @@ unfolding held_of no_chars
 held_long outside = refl
 held_long (inside chars) = length-take-le 74 (chars ++ no_chars) (rw length-append (omega arith))
 
-pub held_fits : (u : Unfinished) → (held_of u).len ≤ length (held_of u).chars
-held_fits u = omega (arith, held_long u, held_few u)
-  where
-    held_few : (v : Unfinished) → (held_of v).len ≤ 74
-    held_few outside = unfold held_of in omega arith
-    held_few (inside chars) = unfold held_of in omega arith
+pub held_few : (u : Unfinished) → (held_of u).len ≤ 74
+unfolding held_of
+held_few outside = omega arith
+held_few (inside chars) = omega arith
 
 -- What a state remembers.
 

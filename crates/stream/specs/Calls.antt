@@ -8,7 +8,7 @@ use Rattle.paper.specs.Numbers.{most_data, short_buffer, not_allowed}
 use Rattle.wire.specs.Parsing.{Ended}
 use Rattle.wire.specs.Calls.{read_as}
 use Rattle.wire.specs.Answers.{Read}
-use Rattle.stream.specs.Stream.{Unfinished, outside, inside, ends_frame, frames_from, left_from, taken}
+use Rattle.stream.specs.Stream.{Unfinished, outside, inside, next, ended_by, ends_frame, frames_from, left_from, taken}
 use Rattle.stream.specs.Answers.{Event}
 use Rattle.stream.specs.declared.Held.{Held}
 use Rattle.stream.specs.declared.Heard.{Heard}
@@ -59,6 +59,14 @@ event_of (e ∷ rest) = event_from (read_as e).answer
 abbrev pub data_of_first : List Ended → List ℕ
 data_of_first [] = []
 data_of_first (e ∷ rest) = (read_as e).written
+
+-- what a byte makes of an unfinished frame, where so many bytes are taken with it
+abbrev pub ended_as : Unfinished → ℕ → ℕ → Given Heard
+ended_as u b taken =
+    record {
+      answer = record { held = held_of (next u b); event = event_of (ended_by u b); taken = taken };
+      written = data_of_first (ended_by u b);
+    }
 
 -- what a piece makes of an unfinished frame: the bytes taken are read from where it is
 abbrev pub heard_of : Unfinished → List ℕ → Given Heard

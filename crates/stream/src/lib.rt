@@ -8,19 +8,24 @@ ghost use Rattle.stream.specs.Stream.{outside};
 ghost use Rattle.stream.specs.declared.Heard.{Heard};
 ghost use Rattle.std.specs.Prelude.{◌≡◌, length};
 
+use kinds::Staying;
 use paper::Refusal;
+use spans::Byte;
 use wire::Frame;
 
-mod numbers;
+mod kinds;
 mod pieces;
 mod unfinished;
+
+// The most characters held. 74 of them mean "over 73", and the refusal is the same however many more there are.
+const MOST_HELD: usize = 74;
 
 // The unfinished frame between two calls: whether there is one, and the characters since its colon. 74 of them mean "over 73".
 #[derive(Clone, Copy, PartialEq, Eq)]
 pub struct Held {
     pub inside: bool,
     pub len: usize,
-    pub chars: [u8; numbers::MOST_HELD],
+    pub chars: [u8; MOST_HELD],
 }
 
 // What a call on the stream answers: the advanced state, the frame that ended if one did, and how many bytes of the piece it took. A
@@ -34,32 +39,38 @@ pub struct Heard {
 
 impl Held {
     // Returns the state in which no frame is unfinished, with which every stream starts.
+    #[tactic(auto, unfolding(crate::specs::Calls::held_of, crate::specs::Calls::no_chars))]
     pub fn outside() -> Held
         ensures { result ≡ held_of outside }
     {
         Held {
             inside: false,
             len: 0,
-            chars: [0u8; numbers::MOST_HELD],
+            chars: [0u8; MOST_HELD],
         }
     }
 
     // Returns whether this is a state that some bytes leave.
+    #[tactic(auto, using(laws::proofs::Lists::part_to_end), unfolding(crate::specs::Calls::allowed))]
     pub fn is_allowed(self) -> bool
         ensures { result ≡ allowed self }
     {
-        unfinished::is_allowed(self)
+        self.len <= MOST_HELD
+            && (self.inside || self.len == 0)
+            && spans::all(&self.chars[..self.len], Staying)
+            && spans::all(&self.chars[self.len..], Byte(0))
     }
 
     // Reads on in the stream: stops after the first byte that ends a frame, or takes the whole piece. Refuses 11 under 35 bytes of room,
     // then 12 for a state that no bytes could have left.
+    #[tactic(auto, unfolding(crate::specs::Calls::hearing, laws::specs::Promise::overlaid))]
     pub fn hear(self, piece: &[u8], into: &mut [u8]) -> Heard
         ensures { Gives Heard (hearing self piece.now (length into.old)) into.old result into.new }
     {
         if into.len() < paper::MOST_DATA {
             return pieces::refused(self, Refusal::ShortBuffer);
         }
-        if !unfinished::is_allowed(self) {
+        if !self.is_allowed() {
             return pieces::refused(self, Refusal::NotAllowed);
         }
         pieces::heard(self, piece, into)
