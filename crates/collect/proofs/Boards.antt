@@ -18,12 +18,13 @@ use Rattle.settings.proofs.Theorems.{rows_hold, allowed_has_room}
 use Rattle.endian.proofs.Little.{length_little, bytes_little}
 use Rattle.paper.specs.Numbers.{get_code}
 use Rattle.reply.specs.declared.Status.{Status}
-use Rattle.reply.specs.declared.Heeded.{Heeded}
+use Rattle.std.specs.Prelude.{Some}
 use Rattle.reply.specs.Calls.{heeding}
 use Rattle.reply.proofs.Flags.{said_small}
 use Rattle.reply.proofs.Heeding.{said_heeded}
 use Rattle.reply.specs.Events.{Event, heard, no_answer, OnStream, nothing, a_frame, a_silence}
-use Rattle.collect.specs.Collecting.{fits, valued, intake_of, most_tries, moved, advanced, begun, within, all_fit, none_after, allowed}
+use Rattle.reply.specs.Events.{most_tries}
+use Rattle.collect.specs.Collecting.{fits, valued, intake_of, moved, advanced, begun, within, all_fit, none_after, allowed}
 use Rattle.collect.specs.Laws.{run, good_reply, replies}
 use Rattle.collect.specs.declared.Collector.{Collector}
 use Rattle.collect.specs.declared.intake.Intake.{Intake}
@@ -44,8 +45,8 @@ valued_takes l k v n wide is f = rw (eq-eqb (length v) (width_at k) wide, is, f)
 reply_taken : (l : List ℕ) (k n : ℕ) → k < count → fits l k n ≡ true → intake_of l k (heard get_code (good_reply k n)) ≡ Intake.Takes n
 reply_taken l k n h f =
     let number : from_little (little (width_at k) n) ≡ n = little_is_read (width_at k) n (fits_room l k n h f) in
-    let good : heeding get_code (id_at k) get_code (good_reply k n) ≡ Heeded.Good = said_heeded get_code (id_at k) (rows_hold k h).id_holds refl Status.Good (little (width_at k) n) in
-    sym (heeded_is l k get_code (good_reply k n) Heeded.Good good) ∙ valued_takes l k (little (width_at k) n) n (length_little (width_at k) n) number f
+    let good : heeding get_code (id_at k) get_code (good_reply k n) ≡ (Some Status.Good) = said_heeded get_code (id_at k) (rows_hold k h).id_holds refl Status.Good (little (width_at k) n) in
+    sym (heeded_is l k get_code (good_reply k n) (Some Status.Good) good) ∙ valued_takes l k (little (width_at k) n) n (length_little (width_at k) n) number f
 
 pub board_run : (more l : List ℕ) → AllFit (l ++ more) → length (l ++ more) ≤ count → run (held l 0) (replies (length l) more) ≡ held (l ++ more) 0
 board_run [] l all few = ap (λ (m : List ℕ). held m 0) (sym (append-nil l))
@@ -111,10 +112,10 @@ module _ (l : List ℕ) (h : length l < count) where
 
   turned_down : (n : ℕ) → advanced (held l n) unknown ≡ shaped l n true
   turned_down n =
-      let bad : heeding get_code (id_at (length l)) get_code (said (id_at (length l)) 1 []) ≡ Heeded.Bad Status.UnknownId =
+      let bad : heeding get_code (id_at (length l)) get_code (said (id_at (length l)) 1 []) ≡ Some Status.UnknownId =
       said_heeded get_code (id_at (length l)) (rows_hold (length l) h).id_holds refl Status.UnknownId [] in
       held_advances l n h unknown
-      ∙ ap (moved (held l n)) (sym (heeded_is l (length l) get_code (said (id_at (length l)) 1 []) (Heeded.Bad Status.UnknownId) bad))
+      ∙ ap (moved (held l n)) (sym (heeded_is l (length l) get_code (said (id_at (length l)) 1 []) (Some Status.UnknownId) bad))
       ∙ held_halts l n
 
 -- the numbers of an allowed collector, as they were answered

@@ -16,8 +16,10 @@ use Rattle.tables.specs.Rules.{factory}
 use Rattle.tables.specs.Rules as tables
 use Rattle.tables.specs.declared.Table.{Table}
 use Rattle.reply.specs.Events.{Event}
-use Rattle.collect.specs.Collecting.{most_tries, is_waiting, advanced, begun, within, allowed}
+use Rattle.reply.specs.Events.{most_tries}
+use Rattle.collect.specs.Collecting.{is_waiting, advanced, begun, within, allowed}
 use Rattle.collect.specs.Calls.{stage_of, table_of, good, stray, told, starting, collecting}
+use Rattle.paper.specs.Numbers.{not_allowed}
 use Rattle.collect.specs.Laws.{run, calls, Reached, AllowedIsReached, refused_by, RefusedIsStray, CallsFollow, Carried, Tells, tells_done, tells_stopped, tells_waiting, Holds, TableIsCarried, ToldIsLast, EndedStays, Handed, TableIsAllowed, replies, BoardIsRead}
 use Rattle.collect.specs.declared.Collector.{Collector}
 use Rattle.collect.specs.declared.Stage.{Stage}
@@ -172,7 +174,7 @@ abbrev is_refused : Stage → Bool
 is_refused (Stage.Waiting due) = false
 is_refused Stage.Done = false
 is_refused (Stage.Stopped due) = false
-is_refused (Stage.Refused number) = true
+is_refused (Stage.Refused refusal) = true
 
 good_stands : (c : Collector) → is_refused (good c).stage ≡ false
 unfolding good
@@ -185,14 +187,14 @@ good_stands c = by (ltb c.len count) c.stopped
 
 module _ (c : Collector) (long : length c.numbers ≡ count) where
   -- refused exactly where the collector is stray, for an answer that is good where it is allowed
-  refused_when : (t : Collected) (d : Collector) → (allowed c ≡ true → good d ≡ t) → (allowed c ≡ false → stray c ≡ t) → (t ≡ refused_by 12 c) ↔ (Reached c → ⊥)
+  refused_when : (t : Collected) (d : Collector) → (allowed c ≡ true → good d ≡ t) → (allowed c ≡ false → stray c ≡ t) → (t ≡ refused_by not_allowed c) ↔ (Reached c → ⊥)
   unfolding stray
   refused_when t d well bad = (
     λ e r. false≢true (sym (good_stands d) ∙ ap (λ (x : Collected). is_refused x.stage) (well ((reached_calls c long).1 r) ∙ e)),
     λ none. by (allowed c) refl none,
   )
     where
-      by : (b : Bool) → allowed c ≡ b → (Reached c → ⊥) → t ≡ refused_by 12 c
+      by : (b : Bool) → allowed c ≡ b → (Reached c → ⊥) → t ≡ refused_by not_allowed c
       by true ok none = absurd (none ((reached_calls c long).0 ok))
       by false not none = sym (bad not)
 

@@ -20,10 +20,12 @@ use Rattle.reply.specs.Calls.{heeding}
 use Rattle.reply.specs.Events.{Event, heard, refused_frame, no_answer, OnStream, nothing, a_frame, a_refusal, a_silence}
 use Rattle.reply.specs.Laws.{Says, says_good, says_bad, says_nothing}
 use Rattle.reply.specs.declared.Status.{Status}
-use Rattle.reply.specs.declared.Heeded.{Heeded}
+use Rattle.std.specs.Prelude.{Some, None}
+use Rattle.reply.specs.Answers.{Heeded}
 use Rattle.reply.proofs.Flags.{flag_good, said_answers, none_answers}
 use Rattle.reply.proofs.Theorems.{heed_is_said}
-use Rattle.collect.specs.Collecting.{fits, valued, on_heeded, intake_of, most_tries}
+use Rattle.reply.specs.Events.{most_tries}
+use Rattle.collect.specs.Collecting.{fits, valued, on_heeded, intake_of}
 use Rattle.collect.specs.Laws.{good_reply, carries, Carried, following, carried_after}
 use Rattle.collect.specs.declared.intake.Intake.{Intake}
 use Rattle.collect.proofs.Deciding.{heeded_is}
@@ -71,13 +73,20 @@ module _ (l : List ℕ) (k : ℕ) (bytes : List ℕ) (small : every (λ b. ltb b
       by false w = told_not (differ w (same bytes (good_reply k n)) refl)
 
 module _ (l : List ℕ) (k command : ℕ) (bytes : List ℕ) (small : Bytes bytes) where
+  bad_carries : (status : Status) → status ≢ Status.Good → command ≡ get_code → bytes ≡ said (id_at k) (flag_of status) (rest bytes) → Intake.Stops ≡ carries l k (heard command bytes)
+  unfolding carries
+  bad_carries status bad is are =
+      rw (said_answers get_code (id_at k) command bytes status is are) (other_flag l k bytes small.below status bad are)
+
   said_carries : (h : Heeded) → Says get_code (id_at k) command bytes h → on_heeded l k (rest bytes) h ≡ carries l k (heard command bytes)
   unfolding carries
-  said_carries Heeded.Good (says_good stated is are) =
+  said_carries (Some Status.Good) (says_bad bad stated is are) = absurd (bad refl)
+  said_carries (Some Status.Good) (says_good stated is are) =
       rw (said_answers get_code (id_at k) command bytes Status.Good is are) (good_told l k bytes small.below are)
-  said_carries (Heeded.Bad status) (says_bad bad stated is are) =
-      rw (said_answers get_code (id_at k) command bytes status is are) (other_flag l k bytes small.below status bad are)
-  said_carries Heeded.Waits (says_nothing none) = rw (none_answers get_code (id_at k) command bytes (λ status. none status refl))
+  said_carries (Some Status.UnknownId) (says_bad bad stated is are) = bad_carries Status.UnknownId bad is are
+  said_carries (Some Status.NotSupported) (says_bad bad stated is are) = bad_carries Status.NotSupported bad is are
+  said_carries (Some Status.ParameterError) (says_bad bad stated is are) = bad_carries Status.ParameterError bad is are
+  said_carries None (says_nothing none) = rw (none_answers get_code (id_at k) command bytes (λ status. none status refl))
 
   heard_carries : k < count → intake_of l k (heard command bytes) ≡ carries l k (heard command bytes)
   heard_carries h =

@@ -3,7 +3,6 @@ use mathlib.Core.Path.{◌≡◌, refl, sym}
 use mathlib.Core.Bool.{true}
 use mathlib.Core.List.{List}
 use Prim.Native.Nat.{ℕ}
-use native.Mathlib.Omega.{arith}
 use lib.ListN.{length}
 use lib.Dec.{eqb}
 use Rattle.paper.specs.Numbers.{get_code}
@@ -11,7 +10,9 @@ use Rattle.endian.specs.Numbers.{from_little}
 use Rattle.settings.specs.Columns.{id_at, width_at}
 use Rattle.reply.specs.Replies.{rest}
 use Rattle.reply.specs.Calls.{heeding}
-use Rattle.reply.specs.declared.Heeded.{Heeded}
+use Rattle.std.specs.Prelude.{Some, None}
+use Rattle.reply.specs.Answers.{Heeded}
+use Rattle.reply.specs.declared.Status.{Status}
 use Rattle.reply.proofs.Choices.{choose}
 use Rattle.reply.specs.Events.{Event, heard, refused_frame, no_answer}
 use Rattle.collect.specs.Collecting.{fits, valued, on_heeded, intake_of}
@@ -24,9 +25,11 @@ module _ (l m : List ℕ) (k : ℕ) (same : (n : ℕ) → fits l k n ≡ fits m 
   valued_same v = rw (same (from_little v))
 
   heeded_same : (v : List ℕ) (h : Heeded) → on_heeded l k v h ≡ on_heeded m k v h
-  heeded_same v Heeded.Waits = refl
-  heeded_same v Heeded.Good = valued_same v
-  heeded_same v (Heeded.Bad status) = refl
+  heeded_same v None = refl
+  heeded_same v (Some Status.Good) = valued_same v
+  heeded_same v (Some Status.UnknownId) = refl
+  heeded_same v (Some Status.NotSupported) = refl
+  heeded_same v (Some Status.ParameterError) = refl
 
   pub intake_same : (e : Event) → intake_of l k e ≡ intake_of m k e
   unfolding intake_of
@@ -38,13 +41,13 @@ pub record Taken (l : List ℕ) (k : ℕ) (v : Intake) : Type 0 where
   pub fit : (n : ℕ) → v ≡ Intake.Takes n → fits l k n ≡ true
 
 taken_stops : (l : List ℕ) (k : ℕ) → Taken l k Intake.Stops
-taken_stops l k = record { fit = λ n e. let z : ◌≡◌ {A = ℕ} 0 1 = cc in absurd (omega arith) }
+taken_stops l k = record { fit = λ n e. cc }
 
 taken_waits : (l : List ℕ) (k : ℕ) → Taken l k Intake.Waits
-taken_waits l k = record { fit = λ n e. let z : ◌≡◌ {A = ℕ} 0 1 = cc in absurd (omega arith) }
+taken_waits l k = record { fit = λ n e. cc }
 
 taken_silence : (l : List ℕ) (k : ℕ) → Taken l k Intake.Silence
-taken_silence l k = record { fit = λ n e. let z : ◌≡◌ {A = ℕ} 0 1 = cc in absurd (omega arith) }
+taken_silence l k = record { fit = λ n e. cc }
 
 module _ (l : List ℕ) (k : ℕ) where
   valued_taken : (v : List ℕ) → Taken l k (valued l k v)
@@ -55,9 +58,11 @@ module _ (l : List ℕ) (k : ℕ) where
       (λ w. taken_stops l k)
 
   heeded_taken : (v : List ℕ) (h : Heeded) → Taken l k (on_heeded l k v h)
-  heeded_taken v Heeded.Waits = taken_waits l k
-  heeded_taken v Heeded.Good = valued_taken v
-  heeded_taken v (Heeded.Bad status) = taken_stops l k
+  heeded_taken v None = taken_waits l k
+  heeded_taken v (Some Status.Good) = valued_taken v
+  heeded_taken v (Some Status.UnknownId) = taken_stops l k
+  heeded_taken v (Some Status.NotSupported) = taken_stops l k
+  heeded_taken v (Some Status.ParameterError) = taken_stops l k
 
   pub intake_taken : (e : Event) → Taken l k (intake_of l k e)
   unfolding intake_of

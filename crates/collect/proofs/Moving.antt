@@ -1,28 +1,17 @@
 -- The states of a collector, by the tests in their order. Assumes nothing.
-use mathlib.Core.Path.{◌≡◌, refl, sym, ◌∙◌}
-use mathlib.Core.Bool.{Bool, true, false, cond, not, ◌&&◌, and_assoc, and-true}
-use mathlib.Core.List.{List}
-use Prim.Native.Nat.{ℕ, ◌+◌, ◌≤◌, ◌<◌}
+use mathlib.Core.Path.{◌≡◌, refl}
+use mathlib.Core.Bool.{Bool, true, false, cond, not, ◌&&◌}
+use Prim.Native.Nat.{ℕ, ◌≤◌, ◌<◌}
 use native.Mathlib.Omega.{arith}
 use borrow.Author.Tests.{ltb-true, eqb-true}
-use lib.ListN.{length, get_or, drop, drop_of_length-le}
 use lib.Dec.{ltb, leb, eqb}
-use Rattle.laws.specs.Lists.{every}
-use Rattle.laws.proofs.Lists.{drop_turn}
 use Rattle.laws.proofs.Bools.{and_left, and_right, pick}
 use Rattle.settings.specs.Columns.{count}
 use Rattle.reply.specs.Events.{Event, refused_frame, no_answer}
-use Rattle.collect.specs.Collecting.{intake_of, most_tries, silenced, moved, is_waiting, advanced, within, all_fit, none_after, allowed}
+use Rattle.reply.specs.Events.{most_tries}
+use Rattle.collect.specs.Collecting.{intake_of, silenced, moved, is_waiting, advanced, within, all_fit, none_after, allowed}
 use Rattle.collect.specs.Calls.{good, stray, told, collecting}
 use Rattle.collect.specs.declared.Collector.{Collector}
-
--- what is seen of the numbers and what is left to see decide alike
-pub none_turn : (l : List ℕ) (i : ℕ) (all x : Bool) → i < length l → (all && every (eqb 0) (drop i l)) ≡ x
-    → ((all && eqb 0 (get_or l i 0)) && every (eqb 0) (drop (i + 1) l)) ≡ x
-none_turn l i all x h e = and_assoc all (eqb 0 (get_or l i 0)) (every (eqb 0) (drop (i + 1) l)) ∙ rw (drop_turn l i h) at e
-
-pub none_end : (l : List ℕ) (i : ℕ) (all x : Bool) → length l ≤ i → (all && every (eqb 0) (drop i l)) ≡ x → all ≡ x
-none_end l i all x h e = sym (and-true all) ∙ rw (drop_of_length-le l h) at e
 
 -- no more are answered than there are
 pub few_answered : (len silences : ℕ) (stopped : Bool) → within len silences stopped ≡ true → len ≤ count
@@ -35,10 +24,6 @@ few_answered len silences false e = by (ltb len count) refl e
 
 -- which collectors are allowed
 module _ (c : Collector) where
-  pub allowed_not : within c.len c.silences c.stopped ≡ false → false ≡ allowed c
-  unfolding allowed
-  allowed_not e = rw e
-
   pub allowed_rest : within c.len c.silences c.stopped ≡ true → (all_fit c.numbers c.len && none_after c.numbers c.len) ≡ allowed c
   unfolding allowed
   allowed_rest e = rw e

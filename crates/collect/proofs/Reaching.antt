@@ -12,7 +12,8 @@ use Rattle.laws.proofs.Bools.{both}
 use Rattle.laws.proofs.Lists.{every_replicate, up_to_all}
 use Rattle.settings.specs.Columns.{count}
 use Rattle.reply.specs.Events.{Event}
-use Rattle.collect.specs.Collecting.{fits, intake_of, took, halted, most_tries, counted, silenced, moved, is_waiting, advanced, begun, within, all_fit, none_after, allowed}
+use Rattle.reply.specs.Events.{most_tries}
+use Rattle.collect.specs.Collecting.{fits, intake_of, took, halted, counted, silenced, moved, is_waiting, advanced, begun, within, all_fit, none_after, allowed}
 use Rattle.collect.specs.Laws.{run, Carried, following}
 use Rattle.collect.specs.declared.Collector.{Collector}
 use Rattle.collect.specs.declared.intake.Intake.{Intake}

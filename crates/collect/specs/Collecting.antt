@@ -1,6 +1,6 @@
 -- A collector asks a Get for each setting in order and takes the numbers that the board answers. All of it is ours; where the words are
 -- in quotes they are document 01's of the follower, "Restore list and its following", which is the model. Assumes nothing.
-use Rattle.std.specs.Prelude.{ℕ, suc, min, Bool, true, false, cond, not, ◌&&◌, List, length, get_or, set, drop, replicate, ltb, leb, eqb}
+use Rattle.std.specs.Prelude.{ℕ, suc, min, Bool, true, false, cond, not, ◌&&◌, List, length, get_or, set, drop, replicate, ltb, leb, eqb, Some, None}
 use Rattle.laws.specs.Lists.{every, up_to}
 use Rattle.paper.specs.Numbers.{get_code}
 use Rattle.endian.specs.Numbers.{from_little}
@@ -8,8 +8,9 @@ use Rattle.settings.specs.Columns.{count, id_at, width_at, partner_at}
 use Rattle.settings.specs.Rules.{allowed_for}
 use Rattle.reply.specs.Replies.{rest}
 use Rattle.reply.specs.Calls.{heeding}
-use Rattle.reply.specs.Events.{Event, heard, refused_frame, no_answer}
-use Rattle.reply.specs.declared.Heeded.{Heeded}
+use Rattle.reply.specs.Answers.{Heeded}
+use Rattle.reply.specs.Events.{Event, heard, refused_frame, no_answer, most_tries}
+use Rattle.reply.specs.declared.Status.{Status}
 use Rattle.collect.specs.declared.Collector.{Collector}
 use Rattle.collect.specs.declared.intake.Intake.{Intake}
 
@@ -24,10 +25,15 @@ valued numbers k value =
     cond (eqb (length value) (width_at k)) (cond (fits numbers k (from_little value)) (Intake.Takes (from_little value)) Intake.Stops) Intake.Stops
 
 -- a Get reply with the due id: "and anything else ends it as stopped"; "all other replies, [..] and refused frames included, keep waiting"
+abbrev pub on_status : List ℕ → ℕ → List ℕ → Status → Intake
+on_status numbers k value Status.Good = valued numbers k value
+on_status numbers k value Status.UnknownId = Intake.Stops
+on_status numbers k value Status.NotSupported = Intake.Stops
+on_status numbers k value Status.ParameterError = Intake.Stops
+
 abbrev pub on_heeded : List ℕ → ℕ → List ℕ → Heeded → Intake
-on_heeded numbers k value Heeded.Waits = Intake.Waits
-on_heeded numbers k value Heeded.Good = valued numbers k value
-on_heeded numbers k value (Heeded.Bad status) = Intake.Stops
+on_heeded numbers k value None = Intake.Waits
+on_heeded numbers k value (Some status) = on_status numbers k value status
 
 -- what is taken of an event while the setting at place k is due, with the numbers answered so far
 unfoldable pub intake_of : List ℕ → ℕ → Event → Intake
@@ -44,9 +50,6 @@ halted c = record { len = c.len; numbers = c.numbers; silences = c.silences; sto
 
 -- "The caller may say "no answer", which stops": a Get changes nothing on the board, so it is asked again, three times in all (ours), and the
 -- third "no answer" in a row stops
-abbrev pub most_tries : ℕ
-most_tries = 3
-
 abbrev pub counted : ℕ → ℕ
 counted silences = min most_tries (suc silences)
 

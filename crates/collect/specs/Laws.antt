@@ -9,7 +9,8 @@ use Rattle.settings.specs.declared.Setting.{Setting}
 use Rattle.tables.specs.Rules.{factory}
 use Rattle.tables.specs.Rules as tables
 use Rattle.tables.specs.declared.Table.{Table}
-use Rattle.paper.specs.Numbers.{get_code}
+use Rattle.paper.specs.Numbers.{get_code, not_allowed}
+use Rattle.paper.specs.declared.Refusal.{Refusal}
 use Rattle.reply.specs.Events.{Event, heard, refused_frame, no_answer, OnStream, answers}
 use Rattle.collect.specs.Collecting.{fits, advanced, begun, allowed}
 use Rattle.collect.specs.Calls.{told, starting, collecting}
@@ -33,13 +34,13 @@ abbrev pub AllowedIsReached : Type 0
 AllowedIsReached = (c : Collector) → length c.numbers ≡ count → (allowed c ≡ true) ↔ Reached c
 
 -- Every call on another is refused 12, with the collector "as it was, with counts [..] 0" and the factory table, and on no other.
-abbrev pub refused_by : ℕ → Collector → Collected
-refused_by number c = record { collector = c; stage = Stage.Refused number; answered = 0; table = factory }
+abbrev pub refused_by : Refusal → Collector → Collected
+refused_by refusal c = record { collector = c; stage = Stage.Refused refusal; answered = 0; table = factory }
 
 abbrev pub RefusedIsStray : Type 0
 RefusedIsStray =
     (c : Collector) → length c.numbers ≡ count
-    → ((told c ≡ refused_by 12 c) ↔ (Reached c → ⊥)) × ((e : Event) → (collecting c e ≡ refused_by 12 c) ↔ (Reached c → ⊥))
+    → ((told c ≡ refused_by not_allowed c) ↔ (Reached c → ⊥)) × ((e : Event) → (collecting c e ≡ refused_by not_allowed c) ↔ (Reached c → ⊥))
 
 -- The collector that a row of calls hands back, by what an event makes of a collector: for proofs above.
 abbrev pub run : Collector → List Event → Collector

@@ -1,66 +1,60 @@
+// What is told of a collector.
 ghost use Rattle.std.specs.Prelude.{◌≡◌};
 ghost use Rattle.collect.specs.Calls as spec;
 
-use crate::{Collected, Collector, Stage, state};
+use crate::{Collected, Collector, Stage};
+use paper::Refusal;
 use settings::COUNT;
 use tables::Table;
 
-// Returns how far a collector is, with this many settings answered.
-fn stage_of(len: usize, stopped: bool) -> Stage
-    ensures { result ≡ spec.stage_of len stopped }
-{
-    if len >= COUNT {
-        return Stage::Done;
+impl Collector {
+    // Returns how far a collector is: a setting is due, or was when it stopped; or every one was answered.
+    #[tactic(auto, unfolding(settings::specs::Calls::placing))]
+    fn stage(self) -> Stage
+        ensures { result ≡ spec.stage_of self.len self.stopped }
+    {
+        match settings::at(self.len) {
+            Some(due) if self.stopped => Stage::Stopped(due),
+            Some(due) => Stage::Waiting(due),
+            None => Stage::Done,
+        }
     }
-    let due = settings::setting_at(len);
-    if stopped {
-        return Stage::Stopped(due);
-    }
-    Stage::Waiting(due)
-}
 
-// Returns the table, or the factory table unless every setting was answered.
-fn table_of(len: usize, numbers: [u16; COUNT]) -> Table
-    ensures { result ≡ spec.table_of len numbers }
-{
-    if len < COUNT {
-        return Table::factory();
+    // Returns the table, or the factory table unless every setting was answered.
+    fn table(self) -> Table
+        ensures { result ≡ spec.table_of self.len self.numbers }
+    {
+        if self.len < COUNT {
+            Table::factory()
+        } else {
+            let numbers = self.numbers;
+            Table { numbers }
+        }
     }
-    Table { numbers }
-}
 
-// Returns the answer of an allowed collector.
-pub(crate) fn good(collector: Collector) -> Collected
-    ensures { result ≡ spec.good collector }
-{
-    let len = collector.len;
-    let numbers = collector.numbers;
-    Collected {
-        collector,
-        stage: stage_of(len, collector.stopped),
-        answered: len,
-        table: table_of(len, numbers),
+    // Returns the answer of an allowed collector.
+    #[tactic(auto, unfolding(crate::specs::Calls::good))]
+    pub(crate) fn good(self) -> Collected
+        ensures { result ≡ spec.good self }
+    {
+        Collected {
+            collector: self,
+            stage: self.stage(),
+            answered: self.len,
+            table: self.table(),
+        }
     }
-}
 
-// Refuses a collector that is not allowed by 12: it is as it was, and nothing is counted.
-pub(crate) fn stray(collector: Collector) -> Collected
-    ensures { result ≡ spec.stray collector }
-{
-    Collected {
-        collector,
-        stage: Stage::Refused(paper::NOT_ALLOWED),
-        answered: 0,
-        table: Table::factory(),
+    // Refuses a collector that is not allowed by 12: it is as it was, and nothing is counted.
+    #[tactic(auto, unfolding(crate::specs::Calls::stray))]
+    pub(crate) fn stray(self) -> Collected
+        ensures { result ≡ spec.stray self }
+    {
+        Collected {
+            collector: self,
+            stage: Stage::Refused(Refusal::NotAllowed),
+            answered: 0,
+            table: Table::factory(),
+        }
     }
-}
-
-// Returns the answer of any collector, as it is.
-pub(crate) fn told(collector: Collector) -> Collected
-    ensures { result ≡ spec.told collector }
-{
-    if !state::is_allowed(collector) {
-        return stray(collector);
-    }
-    good(collector)
 }

@@ -7,6 +7,7 @@ ghost use Rattle.std.specs.Prelude.{◌≡◌};
 ghost use Rattle.reply.specs.Events.{heard, refused_frame, no_answer};
 ghost use Rattle.collect.specs.Calls.{starting, told, collecting};
 
+use paper::Refusal;
 use settings::{COUNT, Setting};
 use tables::Table;
 
@@ -25,13 +26,13 @@ pub struct Collector {
     pub stopped: bool,
 }
 
-// How far it is: a setting is asked for; every one was answered; it stopped at a setting; or document 01's number of the refusal.
+// How far it is: a setting is asked for; every one was answered; it stopped at a setting; or it is refused.
 #[derive(Clone, Copy)]
 pub enum Stage {
     Waiting(Setting),
     Done,
     Stopped(Setting),
-    Refused(u8),
+    Refused(Refusal),
 }
 
 // The advanced collector, how far it is, how many settings were answered, and the table: the factory table unless it is done.
@@ -45,45 +46,59 @@ pub struct Collected {
 
 impl Collector {
     // Returns a collector that asks for the first setting.
+    #[tactic(auto, unfolding(crate::specs::Calls::starting, crate::specs::Collecting::begun))]
     pub fn start() -> Collected
         ensures { result ≡ starting }
     {
-        answer::good(state::begun())
+        Collector {
+            len: 0,
+            numbers: [0; COUNT],
+            silences: 0,
+            stopped: false,
+        }
+        .good()
     }
 
     // Returns how far a collector is, with nothing heard. Refuses 12 for one that no start and events give.
+    #[tactic(auto, unfolding(crate::specs::Calls::told))]
     pub fn told(self) -> Collected
         ensures { result ≡ told self }
     {
-        answer::told(self)
+        if !self.is_allowed() {
+            return self.stray();
+        }
+        self.good()
     }
 
     // Takes a frame of this command and these data. Only the number of a good Get reply with the due id, in its width and with a number
     // that fits, is taken. Refuses 12 for a collector that no start and events give.
+    #[tactic(auto, unfolding(crate::specs::Calls::collecting))]
     pub fn reply(self, command: u8, bytes: &[u8]) -> Collected
         ensures { result ≡ collecting self (heard command bytes.now) }
     {
-        if !state::is_allowed(self) {
-            return answer::stray(self);
+        if !self.is_allowed() {
+            return self.stray();
         }
-        answer::good(state::after_frame(self, command, bytes))
+        self.after_frame(command, bytes).good()
     }
 
     // Takes a frame that the stream refused, on which the collector waits on. Refuses 12 for one that no start and events give.
+    #[tactic(auto, using(crate::proofs::Moving::collecting_refused))]
     pub fn refused_frame(self) -> Collected
         ensures { result ≡ collecting self refused_frame }
     {
-        answer::told(self)
+        self.told()
     }
 
     // Notes that no answer came: the same setting stays due, and the third time in a row stops a collector that waits. Refuses 12 for one
     // that no start and events give.
+    #[tactic(auto, unfolding(crate::specs::Calls::collecting))]
     pub fn no_answer(self) -> Collected
         ensures { result ≡ collecting self no_answer }
     {
-        if !state::is_allowed(self) {
-            return answer::stray(self);
+        if !self.is_allowed() {
+            return self.stray();
         }
-        answer::good(state::after_silence(self))
+        self.after_silence().good()
     }
 }

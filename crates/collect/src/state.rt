@@ -6,170 +6,131 @@ ghost use Rattle.collect.specs.Collecting as spec;
 
 use crate::intake::Intake;
 use crate::{Collector, intake, place};
+use reply::MOST_TRIES;
 use settings::COUNT;
 
-// How many times a Get is sent before no answer stops a collector (ours).
-const MOST_TRIES: usize = 3;
-
-// Returns the start: nothing is answered.
-pub(crate) fn begun() -> Collector
-    ensures { result ≡ spec.begun }
-{
-    Collector {
-        len: 0,
-        numbers: [0u16; COUNT],
-        silences: 0,
-        stopped: false,
+impl Collector {
+    // Returns whether no more settings are answered than there are, fewer where it stopped, and there were no more silences than there can
+    // be.
+    fn is_within(self) -> bool
+        ensures { result ≡ spec.within self.len self.silences self.stopped }
+    {
+        if self.stopped {
+            self.len < COUNT && self.silences <= MOST_TRIES
+        } else if self.len < COUNT {
+            self.silences < MOST_TRIES
+        } else {
+            self.len == COUNT && self.silences == 0
+        }
     }
-}
 
-// Returns whether no more settings are answered than there are, fewer where it stopped, and there were no more silences than there can be.
-fn is_within(len: usize, silences: usize, stopped: bool) -> bool
-    ensures { result ≡ spec.within len silences stopped }
-{
-    if stopped {
-        return (len < COUNT) & (silences <= MOST_TRIES);
+    // Returns whether every number answered fits those before it.
+    #[tactic(auto, unfolding(crate::specs::Collecting::all_fit))]
+    fn all_fit(self) -> bool
+        requires { self.len ≤ count }
+        ensures { result ≡ spec.all_fit self.numbers self.len }
+    {
+        let mut all = true;
+        for i in 0..self.len {
+            all &= place::is_fit(self.numbers, i, self.numbers[i]);
+        }
+        all
     }
-    if len < COUNT {
-        return silences < MOST_TRIES;
-    }
-    (len == COUNT) & (silences == 0)
-}
 
-// Returns whether every number answered fits those before it.
-fn all_fit(numbers: [u16; COUNT], len: usize) -> bool
-    requires { len ≤ count }
-    ensures { result ≡ spec.all_fit numbers len }
-{
-    let mut all = true;
-    let mut i = 0;
-    while i < len {
-        all = all & place::is_fit(numbers, i, numbers[i]);
-        i += 1;
+    // Returns whether all numbers past those answered are 0, so that a state has one form.
+    #[tactic(auto, using(laws::proofs::Lists::part_to_end))]
+    fn none_after(self) -> bool
+        requires { self.len ≤ count }
+        ensures { result ≡ spec.none_after self.numbers self.len }
+    {
+        let rest = &self.numbers[self.len..];
+        let mut all = true;
+        for n in rest {
+            all &= 0 == *n;
+        }
+        all
     }
-    all
-}
 
-// Returns whether all numbers past those answered are 0, so that a state has one form.
-fn none_after(numbers: [u16; COUNT], len: usize) -> bool
-    requires { len ≤ count }
-    ensures { result ≡ spec.none_after numbers len }
-{
-    let mut all = true;
-    let mut i = len;
-    while i < COUNT {
-        all = all & (0 == numbers[i]);
-        i += 1;
+    // Returns whether a start and events give the collector.
+    #[tactic(auto, using(crate::proofs::Moving::few_answered), unfolding(crate::specs::Collecting::allowed))]
+    pub(crate) fn is_allowed(self) -> bool
+        ensures { result ≡ spec.allowed self }
+    {
+        self.is_within() && self.all_fit() && self.none_after()
     }
-    all
-}
 
-// Returns whether a start and events give the collector.
-pub(crate) fn is_allowed(collector: Collector) -> bool
-    ensures { result ≡ spec.allowed collector }
-{
-    let len = collector.len;
-    if !is_within(len, collector.silences, collector.stopped) {
-        return false;
+    // Returns whether a setting is due.
+    #[tactic(auto, unfolding(crate::specs::Collecting::is_waiting))]
+    fn is_waiting(self) -> bool
+        ensures { result ≡ spec.is_waiting self }
+    {
+        !self.stopped && self.len < COUNT
     }
-    let numbers = collector.numbers;
-    all_fit(numbers, len) & none_after(numbers, len)
-}
 
-// Returns whether a setting is due.
-fn is_waiting(collector: Collector) -> bool
-    ensures { result ≡ spec.is_waiting collector }
-{
-    !collector.stopped & (collector.len < COUNT)
-}
-
-// Returns a collector with one more number answered.
-fn took(collector: Collector, number: u16) -> Collector
-    requires { collector.len < count }
-    ensures { result ≡ spec.took collector number }
-{
-    let len = collector.len;
-    let mut numbers = collector.numbers;
-    numbers[len] = number;
-    let silences = 0;
-    Collector {
-        len: len + 1,
-        numbers,
-        silences,
-        stopped: collector.stopped,
+    // Returns a collector with one more number answered.
+    #[tactic(auto, unfolding(crate::specs::Collecting::took))]
+    fn took(mut self, number: u16) -> Collector
+        requires { self.len < count }
+        ensures { result ≡ spec.took self number }
+    {
+        self.numbers[self.len] = number;
+        Collector {
+            len: self.len + 1,
+            silences: 0,
+            ..self
+        }
     }
-}
 
-// Returns a collector that has stopped. Its count stays, so that the setting that was due can be named.
-fn halted(collector: Collector) -> Collector
-    ensures { result ≡ spec.halted collector }
-{
-    let numbers = collector.numbers;
-    Collector {
-        len: collector.len,
-        numbers,
-        silences: collector.silences,
-        stopped: true,
+    // Returns a collector to whose Get no answer came once more. The third time it stops.
+    #[tactic(auto, unfolding(crate::specs::Collecting::silenced))]
+    fn silenced(self) -> Collector
+        ensures { result ≡ spec.silenced self }
+    {
+        let silences = self.silences.min(MOST_TRIES - 1) + 1;
+        Collector {
+            silences,
+            stopped: MOST_TRIES <= silences,
+            ..self
+        }
     }
-}
 
-// Returns one silence more, up to the last.
-fn counted(silences: usize) -> usize
-    ensures { result ≡ spec.counted silences }
-{
-    if MOST_TRIES <= silences {
-        return MOST_TRIES;
+    // Returns a collector that waited, after what came to its Get. The count of one that stops stays, so that the setting that was due can be
+    // named.
+    #[tactic(auto, unfolding(crate::specs::Collecting::halted))]
+    fn moved(self, intake: Intake) -> Collector
+        requires { self.len < count }
+        ensures { result ≡ spec.moved self intake }
+    {
+        match intake {
+            Intake::Takes(number) => self.took(number),
+            Intake::Stops => Collector {
+                stopped: true,
+                ..self
+            },
+            Intake::Waits => self,
+            Intake::Silence => self.silenced(),
+        }
     }
-    silences + 1
-}
 
-// Returns a collector to whose Get no answer came once more. The third time it stops.
-fn silenced(collector: Collector) -> Collector
-    ensures { result ≡ spec.silenced collector }
-{
-    let numbers = collector.numbers;
-    let silences = counted(collector.silences);
-    Collector {
-        len: collector.len,
-        numbers,
-        silences,
-        stopped: MOST_TRIES <= silences,
+    // Returns a collector after a frame. An ended one stays as it was.
+    #[tactic(auto, using(crate::proofs::Moving::waiting_few), unfolding(crate::specs::Collecting::advanced))]
+    pub(crate) fn after_frame(self, command: u8, bytes: &[u8]) -> Collector
+        ensures { result ≡ spec.advanced self (heard command bytes.now) }
+    {
+        if !self.is_waiting() {
+            return self;
+        }
+        self.moved(intake::of_frame(self.numbers, self.len, command, bytes))
     }
-}
 
-// Returns a collector that waited, after what came to its Get.
-fn moved(collector: Collector, intake: Intake) -> Collector
-    requires { collector.len < count }
-    ensures { result ≡ spec.moved collector intake }
-{
-    match intake {
-        Intake::Takes(number) => took(collector, number),
-        Intake::Stops => halted(collector),
-        Intake::Waits => collector,
-        Intake::Silence => silenced(collector),
+    // Returns a collector to whose Get no answer came. An ended one stays as it was.
+    #[tactic(auto, using(crate::proofs::Moving::waiting_few), unfolding(crate::specs::Collecting::advanced, crate::specs::Collecting::intake_of))]
+    pub(crate) fn after_silence(self) -> Collector
+        ensures { result ≡ spec.advanced self no_answer }
+    {
+        if !self.is_waiting() {
+            return self;
+        }
+        self.moved(Intake::Silence)
     }
-}
-
-// Returns a collector after a frame. An ended one stays as it was.
-pub(crate) fn after_frame(collector: Collector, command: u8, bytes: &[u8]) -> Collector
-    ensures { result ≡ spec.advanced collector (heard command bytes.now) }
-{
-    if !is_waiting(collector) {
-        return collector;
-    }
-    let numbers = collector.numbers;
-    moved(
-        collector,
-        intake::of_frame(numbers, collector.len, command, bytes),
-    )
-}
-
-// Returns a collector to whose Get no answer came. An ended one stays as it was.
-pub(crate) fn after_silence(collector: Collector) -> Collector
-    ensures { result ≡ spec.advanced collector no_answer }
-{
-    if !is_waiting(collector) {
-        return collector;
-    }
-    silenced(collector)
 }

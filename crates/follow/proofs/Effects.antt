@@ -1,15 +1,11 @@
 -- What a frame does to a follower that waits, case by case. Assumes nothing.
 use mathlib.Core.Path.{◌≡◌}
 use mathlib.Core.List.{List}
-use Prim.Native.Nat.{ℕ, ◌≤◌}
-use lib.ListN.{length}
+use Prim.Native.Nat.{ℕ}
 use Rattle.paper.specs.Numbers.{set_code}
 use Rattle.reply.specs.Replies.{rest}
 use Rattle.reply.specs.Calls.{heeding}
-use Rattle.std.specs.Prelude.{Some}
 use Rattle.reply.specs.Answers.{Heeded}
-use Rattle.reply.specs.declared.Status.{Status}
-use Rattle.reply.proofs.Theorems.{heeded_is_long}
 use Rattle.requests.specs.declared.Wanted.{Wanted}
 use Rattle.follow.specs.Following.{on_heeded, on_reply}
 
@@ -18,6 +14,3 @@ pub heeded_is : (due : Wanted) (command : ℕ) (bytes : List ℕ) (h : Heeded) �
     → on_heeded due (rest bytes) h ≡ on_reply due command bytes
 unfolding on_reply
 heeded_is due command bytes h e = rw e
-
-pub good_long : (code id command : ℕ) (bytes : List ℕ) (status : Status) → heeding code id command bytes ≡ Some status → 3 ≤ length bytes
-good_long code id command bytes status e = heeded_is_long code id command bytes (λ w. cc)

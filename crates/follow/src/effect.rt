@@ -27,7 +27,7 @@ fn is_carried(due: Wanted, value: &[u8]) -> bool
 }
 
 // Returns what a frame does, as an answer to the Set that is due.
-#[tactic(auto, using(crate::proofs::Effects::good_long, laws::proofs::Lists::part_to_end), unfolding(crate::specs::Following::on_reply))]
+#[tactic(auto, using(reply::proofs::Lengths::status_long, laws::proofs::Lists::part_to_end), unfolding(crate::specs::Following::on_reply))]
 fn on_reply(due: Wanted, command: u8, bytes: &[u8]) -> Effect
     requires { Narrow due }
     ensures { result ≡ on_reply due command bytes.now }

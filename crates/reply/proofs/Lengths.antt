@@ -7,7 +7,7 @@ use borrow.Author.Tests.{ltb-false}
 use lib.ListN.{length}
 use lib.Dec.{eqb, ltb}
 use Rattle.laws.proofs.Bools.{pick}
-use Rattle.std.specs.Prelude.{None, Result}
+use Rattle.std.specs.Prelude.{Some, None, Result}
 use Rattle.paper.specs.declared.Refusal.{Refusal}
 use Rattle.reply.specs.Answers.{Parsed, Heeded}
 use Rattle.reply.specs.Replies.{front, kinded, telling, named, numbered, about_parsed}
@@ -43,3 +43,6 @@ heeded_long code id command bytes h = by (ltb (length bytes) 3) refl
     by : (b : Bool) → ltb (length bytes) 3 ≡ b → 3 ≤ length bytes
     by true e = absurd (h (short_waits code id command bytes e))
     by false e = ltb-false _ _ e
+
+pub status_long : (code id command : ℕ) (bytes : List ℕ) (status : Status) → heeding code id command bytes ≡ Some status → 3 ≤ length bytes
+status_long code id command bytes status e = heeded_long code id command bytes (λ w. cc)

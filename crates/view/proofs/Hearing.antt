@@ -14,7 +14,8 @@ use Rattle.reply.specs.Laws.{Says, says_good, says_bad, says_nothing}
 use Rattle.reply.specs.declared.Status.{Status}
 use Rattle.std.specs.Prelude.{Some, None}
 use Rattle.reply.specs.Answers.{Heeded}
-use Rattle.reply.proofs.Theorems.{heed_is_said, heeded_is_long}
+use Rattle.reply.proofs.Theorems.{heed_is_said}
+use Rattle.reply.proofs.Lengths.{status_long}
 use Rattle.view.specs.Values.{id_at, is_understood}
 use Rattle.view.specs.Calls.{on_heeded, sight_at, is_waiting, sight_of, advanced, allowed, told, stray, viewing}
 use Rattle.view.specs.Laws.{Sees, sees_nothing, sees_value, sees_other, SightIsSeen}
@@ -25,10 +26,6 @@ use Rattle.view.specs.declared.Sight.{Sight}
 pub heeded_is : (id : ℕ) (value : List ℕ) (command : ℕ) (bytes : List ℕ) (h : Heeded) → heeding get_code id command bytes ≡ h → value ≡ rest bytes → on_heeded id value h ≡ sight_at id command bytes
 unfolding sight_at
 heeded_is id value command bytes h is e = ap₂ (on_heeded id) e (sym is)
-
--- a good reply has its first three bytes
-pub good_long : (id command : ℕ) (bytes : List ℕ) (status : Status) → heeding get_code id command bytes ≡ Some status → 3 ≤ length bytes
-good_long id command bytes status e = heeded_is_long get_code id command bytes (λ w. cc)
 
 -- a value that is understood comes with flag 00
 module _ (id : ℕ) (value : List ℕ) where
@@ -99,7 +96,7 @@ sight_valued : (due id command : ℕ) (bytes : List ℕ) → sight_at due comman
 unfolding sight_at
 sight_valued due id command bytes e =
     let g = good due (rest bytes) (heeding get_code due command bytes) id e in
-    record { is_long = good_long due command bytes Status.Good g.is_good; is_understood_lem = rw g.same_id at g.has_value }
+    record { is_long = status_long get_code due command bytes Status.Good g.is_good; is_understood_lem = rw g.same_id at g.has_value }
 
 pub understood_valued : (v : Viewer) (command : ℕ) (bytes : List ℕ) (id : ℕ) → (viewing v (heard command bytes)).sight ≡ Sight.Understood id → Valued id bytes
 unfolding viewing sight_of

@@ -6,7 +6,7 @@ use crate::{Sight, values};
 use reply::Status;
 
 // Returns what a frame comes to, as an answer to the Get of the due id.
-#[tactic(auto, using(crate::proofs::Hearing::good_long, laws::proofs::Lists::part_to_end), unfolding(crate::specs::Calls::sight_at))]
+#[tactic(auto, using(reply::proofs::Lengths::status_long, laws::proofs::Lists::part_to_end), unfolding(crate::specs::Calls::sight_at))]
 pub(crate) fn on_frame(id: u16, command: u8, bytes: &[u8]) -> Sight
     ensures { result ≡ sight_at id command bytes.now }
 {

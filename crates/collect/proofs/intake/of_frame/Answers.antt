@@ -1,16 +1,19 @@
 -- `collect::intake::of_frame` meets its contract. Assumes nothing.
-use mathlib.Core.Path.{sym, ◌∙◌}
-use Rattle.collect.proofs.Deciding.{heeded_is, asked_is}
+use Rattle.std.proofs.Common.{◌≡◌, refl, sym, ap, ◌∙◌, length, Some}
+use Rattle.laws.proofs.Lists.{part_to_end}
+use Rattle.paper.specs.Numbers.{get_code}
+use Rattle.settings.specs.Columns.{id_at}
+use Rattle.settings.specs.declared.Setting.{Setting}
+use Rattle.reply.specs.Calls.{heeding}
+use Rattle.reply.specs.declared.Status.{Status}
+use Rattle.collect.specs.Collecting.{valued}
+use Rattle.collect.proofs.Deciding.{heeded_is}
 use Rattle.collect.proofs.intake.of_frame.Goals as goal
 
-pub of_value-requires : goal.of_value-requires
-of_value-requires c = c.requires
-
-pub returns-in-Waits : goal.returns-in-Waits
-returns-in-Waits c = heeded_is _ _ _ _ _ (asked_is _ _ _ _ _ c.setting_at-setting.ensures (sym c.in-Waits.is ∙ c.heed-heeded.ensures))
-
-pub returns-in-Good : goal.returns-in-Good
-returns-in-Good c = c.of_value.ensures ∙ heeded_is _ _ _ _ _ (asked_is _ _ _ _ _ c.setting_at-setting.ensures (sym c.in-Good.is ∙ c.heed-heeded.ensures))
-
-pub returns-in-Bad : goal.returns-in-Bad
-returns-in-Bad c = heeded_is _ _ _ _ _ (asked_is _ _ _ _ _ c.setting_at-setting.ensures (sym c.in-Bad.is ∙ c.heed-heeded.ensures))
+pub returns-in-Some-Good : goal.returns-in-Some-Good
+returns-in-Some-Good c =
+    let bytes = c.args.bytes.now in
+    let said : heeding get_code (id_at c.args.index) c.args.command bytes ≡ Some Status.Good =
+    ap (λ (due : Setting). heeding get_code due.id c.args.command bytes) (sym c.setting_at.ensures)
+    ∙ sym c.heed.ensures ∙ c.in-Some-Good.is ∙ ap Some c.in-Some-Good.field-0-is in
+    c.of_value.ensures ∙ ap (valued _ _) (part_to_end bytes (length bytes) 3 refl) ∙ heeded_is _ _ _ bytes _ said
