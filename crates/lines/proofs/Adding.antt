@@ -4,11 +4,11 @@ use mathlib.Core.List.{List, [], ◌∷◌, ◌++◌, append_assoc}
 use Prim.Native.Nat.{ℕ, zero, suc, ◌≤◌}
 use Prim.Native.String.{String}
 use native.Mathlib.Omega.{arith}
-use lib.ListN.{length, get_or, take, drop}
+use lib.ListN.{length, get_or, take, drop, length-take}
 use lib.Seq.{take-take}
 use Rattle.spans.specs.Few.{few}
 use Rattle.spans.specs.declared.Few.{Few}
-use Rattle.spans.proofs.Fews.{those_back, few_more, few_length, few_room, few_zeros}
+use Rattle.spans.proofs.Fews.{those_back, few_more, few_room, few_zeros}
 use Rattle.lines.specs.Lines.{most, chars, line_of, text_of, adding, Says}
 use Rattle.lines.specs.Laws.{LineIsText}
 use Rattle.lines.specs.declared.Line.{Line}
@@ -16,7 +16,7 @@ use Rattle.lines.specs.declared.Line.{Line}
 -- the text of a line is its first 160 characters
 pub text_back : (text : List ℕ) → text_of (line_of text) ≡ take most text
 unfolding line_of
-text_back text = those_back most text
+text_back text = those_back most (take most text)
 
 pub adding_line : (text more : List ℕ) → adding (line_of text) more ≡ line_of (text ++ more)
 unfolding adding line_of
@@ -58,11 +58,11 @@ text_says_lem t words few e =
 
 -- the line of a text by its parts
 pub line_text : LineIsText
-unfolding line_of
+unfolding line_of few
 line_text text =
     record {
       text_is = text_back text;
-      len_is = few_length most text;
-      room_is = few_room most text;
-      zeros_are = few_zeros most text;
+      len_is = refl;
+      room_is = few_room most (take most text) (rw length-take (omega arith));
+      zeros_are = few_zeros most (take most text);
     }

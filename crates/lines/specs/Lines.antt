@@ -15,7 +15,7 @@ chars (c then more) = code c ∷ chars more
 
 -- the line of a text: what is past 160 characters is cut
 unfoldable pub line_of : List ℕ → Line
-line_of text = record { text = few most text }
+line_of text = record { text = few most (take most text) }
 
 -- the text of a line, of any that a caller can make up
 abbrev pub text_of : Line → List ℕ

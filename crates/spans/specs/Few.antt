@@ -1,11 +1,12 @@
 -- A few bytes: they fill the front of an array, and the rest of it is 0. Assumes nothing.
-use Rattle.std.specs.Prelude.{ℕ, min, Bool, ◌&&◌, List, ◌++◌, length, take, drop, replicate, leb, eqb}
+use Rattle.std.specs.Prelude.{ℕ, Bool, ◌&&◌, List, length, take, drop, leb, eqb}
 use Rattle.laws.specs.Lists.{every}
+use Rattle.laws.specs.Promise.{front_of}
 use Rattle.spans.specs.declared.Few.{Few}
 
--- these bytes in an array with room for n: what is past the room is cut
+-- these bytes in an array with room for n
 unfoldable pub few : (n : ℕ) → List ℕ → Few n
-few n bytes = record { len = min n (length bytes); bytes = take n (bytes ++ replicate n 0) }
+few n bytes = record { len = length bytes; bytes = front_of n bytes }
 
 -- the bytes of any that a caller can make up
 abbrev pub those : {n : ℕ} → Few n → List ℕ

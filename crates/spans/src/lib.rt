@@ -95,7 +95,7 @@ pub struct Few<const N: usize> {
 impl<const N: usize> Few<N> {
     // Returns these bytes, as many as there is room for.
     pub fn of(bytes: &[u8]) -> Few<N>
-        ensures { result ≡ few N bytes.now }
+        ensures { result ≡ few N (take N bytes.now) }
     {
         let mut front = [0u8; N];
         let len = copy(bytes, &mut front);
@@ -122,7 +122,7 @@ impl<const N: usize> Few<N> {
 
     // Returns these bytes with more after them, as many as there is room for.
     pub fn put(&self, more: &[u8]) -> Few<N>
-        ensures { result ≡ few N (those self.now ++ more.now) }
+        ensures { result ≡ few N (take N (those self.now ++ more.now)) }
     {
         let mut bytes = [0u8; N];
         let len = copy(self.as_slice(), &mut bytes);
