@@ -8,15 +8,14 @@ use lib.Dec.{leb}
 use Rattle.laws.proofs.Bools.{and_left, and_right}
 use Rattle.settings.specs.Columns.{count}
 use Rattle.restore.specs.Calls.{both_allowed, sets_due}
-use Rattle.restore.specs.declared.Sets.{Sets}
+use Rattle.std.specs.Prelude.{Ok}
 use Rattle.restore.proofs.Theorems.{sets_are_few}
 use Rattle.follow.specs.Following.{standing, total, follower_allowed}
-use Rattle.follow.specs.Calls.{answered, unanswered, told}
+use Rattle.follow.specs.Calls.{answered, told}
 use Rattle.follow.specs.declared.Follower.{Follower}
-use Rattle.follow.specs.declared.Followed.{Followed}
 use Rattle.follow.specs.declared.Standing.{Standing}
 use Rattle.follow.proofs.Standings.{told_good, told_stray, confirmed_few}
-use Rattle.tally.specs.Results.{Result, restored, silent, not_begun, tally_of, has_ended, ended_as, with_sets, share_of, fits, most, tally_allowed, plus}
+use Rattle.tally.specs.Results.{Result, restored, silent, not_begun, tally_of, has_ended, ended_as, share_of, fits, most, tally_allowed, plus}
 use Rattle.tally.specs.Calls.{counted, uncounted, counting}
 use Rattle.tally.specs.AsHeld.{Within}
 use Rattle.tally.specs.declared.Tally.{Tally}
@@ -102,37 +101,23 @@ pub fits_is : (f : Follower) (a : Bool) → fits (restored f a) ≡ (follower_al
 unfolding fits
 fits_is f a = refl
 
-module _ (f : Follower) (followed : Followed) (says : followed ≡ told f) where
-  says_good : follower_allowed f ≡ true → followed ≡ answered f
-  says_good e = says ∙ sym (told_good f e)
-
-  says_stray : follower_allowed f ≡ false → followed ≡ unanswered f
-  says_stray e = says ∙ sym (told_stray f e)
-
-  pub ended_fits : (a : Bool) → has_ended followed.standing ≡ fits (restored f a)
-  ended_fits a = by (follower_allowed f) refl ∙ sym (fits_is f a)
+module _ (f : Follower) (a : Bool) where
+  pub fits_told : fits (restored f a) ≡ has_ended (told f).standing
+  fits_told = fits_is f a ∙ by (follower_allowed f) refl
     where
-      by : (t : Bool) → follower_allowed f ≡ t → has_ended followed.standing ≡ (follower_allowed f && has_ended (standing f))
-      by true e = rw (says_good e, e)
-      by false e = rw (says_stray e, e)
+      by : (t : Bool) → follower_allowed f ≡ t → (follower_allowed f && has_ended (standing f)) ≡ has_ended (told f).standing
+      by true e = rw (sym (told_good f e), e)
+      by false e = rw (sym (told_stray f e), e)
 
-  module _ (a : Bool) (fit : fits (restored f a) ≡ true) where
-    ok : follower_allowed f ≡ true
-    ok = and_left (follower_allowed f) (has_ended (standing f)) (sym (fits_is f a) ∙ fit)
+  fit_allowed : fits (restored f a) ≡ true → follower_allowed f ≡ true
+  fit_allowed fit = and_left (follower_allowed f) (has_ended (standing f)) (sym (fits_is f a) ∙ fit)
 
-    sets_told : sets_due f.from f.to ≡ Sets.Due (total f)
-    unfolding sets_due
-    sets_told = rw (allowed_both f ok)
+  pub fit_told : fits (restored f a) ≡ true → told f ≡ answered f
+  fit_told fit = sym (told_good f (fit_allowed fit))
 
-    pub share_is : (due : ℕ) → sets_due f.from f.to ≡ Sets.Due due
-        → with_sets (ended_as followed.standing a) followed.confirmed due ≡ share_of (restored f a)
-    share_is due e =
-        let own = sets_told in
-        let all : due ≡ total f = cc in
-        rw (says_good ok, all)
-
-    pub never_refused : (number : ℕ) → sets_due f.from f.to ≡ Sets.Refused number → ⊥
-    never_refused number e = let own = sets_told in let z : ◌≡◌ {A = ℕ} 0 1 = cc in omega arith
+  pub fit_sets : fits (restored f a) ≡ true → sets_due f.from f.to ≡ Ok (total f)
+  unfolding sets_due
+  fit_sets fit = rw (allowed_both f (fit_allowed fit))
 
 ended_one : (o : Standing) (a : Bool) → Within (ended_as o a)
 ended_one (Standing.Waiting due) a = one_within _ 0 0 0 0 0 refl (omega arith)
@@ -145,8 +130,7 @@ ended_one (Standing.Refused number) a = one_within _ 0 0 0 0 0 refl (omega arith
 pub share_within : (f : Follower) (a : Bool) → fits (restored f a) ≡ true → Within (share_of (restored f a))
 share_within f a fit =
     let ones : Within (ended_as (standing f) a) = ended_one (standing f) a in
-    let ok : follower_allowed f ≡ true = and_left (follower_allowed f) (has_ended (standing f)) (sym (fits_is f a) ∙ fit) in
-    let few : f.confirmed ≤ count = confirmed_few f ok in
+    let few : f.confirmed ≤ count = confirmed_few f (fit_allowed f a fit) in
     let all : total f ≤ count = sets_are_few f.from f.to in
     record {
       done_few = ones.done_few;

@@ -1,9 +1,9 @@
 -- Which trailers are refused. Assumes nothing.
 use mathlib.Core.Path.{◌≡◌, refl, sym, ap, ◌∙◌}
 use mathlib.Core.Bool.{Bool, true, false, false≢true}
-use Prim.Native.Nat.{ℕ}
-use native.Mathlib.Omega.{arith}
-use Rattle.who.specs.declared.Verdict.{Verdict}
+use Rattle.std.specs.Prelude.{Ok, Err}
+use Rattle.who.specs.Answers.{Verdict}
+use Rattle.paper.specs.Numbers.{not_allowed}
 use Rattle.follow.specs.Following.{standing, follower_allowed}
 use Rattle.follow.specs.Calls.{told}
 use Rattle.follow.specs.declared.Follower.{Follower}
@@ -17,7 +17,7 @@ use Rattle.tally.specs.Calls.{uncounted, counting}
 use Rattle.tally.specs.Laws.{Stray, over, unreached, waits, RefusedIsStray}
 use Rattle.tally.specs.declared.Tally.{Tally}
 use Rattle.tally.specs.declared.Counted.{Counted}
-use Rattle.tally.proofs.Counting.{within_of, of_within, counting_stray, counting_unfit, counting_fit, silent_fits, not_begun_fits, fits_is, ended_fits}
+use Rattle.tally.proofs.Counting.{within_of, of_within, counting_stray, counting_unfit, counting_fit, silent_fits, not_begun_fits, fits_is, fits_told}
 
 module _ (t : Tally) where
   -- a follower that is not fit to be counted is stray or waits
@@ -34,7 +34,7 @@ module _ (t : Tally) where
       by : (b : Bool) → follower_allowed f ≡ b → Stray t (restored f a)
       by true ok =
           let own : (told f).standing ≡ standing f = ap (λ (x : Followed). x.standing) (sym (told_good f ok)) in
-          stands (standing f) own (ap has_ended (sym own) ∙ ended_fits f (told f) refl a ∙ e) (allowed_stands f ok)
+          stands (standing f) own (ap has_ended (sym own) ∙ sym (fits_told f a) ∙ e) (allowed_stands f ok)
       by false bad = unreached (λ r. false≢true (sym bad ∙ (allowed_is_reached f).1 r))
 
   unfit : (r : Result) → fits r ≡ false → Stray t r
@@ -46,7 +46,7 @@ module _ (t : Tally) where
   strays r is = by (tally_allowed t) (fits r) refl refl
     where
       by : (a b : Bool) → tally_allowed t ≡ a → fits r ≡ b → Stray t r
-      by true true e f = let none : Verdict.Accepted ≡ Verdict.Refused 12 = ap (λ (x : Counted). x.verdict) (counting_fit t r e f ∙ is) in let z : ◌≡◌ {A = ℕ} 0 1 = cc in absurd (omega arith)
+      by true true e f = let none : ◌≡◌ {A = Verdict} (Ok tt) (Err not_allowed) = ap (λ (x : Counted). x.verdict) (counting_fit t r e f ∙ is) in cc
       by true false e f = unfit r f
       by false b e f = over (λ w. false≢true (sym e ∙ of_within t w))
 
@@ -62,7 +62,7 @@ module _ (t : Tally) where
   refused : (r : Result) → Stray t r → counting t r ≡ uncounted t
   refused r (over none) = sym (over_uncounts r (tally_allowed t) refl (λ ok. none (within_of t ok)))
   refused (restored f a) (unreached none) = sym (counting_unfit t (restored f a) (unreached_unfit f a (follower_allowed f) refl (λ ok. none ((allowed_is_reached f).0 ok))))
-  refused (restored f a) (waits is) = sym (counting_unfit t (restored f a) (sym (ended_fits f (told f) refl a) ∙ ap has_ended is))
+  refused (restored f a) (waits is) = sym (counting_unfit t (restored f a) (fits_told f a ∙ ap has_ended is))
 
 pub stray_refused : RefusedIsStray
 stray_refused t r = (strays t r, refused t r)

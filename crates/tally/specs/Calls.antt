@@ -1,7 +1,6 @@
 -- What each public call answers, for every input. Assumes nothing.
-use Rattle.std.specs.Prelude.{Bool, cond, not, ◌&&◌}
+use Rattle.std.specs.Prelude.{Bool, cond, not, ◌&&◌, Ok, Err}
 use Rattle.paper.specs.Numbers as paper
-use Rattle.who.specs.declared.Verdict.{Verdict}
 use Rattle.follow.specs.Calls.{told}
 use Rattle.follow.specs.declared.Follower.{Follower}
 use Rattle.tally.specs.Results.{Result, is_stopped, share_of, fits, tally_allowed, plus}
@@ -9,11 +8,11 @@ use Rattle.tally.specs.declared.Tally.{Tally}
 use Rattle.tally.specs.declared.Counted.{Counted}
 
 abbrev pub counted : Tally → Counted
-counted t = record { tally = t; verdict = Verdict.Accepted }
+counted t = record { tally = t; verdict = Ok tt }
 
 -- 12: "a state handed in comes back as it was"
 abbrev pub uncounted : Tally → Counted
-uncounted t = record { tally = t; verdict = Verdict.Refused paper.not_allowed }
+uncounted t = record { tally = t; verdict = Err paper.not_allowed }
 
 -- one more trailer, of any kind
 unfoldable pub counting : Tally → Result → Counted

@@ -1,7 +1,7 @@
 -- What is proved of the definitions, as statements to read. Each is proved under its name in proofs/Theorems.antt.
 -- Assumes nothing.
-use Rattle.std.specs.Prelude.{ℕ, zero, ◌+◌, ◌/◌, ◌≤◌, ◌≡◌, ◌↔◌, Bool, true, false, cond, not, ◌&&◌, List, [], ◌∷◌, length}
-use Rattle.who.specs.declared.Verdict.{Verdict}
+use Rattle.std.specs.Prelude.{ℕ, zero, ◌+◌, ◌/◌, ◌≤◌, ◌≡◌, ◌↔◌, Bool, true, false, cond, not, ◌&&◌, List, [], ◌∷◌, length, Ok, Err}
+use Rattle.paper.specs.Numbers as paper
 use Rattle.settings.specs.Columns.{count}
 use Rattle.restore.specs.Order.{due_sets}
 use Rattle.follow.specs.Following.{standing}
@@ -133,7 +133,7 @@ pub data Stray (t : Tally) : Result → Type 0 where
   waits : {f : Follower} {answered : Bool} {due : Request} → (told f).standing ≡ Standing.Waiting due → Stray t (restored f answered)
 
 abbrev pub RefusedIsStray : Type 0
-RefusedIsStray = (t : Tally) (r : Result) → (counting t r ≡ record { tally = t; verdict = Verdict.Refused 12 }) ↔ Stray t r
+RefusedIsStray = (t : Tally) (r : Result) → (counting t r ≡ record { tally = t; verdict = Err paper.not_allowed }) ↔ Stray t r
 
 -- Any other is accepted, and the tally then has one more of its kind and its Sets besides, whatever it had before.
 abbrev pub CountedIsAdded : Type 0
@@ -150,7 +150,7 @@ CountedIsAdded =
         confirmed = t.confirmed + confirmed_of r;
         due = t.due + due_of r;
       };
-      verdict = Verdict.Accepted;
+      verdict = Ok tt;
     }
 
 -- 4. A trailer is begun anew exactly where its follower says that it stopped, the board said nothing to its last Set, and the round is not

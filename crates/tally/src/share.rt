@@ -1,86 +1,46 @@
 // What one trailer adds to the sums.
-ghost use Rattle.std.specs.Prelude.{◌≡◌};
-ghost use Rattle.tally.specs.Results.{tally_of, ended_as, stopped_as, has_ended, is_stopped, with_sets};
+ghost use Rattle.std.specs.Prelude.{◌≡◌, cond, None};
+ghost use Rattle.tally.specs.Results.{restored, ended_as, has_ended, share_of, fits};
 
 use crate::Tally;
-use follow::Standing;
+use follow::{Follower, Standing};
 
-// Returns a tally of this many trailers of each kind, and no Set.
-pub(crate) fn tally_of(
-    done: usize,
-    equal: usize,
-    stopped: usize,
-    silent: usize,
-    unbegun: usize,
-) -> Tally
-    ensures { result ≡ tally_of done equal stopped silent unbegun }
+// Returns the share of one trailer, without its Sets, by how far its follower is: where it stopped, at another answer or at none. A follower
+// that has not come to an end has no share.
+fn ended_as(standing: Standing, answered: bool) -> Option<Tally>
+    ensures { result ≡ cond (has_ended standing) (Some (ended_as standing answered)) None }
 {
-    Tally {
-        done,
-        equal,
-        stopped,
-        silent,
-        unbegun,
-        confirmed: 0,
-        due: 0,
-    }
-}
-
-// Returns whether a follower has come to an end.
-pub(crate) fn has_ended(standing: Standing) -> bool
-    ensures { result ≡ has_ended standing }
-{
+    let nothing = Tally::nothing();
     match standing {
-        Standing::Waiting(_) => false,
-        Standing::Equal => true,
-        Standing::Done => true,
-        Standing::Stopped(_) => true,
-        Standing::Refused(_) => false,
+        Standing::Equal => Some(Tally {
+            equal: 1,
+            ..nothing
+        }),
+        Standing::Done => Some(Tally { done: 1, ..nothing }),
+        Standing::Stopped(_) if answered => Some(Tally {
+            stopped: 1,
+            ..nothing
+        }),
+        Standing::Stopped(_) => Some(Tally {
+            silent: 1,
+            ..nothing
+        }),
+        Standing::Waiting(_) | Standing::Refused(_) => None,
     }
 }
 
-// Returns whether a follower has stopped.
-pub(crate) fn is_stopped(standing: Standing) -> bool
-    ensures { result ≡ is_stopped standing }
+// Returns the share of one trailer with its Sets, those that its follower counted and those that were due; none where it is not fit to be
+// counted.
+#[tactic(auto, using(crate::proofs::Counting::fits_told, crate::proofs::Counting::fit_told, crate::proofs::Counting::fit_sets))]
+pub(crate) fn share_of(follower: Follower, answered: bool) -> Option<Tally>
+    ensures { result ≡ cond (fits (restored follower answered)) (Some (share_of (restored follower answered))) None }
 {
-    match standing {
-        Standing::Waiting(_) => false,
-        Standing::Equal => false,
-        Standing::Done => false,
-        Standing::Stopped(_) => true,
-        Standing::Refused(_) => false,
-    }
-}
-
-// Returns the share of a restore that stopped: at another answer, or at none.
-fn stopped_as(answered: bool) -> Tally
-    ensures { result ≡ stopped_as answered }
-{
-    if answered {
-        return tally_of(0, 0, 1, 0, 0);
-    }
-    tally_of(0, 0, 0, 1, 0)
-}
-
-// Returns the share of one trailer, without its Sets, by how far its follower is.
-fn ended_as(standing: Standing, answered: bool) -> Tally
-    ensures { result ≡ ended_as standing answered }
-{
-    match standing {
-        Standing::Waiting(_) => tally_of(0, 0, 0, 0, 0),
-        Standing::Equal => tally_of(0, 1, 0, 0, 0),
-        Standing::Done => tally_of(1, 0, 0, 0, 0),
-        Standing::Stopped(_) => stopped_as(answered),
-        Standing::Refused(_) => tally_of(0, 0, 0, 0, 0),
-    }
-}
-
-// Returns the share of one trailer with its Sets: those that its follower counted, and those that were due.
-pub(crate) fn share_of(standing: Standing, answered: bool, confirmed: usize, due: usize) -> Tally
-    ensures { result ≡ with_sets (ended_as standing answered) confirmed due }
-{
-    let mut share = ended_as(standing, answered);
-    share.confirmed = confirmed;
-    share.due = due;
-    share
+    let followed = follower.told();
+    let share = ended_as(followed.standing, answered)?;
+    let due = restore::sets_due(follower.from, follower.to).ok()?;
+    Some(Tally {
+        confirmed: followed.confirmed,
+        due,
+        ..share
+    })
 }
