@@ -1,32 +1,31 @@
--- Two's complement, as the code reads it. Assumes nothing.
-use mathlib.Core.Path.{◌≡◌, sym, ap, ◌∙◌}
-use Prim.Native.Nat.{ℕ, suc, ◌*◌, ◌-◌, ◌^◌, ◌≤◌, ◌<◌}
-use native.Mathlib.Nat.{le_of_suc-le-suc}
+-- Two's complement, as the bits of a width. Assumes nothing.
+use mathlib.Core.Path.{◌≡◌, refl, ap, ◌∙◌}
+use mathlib.Core.Bool.{Bool, true, false}
+use Prim.Native.Nat.{ℕ, ◌*◌, ◌^◌, ◌≤◌, ◌<◌}
 use native.Mathlib.Omega.{arith}
-use borrow.Author.Tests.{lt-ltb, le-ltb}
-use mir.Val.{Fits, to_z, bits, hbits}
-use mir.ValLaws.{to_z_pos, pow-bits}
+use borrow.Author.Tests.{ltb-true, ltb-false, lt-ltb, le-ltb}
+use lib.Dec.{ltb}
+use lib.IntN.{ℤ}
+use mir.Val.{Fits, to_z, of_z, bits, hbits}
+use mir.ValLaws.{to_z_pos, pow-bits, of_z-to_z}
 use mir.Syntax.{Width}
 use Rattle.endian.specs.Numbers.{signed}
 
-module _ (w : Width) (width : ℕ) (same : 256 ^ width ≡ 2 ^ bits w) where
-  -- below the half a number is itself
-  pub plain_is : (n : ℕ) → n < 2 ^ hbits w → to_z w n ≡ signed width n
+module _ (w : Width) (width : ℕ) (same : 256 ^ width ≡ 2 ^ bits w) (n : ℕ) where
+  -- below the half a number is itself, and from it on it is negative
+  signed_is : to_z w n ≡ signed width n
   unfolding signed
-  plain_is n h =
-      let twice : 2 * n < 256 ^ width = rw (same, pow-bits w) (omega arith) in
-      rw (lt-ltb (2 * n) (256 ^ width) twice, to_z_pos w n h)
+  signed_is = by (ltb n (2 ^ hbits w)) refl
+    where
+      by : (b : Bool) → ltb n (2 ^ hbits w) ≡ b → to_z w n ≡ signed width n
+      by true e =
+          let h : n < 2 ^ hbits w = ltb-true n (2 ^ hbits w) e in
+          let twice : 2 * n < 256 ^ width = rw (same, pow-bits w) (omega arith) in
+          unfold signed in rw (lt-ltb (2 * n) (256 ^ width) twice, to_z_pos w n h)
+      by false e =
+          let h : 2 ^ hbits w ≤ n = ltb-false n (2 ^ hbits w) e in
+          let twice : 256 ^ width ≤ 2 * n = rw (same, pow-bits w) (omega arith) in
+          unfold signed in rw (le-ltb (2 * n) (256 ^ width) twice, le-ltb n (2 ^ hbits w) h, same)
 
-  -- from the half on it is negative
-  half_is : (n : ℕ) → 2 ^ hbits w ≤ n → to_z w n ≡ signed width n
-  unfolding signed
-  half_is n h =
-      let twice : 256 ^ width ≤ 2 * n = rw (same, pow-bits w) (omega arith) in
-      rw (le-ltb (2 * n) (256 ^ width) twice, le-ltb n (2 ^ hbits w) h, same)
-
-  -- m is the largest number of the width: less its distance to m, a number is itself
-  pub turned_is : (m : ℕ) → suc m ≡ 2 ^ bits w → (n : ℕ) → Fits w n → 2 ^ hbits w ≤ n → to_z w (m - (m - n)) ≡ signed width n
-  turned_is m top n fits h =
-      let most : n ≤ m = le_of_suc-le-suc (rw (sym top) at fits.fits) in
-      let back : m - (m - n) ≡ n = omega arith in
-      ap (to_z w) back ∙ half_is n h
+  pub cast_is : Fits w n → to_z w (of_z w (to_z w n)) ≡ signed width n
+  cast_is fits = ap (to_z w) (of_z-to_z w n fits) ∙ signed_is

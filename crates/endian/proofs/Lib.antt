@@ -2,6 +2,5 @@
 pub mod Little
 pub mod RoundTrip
 pub mod Decoding
-pub mod Encoding
 pub mod Theorems
 pub mod Same

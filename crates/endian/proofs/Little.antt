@@ -1,14 +1,17 @@
 -- Numbers as bytes: how many there are, and that they are bytes. Assumes nothing.
 use mathlib.Core.Path.{◌≡◌, refl, sym, ap, ◌∙◌}
 use mathlib.Core.Bool.{true}
-use mathlib.Core.List.{List, [], ◌∷◌}
-use Prim.Native.Nat.{ℕ, zero, suc, ◌+◌, ◌*◌, ◌/◌, ◌%◌, ◌^◌, ◌≤◌, ◌<◌}
+use mathlib.Core.List.{List, [], ◌∷◌, ◌++◌}
+use Prim.Native.Nat.{ℕ, zero, suc, ◌+◌, ◌-◌, ◌*◌, ◌/◌, ◌%◌, ◌^◌, ◌≤◌, ◌<◌}
 use native.Mathlib.Nat.{not-suc-le-zero, le_of_suc-le-suc, div-one, div-div-eq-div-mul, pow-succ'}
 use native.Mathlib.Omega.{arith}
 use borrow.Author.Tests.{lt-ltb}
-use lib.ListN.{length, get_or, take}
+use lib.ListN.{length, get_or, take, replicate}
 use lib.Seq.{take_all}
+use Rattle.std.specs.Int.{w16, w32, from_le_bytes}
 use Rattle.laws.specs.Lists.{every, byte}
+use Rattle.laws.specs.Promise.{front_of}
+use Rattle.laws.proofs.Fronts.{front_is}
 use Rattle.laws.proofs.Bools.{both}
 use Rattle.endian.specs.Numbers.{little, from_little}
 
@@ -32,15 +35,29 @@ byte_little (suc width) n (suc i) h =
 pub all_first : (width : ℕ) (l : List ℕ) → length l ≤ width → from_little (take width l) ≡ from_little l
 all_first width l h = ap from_little (take_all width l h)
 
--- the first two bytes and the first four as a number, where those that are missing count as 0
-pub two_first : (l : List ℕ) → get_or l 0 0 + 256 * get_or l 1 0 ≡ from_little (take 2 l)
-two_first [] = refl
-two_first (a ∷ []) = refl
-two_first (a ∷ b ∷ l) = omega arith
+-- a byte that is missing counts as 0
+from_zeros : (k : ℕ) → from_little (replicate k 0) ≡ 0
+from_zeros zero = refl
+from_zeros (suc k) = rw (from_zeros k)
 
-pub four_first : (l : List ℕ) → get_or l 0 0 + 256 * (get_or l 1 0 + 256 * (get_or l 2 0 + 256 * get_or l 3 0)) ≡ from_little (take 4 l)
-four_first [] = refl
-four_first (a ∷ []) = refl
-four_first (a ∷ b ∷ []) = refl
-four_first (a ∷ b ∷ c ∷ []) = refl
-four_first (a ∷ b ∷ c ∷ d ∷ l) = omega arith
+from_padded : (l : List ℕ) (k : ℕ) → from_little (l ++ replicate k 0) ≡ from_little l
+from_padded [] k = from_zeros k
+from_padded (b ∷ l) k = ap (λ (n : ℕ). b + 256 * n) (from_padded l k)
+
+pub first_is : (width : ℕ) (l : List ℕ) → from_little (front_of width l) ≡ from_little l
+first_is width l = ap from_little (front_is width l) ∙ from_padded l (width - length l)
+
+-- two bytes and four as std reads them
+pub two_is : (l : List ℕ) → length l ≡ 2 → from_le_bytes w16 l ≡ from_little l
+two_is [] e = absurd (omega arith)
+two_is (a ∷ []) e = absurd (omega arith)
+two_is (a ∷ b ∷ []) e = omega arith
+two_is (a ∷ b ∷ c ∷ l) e = absurd (omega arith)
+
+pub four_is : (l : List ℕ) → length l ≡ 4 → from_le_bytes w32 l ≡ from_little l
+four_is [] e = absurd (omega arith)
+four_is (a ∷ []) e = absurd (omega arith)
+four_is (a ∷ b ∷ []) e = absurd (omega arith)
+four_is (a ∷ b ∷ c ∷ []) e = absurd (omega arith)
+four_is (a ∷ b ∷ c ∷ d ∷ []) e = omega arith
+four_is (a ∷ b ∷ c ∷ d ∷ f ∷ l) e = absurd (omega arith)

@@ -1,6 +1,14 @@
 -- `endian::read_32` meets its contract. Assumes nothing.
-use Rattle.endian.proofs.Little.{four_first}
+use mathlib.Core.Path.{◌≡◌, ap, ◌∙◌}
+use borrow.Author.Rules.{rules}
+use lib.ListN.{length}
+use Rattle.endian.specs.Numbers.{from_little}
+use Rattle.endian.proofs.Little.{first_is, four_is}
 use Rattle.endian.proofs.read_32.Goals as goal
+use Rattle.endian.proofs.read_32.Goals.{After-from_le_bytes}
+
+long : (c : After-from_le_bytes) → length c.first.result ≡ 4
+long c = search rules
 
 pub returns : goal.returns
-returns c = rw (c.at.ensures, c.at-2.ensures, c.at-3.ensures, c.at-4.ensures) (four_first c.args.bytes.now)
+returns c = c.from_le_bytes.ensures ∙ four_is c.first.result (long (goal.at.returns c).After-from_le_bytes) ∙ ap from_little c.first.ensures ∙ first_is 4 _
