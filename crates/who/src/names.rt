@@ -1,39 +1,24 @@
 // Which identities are allowed. The array is 0 past the serial's length, so that an identity has one form.
-ghost use Rattle.std.specs.Prelude.{◌≡◌, ◌&&◌, leb, length, ◌≤◌};
+ghost use Rattle.std.specs.Prelude.{◌≡◌, length, ◌≤◌};
 ghost use Rattle.paper.specs.Numbers.{most_serial};
-ghost use Rattle.laws.specs.Lists.{every};
 ghost use Rattle.laws.specs.Promise.{front_of};
 ghost use Rattle.who.specs.Parts.{serial_fits, identity_of, identity_allowed};
 
 use crate::{Identity, numbers};
+use spans::{Byte, Within};
 
-// Returns whether a byte is from low to high, both included.
-fn is_within(low: u8, b: u8, high: u8) -> bool
-    ensures { result ≡ (leb low b && leb b high) }
-{
-    (low <= b) & (b <= high)
-}
-
-// Returns whether every byte is from low to high. It serves the bytes of a serial, and the zeros after it.
-fn all_within(bytes: &[u8], low: u8, high: u8) -> bool
-    ensures { result ≡ every (λ b. leb low b && leb b high) bytes.now }
-{
-    let mut all = true;
-    let mut i = 0;
-    while i < bytes.len() {
-        all = all & is_within(low, bytes[i], high);
-        i += 1;
-    }
-    all
-}
+// The bytes that a serial may have.
+const PRINTED: Within = Within {
+    low: numbers::FIRST_PRINTED,
+    high: numbers::LAST_PRINTED,
+};
 
 // Returns whether a board can be started with this serial.
 #[tactic(auto, unfolding(crate::specs::Parts::serial_fits))]
 pub(crate) fn serial_fits(serial: &[u8]) -> bool
     ensures { result ≡ serial_fits serial.now }
 {
-    (serial.len() <= paper::MOST_SERIAL)
-        & all_within(serial, numbers::FIRST_PRINTED, numbers::LAST_PRINTED)
+    (serial.len() <= paper::MOST_SERIAL) & spans::all(serial, PRINTED)
 }
 
 // Returns an array with some bytes at its front, and zeros after them.
@@ -64,14 +49,9 @@ pub(crate) fn identity_of(product: u16, version: u16, serial: &[u8]) -> Identity
 pub(crate) fn is_identity(identity: Identity) -> bool
     ensures { result ≡ identity_allowed identity }
 {
-    let len = identity.len;
-    let serial = identity.serial;
-    if paper::MOST_SERIAL < len {
+    if paper::MOST_SERIAL < identity.len {
         return false;
     }
-    all_within(
-        &serial[..len],
-        numbers::FIRST_PRINTED,
-        numbers::LAST_PRINTED,
-    ) & all_within(&serial[len..], 0, 0)
+    spans::all(&identity.serial[..identity.len], PRINTED)
+        & spans::all(&identity.serial[identity.len..], Byte(0))
 }

@@ -21,20 +21,6 @@ fn value_of(from: &[u8]) -> Value
     }
 }
 
-// Returns a number in two bytes.
-fn two(n: u16) -> Value
-    ensures { result ≡ value_of (little 2 n) }
-{
-    value_of(&endian::bytes_16(n))
-}
-
-// Returns a number in four bytes.
-fn four(n: u32) -> Value
-    ensures { result ≡ value_of (little 4 n) }
-{
-    value_of(&endian::bytes_32(n))
-}
-
 // Returns the value of 0100: a zero byte, the product, FF.
 fn product_value(identity: Identity) -> Value
     ensures { result ≡ value_of (product_value identity) }
@@ -64,12 +50,12 @@ pub(crate) fn looked(identity: Identity, readings: Readings, id: u16) -> Result<
     Ok(match id {
         paper::PRODUCT_ID => product_value(identity),
         paper::SERIAL_ID => serial_value(identity),
-        paper::VERSION_ID => two(identity.version),
-        paper::VOLTAGE_ID => two(endian::complement_16(readings.voltage)),
-        paper::CURRENT_ID => two(endian::complement_16(readings.current)),
-        paper::FINE_ID => four(endian::complement_32(readings.fine)),
-        paper::CONSUMED_ID => four(endian::complement_32(readings.consumed)),
-        paper::CHARGE_ID => two(readings.charge),
+        paper::VERSION_ID => value_of(&endian::bytes_16(identity.version)),
+        paper::VOLTAGE_ID => value_of(&endian::bytes_16(endian::complement_16(readings.voltage))),
+        paper::CURRENT_ID => value_of(&endian::bytes_16(endian::complement_16(readings.current))),
+        paper::FINE_ID => value_of(&endian::bytes_32(endian::complement_32(readings.fine))),
+        paper::CONSUMED_ID => value_of(&endian::bytes_32(endian::complement_32(readings.consumed))),
+        paper::CHARGE_ID => value_of(&endian::bytes_16(readings.charge)),
         _ => return Err(Refusal::UnknownId),
     })
 }
