@@ -4,7 +4,7 @@ use mathlib.Core.Bool.{Bool, true, false, ◌&&◌, ◌||◌}
 use mathlib.Core.List.{List, ◌++◌}
 use Prim.Native.Nat.{ℕ, ◌+◌, ◌-◌, ◌≤◌, ◌<◌, min}
 use native.Mathlib.Omega.{arith}
-use borrow.Author.Tests.{lt-leb, le-leb, leb-true, leb-false, eqb-true}
+use borrow.Author.Tests.{le-leb, leb-true, leb-false, eqb-true}
 use borrow.Rule.Slice.PartMut.{put_mid}
 use lib.ListN.{length, take, drop, replicate, length-take, length-drop, length-append, take-append-drop}
 use lib.Seq.{take_all, length-take-le, take-append-add, take-take, take-append-le}
@@ -19,25 +19,6 @@ use Rattle.wire.proofs.Answers.{body_long, broken_long}
 use Rattle.stream.specs.Stream.{Unfinished, outside, inside}
 use Rattle.stream.specs.Calls.{allowed, stays, no_chars, held_of, unfinished}
 use Rattle.stream.specs.declared.Held.{Held}
-
--- the test, case by case
-pub allowed_many : (h : Held) → 74 < h.len → allowed h ≡ false
-unfolding allowed
-allowed_many h many = simp (lt-leb h.len 74 many)
-
-module _ (h : Held) (few : h.len ≤ 74) where
-  pub allowed_stray : (h.inside || eqb h.len 0) ≡ false → allowed h ≡ false
-  unfolding allowed
-  allowed_stray e = simp (le-leb h.len 74 few, e)
-
-  module _ (somewhere : (h.inside || eqb h.len 0) ≡ true) where
-    pub allowed_strange : every stays (take h.len h.chars) ≡ false → allowed h ≡ false
-    unfolding allowed
-    allowed_strange e = simp (le-leb h.len 74 few, somewhere, e)
-
-    pub allowed_rest : every stays (take h.len h.chars) ≡ true → allowed h ≡ every (eqb 0) (drop h.len h.chars)
-    unfolding allowed
-    allowed_rest e = simp (le-leb h.len 74 few, somewhere, e)
 
 -- what an allowed state has
 module _ (h : Held) (ok : allowed h ≡ true) where
