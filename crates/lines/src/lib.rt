@@ -2,8 +2,8 @@
 // takes anything, and its promise fixes its answer (specs/Lines.antt, specs/Numbers.antt).
 #![tactic(auto)]
 
-ghost use Rattle.std.specs.Prelude.{◌≡◌, [], ◌++◌};
-ghost use Rattle.lines.specs.Lines.{chars, line_of, adding};
+ghost use Rattle.std.specs.Prelude.{◌≡◌, []};
+ghost use Rattle.lines.specs.Lines.{line_of, adding};
 ghost use Rattle.lines.specs.Numbers.{last_digit, last_digits, decimal, steps, pointed};
 
 use spans::Few;
@@ -54,6 +54,7 @@ impl Line {
     }
 
     // Returns the line with a number after it, in decimal digits without leading zeros.
+    #[tactic(auto, using(crate::proofs::Adding::further, crate::proofs::Digits::one_digit, crate::proofs::Digits::tenth_and_last))]
     pub fn put_number(self, n: usize) -> Line
         ensures { result ≡ adding self (decimal n) }
     {
@@ -64,8 +65,9 @@ impl Line {
     }
 
     // Returns the line with a point after it and as many of a number's last digits.
+    #[tactic(auto, using(crate::proofs::Adding::further, crate::proofs::Digits::digit_more))]
     fn put_fraction(self, n: usize, decimals: u8) -> Line
-        ensures { result ≡ adding self (chars "." ++ last_digits decimals n) }
+        ensures { result ≡ adding self (last_digits decimals n) }
     {
         if decimals == 0 {
             return self.put(b".");
@@ -74,6 +76,7 @@ impl Line {
     }
 
     // Returns the line with a whole number of steps after it, in the unit that the steps divide: 0 to 3 decimals, and more count as 3.
+    #[tactic(auto, using(crate::proofs::Adding::further), unfolding(crate::specs::Numbers::pointed))]
     pub fn put_pointed(self, n: usize, decimals: u8) -> Line
         ensures { result ≡ adding self (pointed n decimals) }
     {
