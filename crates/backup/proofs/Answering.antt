@@ -22,12 +22,14 @@ use Rattle.tables.specs.declared.Table.{Table}
 use Rattle.rows.specs.Row.{row_of}
 use Rattle.rows.specs.Calls.{judging}
 use Rattle.rows.specs.Laws.{Judges, number}
-use Rattle.rows.specs.declared.Judged.{Judged}
+use Rattle.rows.specs.Answers.{Judgement}
+use Rattle.paper.specs.declared.Refusal.{Refusal}
+use Rattle.std.proofs.Common.{Ok, Err}
 use Rattle.rows.proofs.Theorems.{row_is_judged_exactly}
 use Rattle.backup.specs.Text.{lines_for, text_for, refused, says_for, places_from, places, header, text_of}
 use Rattle.backup.specs.Calls.{writing, read_as, parsing}
 use Rattle.backup.specs.Laws.{are_places, filled, IsRefused, rows_of, in_ranges, Good, Answers, other_header_lem, at_line, more_bytes, a_pair, a_table, AnsweredExactly, Writes, short, not_allowed_lem, its_text, WrittenExactly, TextIsLines}
-use Rattle.wire.specs.declared.Written.{Written}
+use Rattle.wire.specs.Answers.{Written}
 use Rattle.backup.specs.declared.Backup.{Backup}
 use Rattle.backup.proofs.Places.{from_length, are_places_lem}
 use Rattle.backup.proofs.Calls.{read_says, write_short, write_stray, write_made}
@@ -108,7 +110,7 @@ module _ (numbers : List ℕ) where
     lines_are : text ≡ text_for header (places_from (length numbers) 0) held ++ rest
     lines_are = g.text_is ∙ sym (text_for_lem rest)
 
-    says_line : (refusal : ℕ) → length numbers < count → Judges (length numbers) rest (Judged.Refused refusal)
+    says_line : (refusal : Refusal) → length numbers < count → Judges (length numbers) rest (Err refusal)
         → says_for header places text ≡ refused refusal (2 + length numbers)
     says_line refusal less judged =
         let left : ℕ = count - suc (length numbers) in
@@ -117,7 +119,7 @@ module _ (numbers : List ℕ) where
         ap (λ (l : List ℕ). places_from (length numbers) 0 ++ l) (sym (from_more left (length numbers))) ∙ first_places (length numbers) (suc left) all in
         ap₂ (λ (ks t : List ℕ). says_for header ks t) (sym split) lines_are
         ∙ (refusals (suc left) all).at_line (length numbers) (places_from left (suc (length numbers))) refusal
-        ((row_is_judged_exactly (length numbers) rest (Judged.Refused refusal) less).1 judged)
+        ((row_is_judged_exactly (length numbers) rest (Err refusal) less).1 judged)
         ∙ ap (λ (n : ℕ). refused refusal (2 + n)) (from_length (length numbers) 0)
 
     module _ (long : length numbers ≡ count) where
@@ -140,7 +142,7 @@ says_header text other = (refused_order header [] factory [] refl refl).at_heade
 -- a case of the law fixes the answer
 given : (text : List ℕ) (answer : Backup) → Answers text answer → parsing text ≡ answer
 given text answer (other_header_lem other) = read_says text ∙ ap read_as (says_header text other)
-given text answer (at_line {numbers} {rest} {number = refusal} g less judged) = read_says text ∙ ap read_as (says_line numbers text rest g refusal less judged)
+given text answer (at_line {numbers} {rest} {refusal = refusal} g less judged) = read_says text ∙ ap read_as (says_line numbers text rest g refusal less judged)
 given text answer (more_bytes {numbers} {rest} g long some) = read_says text ∙ ap read_as (says_more numbers text rest g long some)
 given text answer (a_pair {numbers} g long bad) = read_says text ∙ ap read_as (says_pair numbers text [] g long refl bad)
 given text answer (a_table {numbers} g long ok) = ap parsing (g.text_is ∙ whole_text_lem numbers long) ∙ written_read (held numbers) long ok
@@ -184,16 +186,16 @@ module _ (text : List ℕ) where
       here : 0 + length numbers ≡ length numbers
       here = zero-add (length numbers)
 
-      by : (x : Judged) → Judges (length numbers) rest x
+      by : (x : Judgement) → Judges (length numbers) rest x
           → ((ns more : List ℕ) → length ns + left ≡ count → Good text ns more → Known) → Known
-      by (Judged.Number n len) (number {rest = more} b f) later =
+      by (Ok row) (number {n = n} {rest = more} b f) later =
           later (numbers ++ n ∷ []) more (rw (length-append numbers (n ∷ [])) (omega arith))
           (record {
             in_ranges_lem = ranges_more numbers 0 n g.in_ranges_lem (ap (λ (j : ℕ). in_range j n) here ∙ f);
             text_is = g.text_is ∙ ap (λ (l : List ℕ). header ++ (rows_of 0 numbers ++ l)) b.text_is
                 ∙ ap (λ (j : ℕ). header ++ (rows_of 0 numbers ++ (row_of (id_at j) n ++ more))) (sym here) ∙ ap (λ (l : List ℕ). header ++ l) (rows_more numbers 0 n more);
           })
-      by (Judged.Refused refusal) judged later = (_, at_line g (omega arith) judged)
+      by (Err refusal) judged later = (_, at_line g (omega arith) judged)
 
   known : (b : Bool) → same (take (length header) text) header ≡ b → Known
   known true e =

@@ -1,15 +1,17 @@
 -- The calls, by their refusals. Assumes nothing.
 use mathlib.Core.Path.{◌≡◌, refl, sym, ap, ◌∙◌}
-use mathlib.Core.Bool.{Bool, true, false}
-use mathlib.Core.List.{List}
+use mathlib.Core.Bool.{Bool, true, false, ◌&&◌}
+use mathlib.Core.List.{List, [], ◌∷◌}
 use Prim.Native.Nat.{ℕ, ◌≤◌, ◌<◌}
-use native.Mathlib.Omega.{arith}
 use borrow.Author.Tests.{lt-ltb, le-ltb}
-use lib.ListN.{length, take, drop, length-take}
+use lib.Dec.{eqb}
+use lib.Pointwise.{pointwise}
+use Rattle.lines.specs.Lines.{chars}
+use Rattle.lines.specs.Numbers.{decimal_from}
+use lib.ListN.{length, take, drop}
 use Rattle.paper.specs.Numbers as paper
 use Rattle.paper.specs.Numbers.{text_room}
 use Rattle.laws.specs.Lists.{same}
-use Rattle.laws.proofs.Lists.{same_back}
 use Rattle.tables.specs.Rules.{allowed, factory}
 use Rattle.tables.specs.declared.Table.{Table}
 use Rattle.backup.specs.Text.{header, places, text_of, refused, lines_say, says_for, text_says}
@@ -17,18 +19,22 @@ use Rattle.backup.proofs.Places.{header_long}
 use Rattle.wire.specs.Calls.{unwritten, written_as}
 use Rattle.backup.specs.Calls.{writing, read_as, parsing}
 
--- a text that begins with the header is as long at least
-pub header_inside : (text : List ℕ) → same (take (length header) text) header ≡ true → 12 ≤ length text
-header_inside text e =
-    let size : length (take (length header) text) ≡ length header = ap length (same_back (take (length header) text) header e) in
-    omega (arith, header_long, length-take (length header) text)
+-- the first line of a text as it is compared, byte by byte
+abbrev pub first : List ℕ
+first = chars "settings\t26\n"
 
-pub header_cut : (text : List ℕ) → length text < 12 → false ≡ same (take (length header) text) header
-header_cut text h = by (same (take (length header) text) header) refl
-  where
-    by : (b : Bool) → same (take (length header) text) header ≡ b → false ≡ b
-    by false e = refl
-    by true e = absurd (omega (arith, header_inside text e))
+pub first_is : first ≡ header
+unfolding header decimal_from
+first_is = refl
+
+compared : (xs ys : List ℕ) → pointwise eqb xs ys ≡ same xs ys
+compared [] [] = refl
+compared [] (y ∷ ys) = refl
+compared (x ∷ xs) [] = refl
+compared (x ∷ xs) (y ∷ ys) = ap (λ (b : Bool). eqb x y && b) (compared xs ys)
+
+first_compared : (text : List ℕ) → pointwise eqb (take 12 text) first ≡ same (take (length header) text) header
+first_compared text = compared (take 12 text) first ∙ ap (λ (l : List ℕ). same (take (length l) text) l) first_is
 
 -- reading, by the first line
 module _ (header places text : List ℕ) where
@@ -44,9 +50,13 @@ pub read_says : (text : List ℕ) → parsing text ≡ read_as (says_for header 
 unfolding parsing text_says
 read_says text = refl
 
-pub read_rest : (text : List ℕ) → same (take (length header) text) header ≡ true → read_as (lines_say places 2 factory (drop 12 text)) ≡ parsing text
-read_rest text e =
-    ap (λ (n : ℕ). read_as (lines_say places 2 factory (drop n text))) (sym header_long) ∙ sym (read_says text ∙ ap read_as (says_rest header places text e))
+pub first_other : (text : List ℕ) → pointwise eqb (take 12 text) first ≡ false → refused paper.other_header 1 ≡ text_says text
+unfolding text_says
+first_other text e = sym (says_other header places text (sym (first_compared text) ∙ e))
+
+pub first_same : (text : List ℕ) → pointwise eqb (take 12 text) first ≡ true → lines_say places 2 factory (drop 12 text) ≡ text_says text
+unfolding text_says
+first_same text e = ap (λ (n : ℕ). lines_say places 2 factory (drop n text)) (sym header_long) ∙ sym (says_rest header places text (sym (first_compared text) ∙ e))
 
 -- writing
 module _ (table : Table) (room : ℕ) where

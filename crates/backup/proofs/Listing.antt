@@ -1,9 +1,11 @@
 -- The lines of a table, written one after another. Assumes nothing.
 use mathlib.Core.Path.{◌≡◌, refl, sym, ap, ap₂, ◌∙◌}
+use Rattle.std.proofs.Common.{Ok}
 use mathlib.Core.List.{List, [], ◌∷◌, ◌++◌, append-nil, append_assoc}
 use Prim.Native.Nat.{ℕ, ◌+◌, ◌*◌, ◌-◌, ◌≤◌, ◌<◌}
 use native.Mathlib.Nat.{zero-add}
 use native.Mathlib.Omega.{arith}
+use borrow.Rule.Slice.PartMut.{put_mid}
 use lib.ListN.{length, take, drop, length-append, length-drop, drop_of_length-le}
 use lib.Seq.{sets, length-sets, sets-eq, drop-drop}
 use Rattle.laws.specs.Promise.{overlaid, Given, Gives}
@@ -15,7 +17,7 @@ use Rattle.tables.specs.declared.Table.{Table}
 use Rattle.rows.specs.Row.{row_of, row_room}
 use Rattle.wire.specs.Calls.{written_as}
 use Rattle.rows.specs.Calls.{writing}
-use Rattle.wire.specs.declared.Written.{Written}
+use Rattle.wire.specs.Answers.{Written}
 use Rattle.rows.proofs.Rows.{write_made}
 use Rattle.rows.proofs.Theorems.{row_is_short}
 use Rattle.backup.specs.Text.{header, places, lines_for, text_for, text_of}
@@ -39,7 +41,7 @@ module _ (out : List ℕ) (at id n : ℕ) (h : at + row_room ≤ length out) (sm
   made : writing id n (length (take (length out - at) (drop at out))) ≡ written_as (row_of id n)
   made = write_made id n _ (rw (part, length-drop at out) (omega arith))
 
-  pub row_answered : r ≡ Written.Len (length (row_of id n))
+  pub row_answered : r ≡ Ok (length (row_of id n))
   row_answered = g.answered ∙ ap (λ (x : Given Written). x.answer) made
 
   pub row_stored : take at out ++ (last ++ drop (length out - at) (drop at out)) ≡ sets out at (row_of id n)
@@ -64,14 +66,11 @@ pub record Listing (out₀ : List ℕ) (start : ℕ) (t : Table) (out : List ℕ
   pub place : at + length (lines_for (drop index places) t) ≡ start + length (lines_for places t)
   pub same : sets out at (lines_for (drop index places) t) ≡ sets out₀ start (lines_for places t)
 
-pub listing_start : (out : List ℕ) (start : ℕ) (t : Table) → start + row_room * count ≤ length out → Listing out start t out start 0
-listing_start out start t h = record { within = omega arith; room = h; long = refl; place = refl; same = refl }
-
 module _ {out₀ : List ℕ} {start : ℕ} {t : Table} {out : List ℕ} {at index : ℕ} (h : index < count) (w : Listing out₀ start t out at index) where
-  pub listing_room : at + row_room ≤ length out
+  listing_room : at + row_room ≤ length out
   listing_room = let room : at + row_room * (count - index) ≤ length out = w.room in omega arith
 
-  pub listing_turn : {out₁ : List ℕ} {at₁ : ℕ} → at₁ ≡ at + length (row_of (id_at index) (number_at t index))
+  listing_turn : {out₁ : List ℕ} {at₁ : ℕ} → at₁ ≡ at + length (row_of (id_at index) (number_at t index))
       → out₁ ≡ sets out at (row_of (id_at index) (number_at t index)) → at₁ ≤ at + row_room → Listing out₀ start t out₁ at₁ (index + 1)
   listing_turn {out₁} {at₁} place stores short =
       let row : List ℕ = row_of (id_at index) (number_at t index) in
@@ -88,6 +87,22 @@ module _ {out₀ : List ℕ} {start : ℕ} {t : Table} {out : List ℕ} {at inde
         place = omega arith;
         same = ap₂ (λ (l : List ℕ) (i : ℕ). sets l i rest) stores place ∙ sym (sets_append out at row rest) ∙ ap (sets out at) (sym more) ∙ w.same;
       }
+
+  -- what writing the line due answers and leaves
+  module _ (id : ℕ) (is : id ≡ id_at index) (small : number_at t index < 65536) {r : Written} {last : List ℕ}
+      (g : Gives Written (writing id (number_at t index) (length (take (length out - at) (drop at out)))) (take (length out - at) (drop at out)) r last) where
+    pub line_answered : r ≡ Ok (length (row_of (id_at index) (number_at t index)))
+    line_answered = row_answered out at id (number_at t index) listing_room small g ∙ ap (λ (i : ℕ). Ok (length (row_of i (number_at t index)))) is
+
+    line_fits : length (row_of (id_at index) (number_at t index)) ≤ row_room
+    line_fits = row_is_short (id_at index) (number_at t index) (omega arith)
+
+    pub line_more : (len : ℕ) → r ≡ Ok len → Listing out₀ start t (put_mid at (length out - at) out last) (at + len) (index + 1)
+    line_more len e =
+        let long : len ≡ length (row_of (id_at index) (number_at t index)) = let f : r ≡ Ok (length (row_of (id_at index) (number_at t index))) = line_answered in cc in
+        listing_turn (ap (λ (n : ℕ). at + n) long)
+        (row_stored out at id (number_at t index) listing_room small g ∙ ap (λ (i : ℕ). sets out at (row_of i (number_at t index))) is)
+        (omega (arith, long, line_fits))
 
 pub listing_end : {out₀ : List ℕ} {start : ℕ} {t : Table} {out : List ℕ} {at index : ℕ} → count ≤ index → Listing out₀ start t out at index
     → (at ≡ start + length (lines_for places t)) × (out ≡ sets out₀ start (lines_for places t)) × (at ≤ length out₀)

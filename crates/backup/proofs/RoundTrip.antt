@@ -22,7 +22,8 @@ use Rattle.tables.proofs.Tables.{range_at}
 use Rattle.rows.specs.Row.{row_of, row_room}
 use Rattle.rows.specs.Calls.{judging}
 use Rattle.rows.specs.Laws.{number}
-use Rattle.rows.specs.declared.Judged.{Judged}
+use Rattle.rows.specs.Answers.{Judgement, number_is}
+use Rattle.std.proofs.Common.{Ok, Err}
 use Rattle.rows.proofs.Ranges.{range_wide}
 use Rattle.rows.proofs.Judging.{numbered}
 use Rattle.rows.proofs.Theorems.{row_is_judged_exactly, row_is_short}
@@ -30,7 +31,6 @@ use Rattle.backup.specs.Text.{lines_for, text_for, Says, good, refused, end_says
 use Rattle.wire.specs.Calls.{written_as}
 use Rattle.backup.specs.Calls.{read_as}
 use Rattle.backup.specs.Laws.{are_places, filled, IsText, ReadExactly, RefusedInOrder, WrittenIsRead, ReadIsWritten, TextIsShort}
-use Rattle.backup.specs.declared.Checked.{Checked}
 use Rattle.backup.specs.declared.Backup.{Backup}
 use Rattle.backup.proofs.Places.{places_long, are_places_lem, header_long}
 use Rattle.backup.proofs.Calls.{says_other, says_rest, read_says, write_made}
@@ -73,7 +73,7 @@ lines_read t (k ∷ ks) more line s rest are fits =
     let below : k < count = first_below k ks are in
     let here : in_range k (number_at t k) ≡ true = and_left (in_range k (number_at t k)) _ fits in
     let most : number_at t k ≤ 65535 = range_wide k (number_at t k) below here in
-    let judged : judging k (row ++ later) ≡ Judged.Number (number_at t k) (length row) =
+    let judged : judging k (row ++ later) ≡ number_is (number_at t k) (length row) =
     (row_is_judged_exactly k (row ++ later) _ below).1 (number (record { id_holds = (rows_hold k below).id_holds; number_holds = omega arith; text_is = refl }) here) in
     let next : suc line + length ks ≡ line + suc (length ks) = omega arith in
     ap (lines_say (k ∷ (ks ++ more)) line s) (ap (λ (l : List ℕ). l ++ rest) (lines_more k ks t) ∙ append_assoc row (lines_for ks t) rest)
@@ -131,8 +131,8 @@ unfolding end_says filled
 end_built s t text = by (eqb (length text) 0) (allowed s) refl refl
   where
     by : (a b : Bool) → eqb (length text) 0 ≡ a → allowed s ≡ b → cond a (cond b (good s) (refused paper.pair_disagrees 0)) (refused paper.more_bytes 0) ≡ good t → Built [] s t text
-    by false b p q e = let z : ◌≡◌ {A = ℕ} 0 1 = cc in absurd (omega arith)
-    by true false p q e = let z : ◌≡◌ {A = ℕ} 0 1 = cc in absurd (omega arith)
+    by false b p q e = cc
+    by true false p q e = cc
     by true true p q e =
         let is : s ≡ t = cc in
         record {
@@ -143,7 +143,7 @@ end_built s t text = by (eqb (length text) 0) (allowed s) refl refl
 
 -- one line more
 module _ (k : ℕ) (ks : List ℕ) (are : are_places (k ∷ ks) ≡ true) (s t : Table) (long : length s.numbers ≡ count) (text : List ℕ) where
-  line_built : (n len : ℕ) → judging k text ≡ Judged.Number n len → Built ks (changed s k n) t (drop len text) → Built (k ∷ ks) s t text
+  line_built : (n len : ℕ) → judging k text ≡ number_is n len → Built ks (changed s k n) t (drop len text) → Built (k ∷ ks) s t text
   unfolding filled
   line_built n len e b =
       let below : k < length s.numbers = rw long (first_below k ks are) in
@@ -158,9 +158,9 @@ module _ (k : ℕ) (ks : List ℕ) (are : are_places (k ∷ ks) ≡ true) (s t :
       }
 
   next_built : (line : ℕ) → ((n len : ℕ) → lines_say ks (suc line) (changed s k n) (drop len text) ≡ good t → Built ks (changed s k n) t (drop len text))
-      → (x : Judged) → judging k text ≡ x → following (λ n len. lines_say ks (suc line) (changed s k n) (drop len text)) line x ≡ good t → Built (k ∷ ks) s t text
-  next_built line later (Judged.Number n len) e f = line_built n len e (later n len f)
-  next_built line later (Judged.Refused m) e f = let z : ◌≡◌ {A = ℕ} 0 1 = cc in absurd (omega arith)
+      → (x : Judgement) → judging k text ≡ x → following (λ n len. lines_say ks (suc line) (changed s k n) (drop len text)) line x ≡ good t → Built (k ∷ ks) s t text
+  next_built line later (Ok row) e f = line_built row.number row.len e (later row.number row.len f)
+  next_built line later (Err refusal) e f = cc
 
 lines_built : (ks : List ℕ) (line : ℕ) (s t : Table) (text : List ℕ) → are_places ks ≡ true → length s.numbers ≡ count → lines_say ks line s text ≡ good t → Built ks s t text
 lines_built [] line s t text are long e = end_built s t text (sym (lines_end line s text) ∙ e)
@@ -174,7 +174,7 @@ unfolding text_for
 text_built header ks t text are = by (same (take (length header) text) header) refl
   where
     by : (b : Bool) → same (take (length header) text) header ≡ b → says_for header ks text ≡ good t → IsText header ks t text
-    by false p e = let f : says_for header ks text ≡ refused paper.other_header 1 = says_other header ks text p in let z : ◌≡◌ {A = ℕ} 0 1 = cc in absurd (omega arith)
+    by false p e = let f : says_for header ks text ≡ refused paper.other_header 1 = says_other header ks text p in cc
     by true p e =
         let b : Built ks factory t (drop (length header) text) = lines_built ks 2 factory t (drop (length header) text) are refl (sym (says_rest header ks text p) ∙ e) in
         record {
@@ -232,10 +232,8 @@ written_read t long ok =
     ∙ ap read_as (ap (says_for header places) (sym (text_is t)) ∙ text_good t ok header places are_places_lem (all_filled t long))
 
 good_back : (x : Says) (t : Table) → read_as x ≡ read_as (good t) → x ≡ good t
-good_back (good u) t e = ap good (ap (λ (b : Backup). b.table) e)
-good_back (refused n line) t e =
-    let v : Checked.Refused n line ≡ Checked.Accepted = ap (λ (b : Backup). b.verdict) e in
-    let z : ◌≡◌ {A = ℕ} 0 1 = cc in absurd (omega arith)
+good_back (Ok u) t e = ap good (ap (λ (b : Backup). b.table) e)
+good_back (Err why) t e = let v : Err why ≡ Ok tt = ap (λ (b : Backup). b.verdict) e in cc
 
 pub read_written : ReadIsWritten
 read_written text t e =

@@ -8,7 +8,7 @@ use denote.MutBor.{MutBor}
 use contract.Lifetimes.{Lfts}
 use Rattle.laws.proofs.Promise.{gives_same, equal_same}
 use Rattle.tables.specs.declared.Table.{Table}
-use Rattle.wire.specs.declared.Written.{Written}
+use Rattle.wire.specs.Answers.{Written}
 use Rattle.backup.specs.declared.Backup.{Backup}
 use Rattle.backup.proofs.write.Reads as write
 use Rattle.backup.proofs.read.Reads as read

@@ -1,6 +1,6 @@
 -- What is proved of the definitions, as statements to compare with the papers. Each is proved under its name in proofs/Theorems.antt.
 -- Assumes nothing.
-use Rattle.std.specs.Prelude.{ℕ, suc, ◌+◌, ◌≤◌, ◌<◌, ◌≡◌, ◌↔◌, Bool, true, false, ◌&&◌, List, [], ◌∷◌, ◌++◌, length, ltb}
+use Rattle.std.specs.Prelude.{ℕ, suc, ◌+◌, ◌≤◌, ◌<◌, ◌≡◌, ◌↔◌, Ok, Err, Bool, true, false, ◌&&◌, List, [], ◌∷◌, ◌++◌, length, ltb}
 use Prim.Native.String.{String}
 use Rattle.laws.specs.Lists.{every}
 use Rattle.laws.specs.Promise.{Given}
@@ -12,12 +12,12 @@ use Rattle.lines.specs.Lines.{chars}
 use Rattle.rows.specs.Row.{row_of}
 use Rattle.rows.specs.Calls.{judging}
 use Rattle.rows.specs.Laws.{Judges}
-use Rattle.rows.specs.declared.Judged.{Judged}
 use Rattle.paper.specs.Numbers as paper
-use Rattle.wire.specs.declared.Written.{Written}
+use Rattle.paper.specs.declared.Refusal.{Refusal}
+use Rattle.wire.specs.Answers.{Written}
 use Rattle.backup.specs.Text.{text_for, header, text_of, good, refused, says_for}
 use Rattle.backup.specs.Calls.{writing, parsing}
-use Rattle.backup.specs.declared.Checked.{Checked}
+use Rattle.backup.specs.Answers.{bad}
 use Rattle.backup.specs.declared.Backup.{Backup}
 
 -- 1. A text with any first line and lines for any places of the table that ascend: it is read as a table exactly when that table is allowed,
@@ -44,8 +44,8 @@ ReadExactly = (header places : List ℕ) (table : Table) (text : List ℕ) → a
 -- follow the last line; 17 where the table that is read is not allowed.
 pub record IsRefused (header done : List ℕ) (table : Table) (rest : List ℕ) : Type 0 where
   pub at_header : (places text : List ℕ) → ((rest : List ℕ) → text ≡ header ++ rest → ⊥) → says_for header places text ≡ refused paper.other_header 1
-  pub at_line : (k : ℕ) (more : List ℕ) (number : ℕ) → judging k rest ≡ Judged.Refused number
-      → says_for header (done ++ k ∷ more) (text_for header done table ++ rest) ≡ refused number (2 + length done)
+  pub at_line : (k : ℕ) (more : List ℕ) (refusal : Refusal) → judging k rest ≡ Err refusal
+      → says_for header (done ++ k ∷ more) (text_for header done table ++ rest) ≡ refused refusal (2 + length done)
   pub at_end : 0 < length rest → says_for header done (text_for header done table ++ rest) ≡ refused paper.more_bytes 0
   pub at_pair : allowed (filled done factory table) ≡ false → says_for header done (text_for header done table) ≡ refused paper.pair_disagrees 0
 
@@ -68,21 +68,21 @@ pub record Good (text numbers rest : List ℕ) : Type 0 where
   pub text_is : text ≡ header ++ (rows_of 0 numbers ++ rest)
 
 -- "A refusal returns its number, the line, the header being 1 (0 for 17 and 18) and the factory table."
-abbrev pub refused_at : ℕ → ℕ → Backup
-refused_at number line = record { table = factory; verdict = Checked.Refused number line }
+abbrev pub refused_at : Refusal → ℕ → Backup
+refused_at refusal line = record { table = factory; verdict = Err (bad refusal line) }
 
 abbrev pub accepted : Table → Backup
-accepted table = record { table = table; verdict = Checked.Accepted }
+accepted table = record { table = table; verdict = Ok tt }
 
 -- Every text has one answer, and each is given exactly when its case holds: 13 at line 1; after good lines 14, 15 or 16 as the next one is
 -- judged (`Judges` of rows), with its line; when all lines are good, 18 where bytes follow; when none follow, 17 where the table is not
 -- allowed, which is by a pair, as every number is in its range; else the table is given whose number at each place is the one in its line.
 pub data Answers (text : List ℕ) : Backup → Type 0 where
-  other_header_lem : ((rest : List ℕ) → text ≡ header ++ rest → ⊥) → Answers text (refused_at 13 1)
-  at_line : {numbers rest : List ℕ} {number : ℕ} → Good text numbers rest → length numbers < count → Judges (length numbers) rest (Judged.Refused number)
-      → Answers text (refused_at number (2 + length numbers))
-  more_bytes : {numbers rest : List ℕ} → Good text numbers rest → length numbers ≡ count → 0 < length rest → Answers text (refused_at 18 0)
-  a_pair : {numbers : List ℕ} → Good text numbers [] → length numbers ≡ count → allowed (record { numbers = numbers }) ≡ false → Answers text (refused_at 17 0)
+  other_header_lem : ((rest : List ℕ) → text ≡ header ++ rest → ⊥) → Answers text (refused_at paper.other_header 1)
+  at_line : {numbers rest : List ℕ} {refusal : Refusal} → Good text numbers rest → length numbers < count → Judges (length numbers) rest (Err refusal)
+      → Answers text (refused_at refusal (2 + length numbers))
+  more_bytes : {numbers rest : List ℕ} → Good text numbers rest → length numbers ≡ count → 0 < length rest → Answers text (refused_at paper.more_bytes 0)
+  a_pair : {numbers : List ℕ} → Good text numbers [] → length numbers ≡ count → allowed (record { numbers = numbers }) ≡ false → Answers text (refused_at paper.pair_disagrees 0)
   a_table : {numbers : List ℕ} → Good text numbers [] → length numbers ≡ count → allowed (record { numbers = numbers }) ≡ true
       → Answers text (accepted (record { numbers = numbers }))
 
@@ -92,9 +92,9 @@ AnsweredExactly = (text : List ℕ) (answer : Backup) → (parsing text ≡ answ
 -- Writing: 11 exactly where the room is under 512 bytes; with room, 12 exactly where the table is not allowed; no byte is written under
 -- either; else its text.
 pub data Writes (table : Table) (room : ℕ) : Given Written → Type 0 where
-  short : room < 512 → Writes table room (record { answer = Written.Refused 11; written = [] })
-  not_allowed_lem : 512 ≤ room → allowed table ≡ false → Writes table room (record { answer = Written.Refused 12; written = [] })
-  its_text : 512 ≤ room → allowed table ≡ true → Writes table room (record { answer = Written.Len (length (text_of table)); written = text_of table })
+  short : room < 512 → Writes table room (record { answer = Err paper.short_buffer; written = [] })
+  not_allowed_lem : 512 ≤ room → allowed table ≡ false → Writes table room (record { answer = Err paper.not_allowed; written = [] })
+  its_text : 512 ≤ room → allowed table ≡ true → Writes table room (record { answer = Ok (length (text_of table)); written = text_of table })
 
 abbrev pub WrittenExactly : Type 0
 WrittenExactly = (table : Table) (room : ℕ) (answer : Given Written) → (writing table room ≡ answer) ↔ Writes table room answer
@@ -111,7 +111,7 @@ WrittenIsRead = (table : Table) → length table.numbers ≡ count → allowed t
 pub record Text (table : Table) (text : List ℕ) : Type 0 where
   pub is_allowed : allowed table ≡ true
   pub is_whole : length table.numbers ≡ count
-  pub is_written : (room : ℕ) → 512 ≤ room → writing table room ≡ record { answer = Written.Len (length text); written = text }
+  pub is_written : (room : ℕ) → 512 ≤ room → writing table room ≡ record { answer = Ok (length text); written = text }
 
 abbrev pub ReadIsWritten : Type 0
 ReadIsWritten = (text : List ℕ) (table : Table) → parsing text ≡ accepted table → Text table text

@@ -1,6 +1,6 @@
 -- The text. Document 01, "Backup text": "Ascending id, tabs between fields, numbers decimal without leading zeros, newline after each line."
 -- The first line and the places of the settings that have a line are parameters. Assumes nothing.
-use Rattle.std.specs.Prelude.{ℕ, zero, suc, cond, List, [], ◌∷◌, ◌++◌, length, take, drop, eqb}
+use Rattle.std.specs.Prelude.{ℕ, zero, suc, cond, Result, Ok, Err, List, [], ◌∷◌, ◌++◌, length, take, drop, eqb}
 use Rattle.paper.specs.Numbers as paper
 use Rattle.laws.specs.Lists.{same}
 use Rattle.settings.specs.Columns.{count, id_at}
@@ -10,7 +10,10 @@ use Rattle.lines.specs.Lines.{chars}
 use Rattle.lines.specs.Numbers.{decimal}
 use Rattle.rows.specs.Row.{tab, row_of}
 use Rattle.rows.specs.Calls.{judging}
-use Rattle.rows.specs.declared.Judged.{Judged}
+use Rattle.rows.specs.Answers.{Judgement}
+use Rattle.paper.specs.declared.Refusal.{Refusal}
+use Rattle.backup.specs.declared.BadText.{BadText}
+use Rattle.backup.specs.Answers.{bad}
 
 -- Writing: a line for the setting at each of these places.
 unfoldable pub lines_for : List ℕ → Table → List ℕ
@@ -20,19 +23,24 @@ lines_for (k ∷ places) t = row_of (id_at k) (number_at t k) ++ lines_for place
 unfoldable pub text_for : List ℕ → List ℕ → Table → List ℕ
 text_for header places t = header ++ lines_for places t
 
--- Reading. What a text says: a table, or the number of its refusal and the line.
-pub data Says : Type 0 where
-  good : Table → Says
-  refused : ℕ → ℕ → Says
+-- Reading. What a text says: a table, or its refusal and the line.
+abbrev pub Says : Type 0
+Says = Result Table BadText
+
+abbrev pub good : Table → Says
+good t = Ok t
+
+abbrev pub refused : Refusal → ℕ → Says
+refused refusal line = Err (bad refusal line)
 
 -- "then 18 bytes follow the last line; then 17 a pair disagrees", the line being "0 for 17 and 18"
 unfoldable pub end_says : Table → ℕ → Says
 end_says t more = cond (eqb more 0) (cond (allowed t) (good t) (refused paper.pair_disagrees 0)) (refused paper.more_bytes 0)
 
 -- what follows a line: the next one, or the refusal
-abbrev pub following : (ℕ → ℕ → Says) → ℕ → Judged → Says
-following next line (Judged.Number n len) = next n len
-following next line (Judged.Refused number) = refused number line
+abbrev pub following : (ℕ → ℕ → Says) → ℕ → Judgement → Says
+following next line (Ok row) = next row.number row.len
+following next line (Err refusal) = refused refusal line
 
 -- "line by line", each judged 14, 15, 16 for the setting that is due, into a table
 unfoldable pub lines_say : List ℕ → ℕ → Table → List ℕ → Says

@@ -4,62 +4,60 @@
 
 ghost use Rattle.std.specs.Prelude.{◌≡◌, length};
 ghost use Rattle.laws.specs.Promise.{Gives};
-ghost use Rattle.backup.specs.Text as text;
+ghost use Rattle.wire.specs.Answers.{Written};
 ghost use Rattle.backup.specs.Calls.{writing, parsing};
-ghost use Rattle.wire.specs.declared.Written.{Written};
 
+use paper::Refusal;
 use tables::Table;
-use wire::Written;
 
 mod reader;
 mod writer;
 
-// What parsing a text answers: accepted, or the number of the refusal and the line, the header being 1 (0 for 17 and 18).
-#[derive(Clone, Copy)]
-pub enum Checked {
-    Accepted,
-    Refused { number: u8, line: usize },
+// Why a text is refused, and in which line, the header being 1 (0 for 17 and 18).
+#[derive(Clone, Copy, PartialEq, Eq)]
+pub struct BadText {
+    pub refusal: Refusal,
+    pub line: usize,
 }
 
 // What a text says: its table, or the factory table where it is refused.
-#[derive(Clone, Copy)]
+#[derive(Clone, Copy, PartialEq, Eq)]
 pub struct Backup {
     pub table: Table,
-    pub verdict: Checked,
+    pub verdict: Result<(), BadText>,
 }
 
-pub(crate) const HEADER_LEN: usize = 12;
+// The first line of every text.
+const HEADER: &[u8] = b"settings\t26\n";
 
-// Returns the first line of every text.
-fn header() -> [u8; HEADER_LEN]
-    ensures { result ≡ text.header }
-{
-    *b"settings\t26\n"
-}
-
-// Writes a table as text to the front of `out`. Refuses 11 under 512 bytes of room, then 12 for a table that is not allowed; then nothing
-// is written.
-pub fn write(table: Table, out: &mut [u8]) -> Written
+// Writes a table as text to the front of `out`, and returns its length. Refuses 11 under 512 bytes of room, then 12 for a table that is not
+// allowed; then nothing is written.
+pub fn write(table: Table, out: &mut [u8]) -> Result<usize, Refusal>
     ensures { Gives Written (writing table (length out.old)) out.old result out.new }
 {
     if out.len() < paper::TEXT_ROOM {
-        return Written::Refused(paper::SHORT_BUFFER);
+        return Err(Refusal::ShortBuffer);
     }
     if !table.is_allowed() {
-        return Written::Refused(paper::NOT_ALLOWED);
+        return Err(Refusal::NotAllowed);
     }
-    let numbers = table.numbers;
-    let header = header();
-    let at = spans::copy(&header, out);
-    Written::Len(writer::put_lines(numbers, out, at))
+    let at = spans::copy(HEADER, out);
+    Ok(writer::put_lines(table, out, at))
 }
 
 // Reads a text: 13 for another first line, then line by line 14, 15, 16, then 18, then 17.
+#[tactic(auto, unfolding(crate::specs::Calls::parsing))]
 pub fn read(text: &[u8]) -> Backup
     ensures { result ≡ parsing text.now }
 {
-    if !reader::begins(text) {
-        return reader::refused(paper::OTHER_HEADER, 1);
+    match reader::table_in(text) {
+        Ok(table) => Backup {
+            table,
+            verdict: Ok(()),
+        },
+        Err(why) => Backup {
+            table: Table::factory(),
+            verdict: Err(why),
+        },
     }
-    reader::read_lines(&text[HEADER_LEN..])
 }

@@ -1,72 +1,46 @@
-ghost use Rattle.std.specs.Prelude.{◌≡◌, length, take};
-ghost use Rattle.laws.specs.Lists.{same};
-ghost use Rattle.tables.specs.Rules.{factory};
-ghost use Rattle.backup.specs.Text as spec;
-ghost use Rattle.backup.specs.Calls.{read_as};
+ghost use Rattle.std.specs.Prelude.{◌≡◌};
+ghost use Rattle.backup.specs.Text.{text_says};
 
-use crate::{Backup, Checked, HEADER_LEN};
-use rows::Judged;
+use crate::{BadText, HEADER};
+use paper::Refusal;
 use settings::COUNT;
 use tables::Table;
 
 // The header is line 1, so the setting at place 0 is in line 2.
 const FIRST_LINE: usize = 2;
 
-// Refuses a text, with the factory table.
-pub(crate) fn refused(number: u8, line: usize) -> Backup
-    ensures { result ≡ read_as (spec.refused number line) }
-{
-    Backup {
-        table: Table::factory(),
-        verdict: Checked::Refused { number, line },
-    }
-}
+// What is about no line.
+const NO_LINE: usize = 0;
 
-// Returns whether a text has the first line that it must have.
-pub(crate) fn begins(text: &[u8]) -> bool
-    ensures { result ≡ same (take (length spec.header) text.now) spec.header }
+// Returns the table that a text says: the header, a good line for each setting, no byte after them, and every pair agrees.
+#[tactic(auto, using(crate::proofs::Lining::lined_wrong, crate::proofs::Lining::lined_inside))]
+pub(crate) fn table_in(text: &[u8]) -> Result<Table, BadText>
+    ensures { result ≡ text_says text.now }
 {
-    if text.len() < HEADER_LEN {
-        return false;
+    let Some(mut rest) = text.strip_prefix(HEADER) else {
+        return Err(BadText {
+            refusal: Refusal::OtherHeader,
+            line: 1,
+        });
+    };
+    let mut table = Table::factory();
+    for index in 0..COUNT {
+        let line = index + FIRST_LINE;
+        let row = rows::judge(rest, index).map_err(|refusal| BadText { refusal, line })?;
+        table.numbers[index] = row.number;
+        rest = &rest[row.len..];
     }
-    let header = crate::header();
-    text[..HEADER_LEN] == header[..]
-}
-
-// Judges the end of a text: no byte may follow, and every pair must agree.
-fn ended(more: usize, numbers: [u16; COUNT]) -> Backup
-    ensures { result ≡ read_as (spec.end_says (record { numbers = numbers }) more) }
-{
-    if more != 0 {
-        return refused(paper::MORE_BYTES, 0);
+    if !rest.is_empty() {
+        return Err(BadText {
+            refusal: Refusal::MoreBytes,
+            line: NO_LINE,
+        });
     }
-    let table = Table { numbers };
     if !table.is_allowed() {
-        return refused(paper::PAIR_DISAGREES, 0);
+        return Err(BadText {
+            refusal: Refusal::PairDisagrees,
+            line: NO_LINE,
+        });
     }
-    Backup {
-        table,
-        verdict: Checked::Accepted,
-    }
-}
-
-// Reads the lines after the header, one for each setting.
-pub(crate) fn read_lines(text: &[u8]) -> Backup
-    ensures { result ≡ read_as (spec.lines_say spec.places 2 factory text.now) }
-{
-    let mut numbers = settings::factory_numbers();
-    let mut at = 0;
-    let mut index = 0;
-    while index < COUNT {
-        let judged = rows::judge(&text[at..], index);
-        match judged {
-            Judged::Number { number, len } => {
-                numbers[index] = number;
-                at += len;
-            }
-            Judged::Refused(number) => return refused(number, index + FIRST_LINE),
-        }
-        index += 1;
-    }
-    ended(text.len() - at, numbers)
+    Ok(table)
 }
