@@ -6,7 +6,7 @@ use Prim.Native.Nat.{ℕ, ◌≤◌, ◌<◌}
 use borrow.Author.Tests.{lt-ltb, le-ltb}
 use lib.Dec.{eqb}
 use lib.Pointwise.{pointwise}
-use Rattle.lines.specs.Lines.{chars}
+use Rattle.backup.specs.declared.TheConstants.{HEADER}
 use Rattle.lines.specs.Numbers.{decimal_from}
 use lib.ListN.{length, take, drop}
 use Rattle.paper.specs.Numbers as paper
@@ -19,9 +19,9 @@ use Rattle.backup.proofs.Places.{header_long}
 use Rattle.wire.specs.Calls.{unwritten, written_as}
 use Rattle.backup.specs.Calls.{writing, read_as, parsing}
 
--- the first line of a text as it is compared, byte by byte
+-- the first line as it is in the source, and compared byte by byte
 abbrev pub first : List ℕ
-first = chars "settings\t26\n"
+first = HEADER.now
 
 pub first_is : first ≡ header
 unfolding header decimal_from
