@@ -31,6 +31,7 @@ fn steps_of(decimals: u8) -> usize
 
 impl Line {
     // Returns a line with nothing in it.
+    #[tactic(auto, unfolding(crate::specs::Lines::line_of))]
     pub fn start() -> Line
         ensures { result ≡ line_of [] }
     {
@@ -38,6 +39,7 @@ impl Line {
     }
 
     // Returns the line with a text after it.
+    #[tactic(auto, unfolding(crate::specs::Lines::line_of, crate::specs::Lines::adding))]
     pub fn put(self, text: &[u8]) -> Line
         ensures { result ≡ adding self text.now }
     {
