@@ -175,7 +175,7 @@ all_taken =
     (λ f. heard_allowed held f (take (taken (unfinished held) piece) piece)))
 
 -- An allowed state is one that bytes left, so all this is said of any of them.
-module _ (held : Held) (long : length held.chars ≡ 74) where
+module _ (held : Held) (long : length held.chars.bytes ≡ 74) where
   pub whole_heard : allowed held ≡ true → (bytes : List ℕ) (offers : List (Offer ℕ)) → (calls hears held bytes offers).taken ≡ length bytes
       → calls hears held bytes offers ≡ record { state = held_of (left_from (unfinished held) bytes); events = frames_from (unfinished held) bytes; taken = length bytes }
   whole_heard ok bytes offers all =

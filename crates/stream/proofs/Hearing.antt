@@ -19,6 +19,8 @@ use Rattle.wire.specs.Calls.{read_as, parsing_chars}
 use Rattle.wire.specs.Answers.{Read}
 use Rattle.std.specs.Prelude.{Ok, Err, None}
 use Rattle.wire.proofs.Answers.{chars_read}
+use Rattle.spans.specs.Few.{those}
+use Rattle.spans.proofs.Fews.{those_back}
 use Rattle.stream.specs.Stream.{Unfinished, outside, inside, ended_by, ends_frame, frames_from, left_from, ends, taken}
 use Rattle.stream.specs.Calls.{allowed, held_of, unfinished, heard_of, ended_as, stays}
 use Rattle.stream.specs.declared.Held.{Held}
@@ -90,9 +92,9 @@ ended_capped chars b n e = by (eqb b newline) (eqb b colon) refl refl
     by false true p q = simp (p, q, length-take, broken_capped (length chars))
     by false false p q = absurd (false≢true (rw (p, q) at e))
 
-pub begun_more : (piece : List ℕ) (b held : Held) → b ≡ held_of (inside []) → held ≡ held_of (inside (take b.len b.chars ++ piece)) → held ≡ held_of (inside piece)
+pub begun_more : (piece : List ℕ) (b held : Held) → b ≡ held_of (inside []) → held ≡ held_of (inside (those b.chars ++ piece)) → held ≡ held_of (inside piece)
 unfolding held_of
-begun_more piece b held is e = rw is at e
+begun_more piece b held is e = rw (is, those_back 74 []) at e
 
 -- Outside a frame, with the place of the first colon.
 
@@ -123,19 +125,19 @@ module _ (piece : List ℕ) where
 -- characters up to there.
 
 module _ (h : Held) (in-it : h.inside ≡ true) (piece : List ℕ) (end : ℕ) (first : end ≡ before ends_frame piece)
-    (whole : Held) (kept : whole ≡ held_of (inside (take h.len h.chars ++ take end piece))) where
+    (whole : Held) (kept : whole ≡ held_of (inside (those h.chars ++ take end piece))) where
   pub call_nothing : end ≡ length piece → heard_of (unfinished h) piece ≡ record { answer = record { held = whole; event = Ok None; taken = end }; written = [] }
-  call_nothing all = rw (unfinished_inside h in-it, kept, all, take-length piece) (rw all at (inside_nothing (take h.len h.chars) piece end first all))
+  call_nothing all = rw (unfinished_inside h in-it, kept, all, take-length piece) (rw all at (inside_nothing (those h.chars) piece end first all))
 
-  pub call_ended : end < length piece → heard_of (unfinished h) piece ≡ ended_as (inside (take whole.len whole.chars)) (get_or piece end 0) (end + 1)
+  pub call_ended : end < length piece → heard_of (unfinished h) piece ≡ ended_as (inside (those whole.chars)) (get_or piece end 0) (end + 1)
   unfolding held_of
   call_ended some =
-      rw (unfinished_inside h in-it, kept, held_chars, ended_capped _ (get_or piece end 0) (end + 1) (end_there (take h.len h.chars) piece end first some))
-      (inside_ended (take h.len h.chars) piece end first some)
+      rw (unfinished_inside h in-it, kept, held_chars, ended_capped _ (get_or piece end 0) (end + 1) (end_there (those h.chars) piece end first some))
+      (inside_ended (those h.chars) piece end first some)
 
 -- The call outside a frame: `skipped` is the place of the first colon.
 
-module _ (h : Held) (ok : allowed h ≡ true) (long : length h.chars ≡ 74) (out : h.inside ≡ false) (piece : List ℕ) (skipped : ℕ) (first : skipped ≡ before colon_at piece) where
+module _ (h : Held) (ok : allowed h ≡ true) (long : length h.chars.bytes ≡ 74) (out : h.inside ≡ false) (piece : List ℕ) (skipped : ℕ) (first : skipped ≡ before colon_at piece) where
   pub call_skipped : skipped ≡ length piece → heard_of (unfinished h) piece ≡ record { answer = record { held = h; event = Ok None; taken = skipped }; written = [] }
   call_skipped all =
       let same : held_of outside ≡ h = rw (unfinished_outside h out) at (held_same h ok long) in

@@ -3,7 +3,7 @@
 use mathlib.Core.Path.{◌≡◌, refl, sym, ap, ap₂, subst, ◌∙◌}
 use mathlib.Core.Bool.{Bool, true, false}
 use mathlib.Core.List.{List, [], ◌∷◌, ◌++◌}
-use Prim.Native.Nat.{ℕ, min}
+use Prim.Native.Nat.{ℕ}
 use native.Mathlib.Omega.{arith}
 use lib.ListN.{length, take, length-take}
 use lib.Seq.{take-take}
@@ -12,6 +12,7 @@ use Rattle.laws.specs.Lists.{every}
 use Rattle.laws.proofs.Lists.{every_append, take_again}
 use Rattle.paper.specs.Numbers.{colon, newline}
 use Rattle.wire.specs.Parsing.{Ended}
+use Rattle.spans.specs.Few.{those}
 use Rattle.stream.specs.Stream.{Unfinished, outside, inside, next, ended_by, frames_from, frames_of, left_from, left_by}
 use Rattle.stream.specs.Calls.{allowed, stays, held_of, unfinished}
 use Rattle.stream.specs.Laws.{AllowedIsLeft}
@@ -59,14 +60,14 @@ heard_allowed held ok bytes = proper_allowed (left_from (unfinished held) bytes)
 
 -- Every allowed state is left by some bytes that end no frame: by none, or by a colon and the characters held.
 
-pub left_quietly : (held : Held) → length held.chars ≡ 74 → allowed held ≡ true → (bytes : List ℕ) × (held_of (left_by bytes) ≡ held) × (frames_of bytes ≡ [])
+pub left_quietly : (held : Held) → length held.chars.bytes ≡ 74 → allowed held ≡ true → (bytes : List ℕ) × (held_of (left_by bytes) ≡ held) × (frames_of bytes ≡ [])
 left_quietly held long ok = by held.inside refl
   where
     by : (t : Bool) → held.inside ≡ t → (bytes : List ℕ) × (held_of (left_by bytes) ≡ held) × (frames_of bytes ≡ [])
     by true e = (
-      colon ∷ take held.len held.chars,
-      ap held_of (stay_left [] (take held.len held.chars) (allowed_stays held ok) ∙ sym (unfinished_inside held e)) ∙ held_same held ok long,
-      stay_frames [] (take held.len held.chars) (allowed_stays held ok),
+      colon ∷ those held.chars,
+      ap held_of (stay_left [] (those held.chars) (allowed_stays held ok) ∙ sym (unfinished_inside held e)) ∙ held_same held ok long,
+      stay_frames [] (those held.chars) (allowed_stays held ok),
     )
     by false e = ([], ap held_of (sym (unfinished_outside held e)) ∙ held_same held ok long, refl)
 
@@ -86,7 +87,7 @@ unfinished_kept (inside chars) = unfinished_held chars
 kept_held : (u : Unfinished) → held_of (kept u) ≡ held_of u
 unfolding held_of
 kept_held outside = refl
-kept_held (inside chars) = let once : min 74 (min 74 (length chars)) ≡ min 74 (length chars) = omega arith in rw (length-take, once, take_again)
+kept_held (inside chars) = rw (take-take 74 74 chars (omega arith))
 
 kept_next : (u : Unfinished) (b : ℕ) → kept (next (kept u) b) ≡ kept (next u b)
 kept_next outside b = refl

@@ -1,8 +1,9 @@
 -- What each public call answers, for every input. Document 01, "Numbers of refusal": "The order is 11, 12, then 1 to 10 as listed."
 -- Assumes nothing.
-use Rattle.std.specs.Prelude.{ℕ, zero, min, Bool, true, false, cond, Some, None, Ok, Err, not, ◌&&◌, ◌||◌, List, [], ◌∷◌, ◌++◌, length, take, drop, replicate, ltb, leb, eqb}
+use Rattle.std.specs.Prelude.{ℕ, zero, Bool, true, false, cond, Some, None, Ok, Err, not, ◌&&◌, ◌||◌, List, [], ◌∷◌, take, ltb, eqb}
 use Rattle.laws.specs.Lists.{every}
 use Rattle.laws.specs.Promise.{Given}
+use Rattle.spans.specs.Few.{few, those, tidy}
 use Rattle.paper.specs.declared.Refusal.{Refusal}
 use Rattle.paper.specs.Numbers.{most_data, short_buffer, not_allowed}
 use Rattle.wire.specs.Parsing.{Ended}
@@ -13,21 +14,18 @@ use Rattle.stream.specs.Answers.{Event}
 use Rattle.stream.specs.declared.Held.{Held}
 use Rattle.stream.specs.declared.Heard.{Heard}
 
--- The unfinished frame as it is held between two calls: 74 characters say "over 73", so no more are kept, and what is past the
--- characters is 0. One value for each thing that there is to remember.
+-- The unfinished frame as it is held between two calls: 74 characters say "over 73", so no more are kept. One value for each thing that
+-- there is to remember.
 
 abbrev pub most_held : ℕ
 most_held = 74
 
-unfoldable pub no_chars : List ℕ
-no_chars = replicate most_held 0
-
 unfoldable pub held_of : Unfinished → Held
-held_of outside = record { inside = false; len = zero; chars = no_chars }
-held_of (inside chars) = record { inside = true; len = min most_held (length chars); chars = take most_held (chars ++ no_chars) }
+held_of outside = record { inside = false; chars = few most_held [] }
+held_of (inside chars) = record { inside = true; chars = few most_held (take most_held chars) }
 
 unfoldable pub unfinished : Held → Unfinished
-unfinished held = cond held.inside (inside (take held.len held.chars)) outside
+unfinished held = cond held.inside (inside (those held.chars)) outside
 
 -- neither a newline nor a colon: a character that stays in its frame
 abbrev pub stays : ℕ → Bool
@@ -35,9 +33,7 @@ stays b = not (ends_frame b)
 
 -- the states that bytes can leave (the law AllowedIsLeft of Laws.antt says so, both ways)
 unfoldable pub allowed : Held → Bool
-allowed held =
-    leb held.len most_held && (held.inside || eqb held.len zero)
-    && (every stays (take held.len held.chars) && every (eqb 0) (drop held.len held.chars))
+allowed held = tidy held.chars && (held.inside || eqb held.chars.len zero) && every stays (those held.chars)
 
 -- The stream reader. "The stream is read by the same frame rule, bytes taken and refusals 1 to 4, with no reply. That call and the one for
 -- a whole frame refuse 11 if the data buffer is under 35 bytes"; then 12 for a state that no bytes could have left. "Under 11 and 12 a state

@@ -109,7 +109,7 @@ AnyCutting = (earlier bytes : List ℕ) (offers : List (Offer ℕ)) → Cut earl
 -- the held frame is. (Its array has 74 entries in every value of the type.)
 abbrev pub WholeIsHeard : Type 0
 WholeIsHeard =
-    (held : Held) → length held.chars ≡ most_held → allowed held ≡ true → (bytes : List ℕ) (offers : List (Offer ℕ))
+    (held : Held) → length held.chars.bytes ≡ most_held → allowed held ≡ true → (bytes : List ℕ) (offers : List (Offer ℕ))
     → (calls hears held bytes offers).taken ≡ length bytes
     → calls hears held bytes offers
     ≡ record { state = held_of (left_from (unfinished held) bytes); events = frames_from (unfinished held) bytes; taken = length bytes }
@@ -150,13 +150,13 @@ OnlyAFrameIsWritten =
 -- The cutting changes nothing: rows of calls that take as many of the same bytes come to the same, from any state.
 abbrev pub CuttingChangesNothing : Type 0
 CuttingChangesNothing =
-    (held : Held) → length held.chars ≡ most_held → (bytes : List ℕ) (offers offers' : List (Offer ℕ))
+    (held : Held) → length held.chars.bytes ≡ most_held → (bytes : List ℕ) (offers offers' : List (Offer ℕ))
     → (calls hears held bytes offers).taken ≡ (calls hears held bytes offers').taken → calls hears held bytes offers ≡ calls hears held bytes offers'
 
 -- "An empty piece takes 0 and changes nothing."
 abbrev pub EmptyChangesNothing : Type 0
 EmptyChangesNothing =
-    (held : Held) (room : ℕ) → length held.chars ≡ most_held → allowed held ≡ true → most_data ≤ room
+    (held : Held) (room : ℕ) → length held.chars.bytes ≡ most_held → allowed held ≡ true → most_data ≤ room
     → hearing held [] room ≡ record { answer = record { held = held; event = Ok None; taken = 0 }; written = [] }
 
 -- The end that a call stops at is the first: no frame ends before it, and where it is within the piece one ends there.
@@ -180,4 +180,4 @@ HearsToTheEnd =
 -- the type.)
 abbrev pub AllowedIsLeft : Type 0
 AllowedIsLeft =
-    (held : Held) → length held.chars ≡ most_held → (allowed held ≡ true) ↔ ((bytes : List ℕ) × (held_of (left_by bytes) ≡ held))
+    (held : Held) → length held.chars.bytes ≡ most_held → (allowed held ≡ true) ↔ ((bytes : List ℕ) × (held_of (left_by bytes) ≡ held))

@@ -10,7 +10,7 @@ ghost use Rattle.std.specs.Prelude.{◌≡◌, length};
 
 use kinds::Staying;
 use paper::Refusal;
-use spans::Byte;
+use spans::Few;
 use wire::Frame;
 
 mod kinds;
@@ -24,8 +24,7 @@ const MOST_HELD: usize = 74;
 #[derive(Clone, Copy, PartialEq, Eq)]
 pub struct Held {
     pub inside: bool,
-    pub len: usize,
-    pub chars: [u8; MOST_HELD],
+    pub chars: Few<MOST_HELD>,
 }
 
 // What a call on the stream answers: the advanced state, the frame that ended if one did, and how many bytes of the piece it took. A
@@ -39,26 +38,24 @@ pub struct Heard {
 
 impl Held {
     // Returns the state in which no frame is unfinished, with which every stream starts.
-    #[tactic(auto, unfolding(crate::specs::Calls::held_of, crate::specs::Calls::no_chars))]
+    #[tactic(auto, unfolding(crate::specs::Calls::held_of))]
     pub fn outside() -> Held
         ensures { result ≡ held_of outside }
     {
         Held {
             inside: false,
-            len: 0,
-            chars: [0u8; MOST_HELD],
+            chars: Few::of(&[]),
         }
     }
 
     // Returns whether this is a state that some bytes leave.
-    #[tactic(auto, using(laws::proofs::Lists::part_to_end), unfolding(crate::specs::Calls::allowed))]
+    #[tactic(auto, unfolding(crate::specs::Calls::allowed))]
     pub fn is_allowed(self) -> bool
         ensures { result ≡ allowed self }
     {
-        self.len <= MOST_HELD
-            && (self.inside || self.len == 0)
-            && spans::all(&self.chars[..self.len], Staying)
-            && spans::all(&self.chars[self.len..], Byte(0))
+        self.chars.is_tidy()
+            && (self.inside || self.chars.len == 0)
+            && spans::all(self.chars.as_slice(), Staying)
     }
 
     // Reads on in the stream: stops after the first byte that ends a frame, or takes the whole piece. Refuses 11 under 35 bytes of room,

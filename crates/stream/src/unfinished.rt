@@ -1,13 +1,14 @@
 // The unfinished frame: what a colon begins, and what more characters make of it.
-ghost use Rattle.std.specs.Prelude.{◌≡◌, true, [], ◌++◌, take};
-ghost use Rattle.stream.specs.Calls.{allowed, held_of};
+ghost use Rattle.std.specs.Prelude.{◌≡◌, true, [], ◌++◌};
+ghost use Rattle.spans.specs.Few.{those};
+ghost use Rattle.stream.specs.Calls.{held_of};
 ghost use Rattle.stream.specs.Stream.{inside};
 
 use crate::Held;
 
 impl Held {
     // Returns the frame that a colon has just begun.
-    #[tactic(auto, unfolding(crate::specs::Calls::held_of, crate::specs::Calls::no_chars))]
+    #[tactic(auto, unfolding(crate::specs::Calls::held_of))]
     pub(crate) fn begun() -> Held
         ensures { result ≡ held_of (inside []) }
     {
@@ -19,14 +20,11 @@ impl Held {
 
     // Returns the unfinished frame with some more characters, of which none is kept past the 74th.
     pub(crate) fn with_more(self, more: &[u8]) -> Held
-        requires { (allowed self ≡ true) × (self.inside ≡ true) }
-        ensures { result ≡ held_of (inside (take self.len self.chars ++ more.now)) }
+        requires { self.inside ≡ true }
+        ensures { result ≡ held_of (inside (those self.chars ++ more.now)) }
     {
-        let mut chars = self.chars;
-        let n = spans::copy(more, &mut chars[self.len..]);
         Held {
-            len: self.len + n,
-            chars,
+            chars: self.chars.put(more),
             ..self
         }
     }

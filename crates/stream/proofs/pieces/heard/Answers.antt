@@ -22,12 +22,12 @@ found c = rw (part_to_end c.args.piece.now _ (c.find-skipped.result + 1) refl) a
 
 pub returns-then-skipped-piece : goal.returns-then-skipped-piece
 returns-then-skipped-piece c =
-    let long : length c.args.held.chars ≡ 74 = search rules in
+    let long : length c.args.held.chars.bytes ≡ 74 = search rules in
     gives_none _ (call_skipped _ c.requires.0 long c.if-held.false _ _ c.find-skipped.ensures.first c.if-skipped-piece.true)
 
 pub returns : goal.returns
 returns c =
-    let long : length c.args.held.chars ≡ 74 = search rules in
+    let long : length c.args.held.chars.bytes ≡ 74 = search rules in
     let some : c.find-skipped.result < length c.args.piece.now = omega arith in
     rw (call_begun _ c.requires.0 long c.if-held.false _ _ c.find-skipped.ensures.first some) (gives_behind _ _ _ _ _ (found (goal.at.returns c).After-fresh-found))
 
