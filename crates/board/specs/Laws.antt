@@ -185,7 +185,7 @@ pub data Given-by : Board → Type 0 where
 pub record Typed (board : Board) : Type 0 where
   pub serial_long : length board.core.identity.serial ≡ most_serial
   pub numbers_long : length board.core.table.numbers ≡ count
-  pub chars_long : length board.held.chars ≡ most_held
+  pub chars_long : length board.held.chars.bytes ≡ most_held
   pub voltage_fits : within (negsuc 0x7FFF) (pos 0x7FFF) board.core.readings.voltage ≡ true
   pub current_fits : within (negsuc 0x7FFF) (pos 0x7FFF) board.core.readings.current ≡ true
   pub fine_fits : within (negsuc 0x7FFFFFFF) (pos 0x7FFFFFFF) board.core.readings.fine ≡ true

@@ -106,10 +106,10 @@ idle_talk (calls n room ∷ more) board bytes stray e = by (ltb room 75) refl (i
     by false f later = ap goes_on (answering_stray board (take n bytes) room (ltb-false _ _ f) stray) ∙ ap idle later
 
 -- a board's line is where its held frame is
-pub on_line : (board : Board) → length board.held.chars ≡ 74 → allowed board.held ≡ true → board ≡ board_at board.core (unfinished board.held)
+pub on_line : (board : Board) → length board.held.chars.bytes ≡ 74 → allowed board.held ≡ true → board ≡ board_at board.core (unfinished board.held)
 on_line board long ok = ap {B = Board} (λ (held : Held). record { core = board.core; held = held }) (sym (held_same board.held ok long))
 
-board_same : (board : Board) → length board.held.chars ≡ 74 → (bytes : List ℕ) (deeds deeds' : List Deed) → is_calls deeds ≡ true → is_calls deeds' ≡ true
+board_same : (board : Board) → length board.held.chars.bytes ≡ 74 → (bytes : List ℕ) (deeds deeds' : List Deed) → is_calls deeds ≡ true → is_calls deeds' ≡ true
     → (talk board bytes deeds).taken ≡ (talk board bytes deeds').taken → talk board bytes deeds ≡ talk board bytes deeds'
 board_same board long bytes deeds deeds' e e' = by (board_allowed board) refl
   where
@@ -123,7 +123,7 @@ pub changes_nothing : CuttingChangesNothing
 changes_nothing = record { at_board = board_same; at_box = box_same }
 
 -- an empty piece
-board_empty : (board : Board) (room : ℕ) → length board.held.chars ≡ 74 → board_allowed board ≡ true → 75 ≤ room
+board_empty : (board : Board) (room : ℕ) → length board.held.chars.bytes ≡ 74 → board_allowed board ≡ true → 75 ≤ room
     → answering board [] room ≡ record { answer = record { board = board; outcome = Outcome.Nothing; len = 0; taken = 0 }; written = [] }
 unfolding heard_by decided_by deciding taken
 board_empty board room long ok h = answering_heard board [] room h ok ∙ rw (held_same board.held (held_allowed board ok) long)

@@ -177,7 +177,7 @@ ran f u (a_set {w} {more} h later) =
     ∙ ap (λ (fs : List Ended). broken_in u ++ frame_for w ∷ fs) (listed later).frames_are in
     ap (λ (fs : List Ended). run f (map event_for fs)) frames ∙ skips f u (map frame_for (w ∷ more))
 
-follows : (from to : Table) → both_allowed from to ≡ true → (held : Held) → length held.chars ≡ 74 → allowed held ≡ true → (offers : List (Offer ℕ))
+follows : (from to : Table) → both_allowed from to ≡ true → (held : Held) → length held.chars.bytes ≡ 74 → allowed held ≡ true → (offers : List (Offer ℕ))
     → (Cutting.calls box_hears held (frames_for (due_sets from to)) offers).taken ≡ length (frames_for (due_sets from to))
     → Confirmed from to (followed from to held (frames_for (due_sets from to)) offers)
 unfolding starting

@@ -16,8 +16,9 @@ use Rattle.wire.specs.Digits.{digit, nibble}
 use Rattle.wire.specs.Frame.{check, body, frame}
 use Rattle.endian.specs.Numbers.{little, said}
 use Rattle.wire.specs.Parsing.{Ended, good, refused, body_says, broken_says}
+use Rattle.spans.specs.Few.{few}
 use Rattle.stream.specs.Stream.{inside, taken, frames_of}
-use Rattle.stream.specs.Calls.{no_chars, held_of, unfinished}
+use Rattle.stream.specs.Calls.{held_of, unfinished}
 use Rattle.stream.specs.declared.Held.{Held}
 use Rattle.stream.specs.Calls as stream
 use Rattle.settings.specs.Columns.{count, id_at, width_at, partner_at, place_of}
@@ -249,7 +250,7 @@ abbrev two_calls : List Deed
 two_calls = calls 15 75 ∷ calls 15 75 ∷ []
 
 first_set_alone_lem : Decides first_set_alone → ⊥
-unfolding overlaid digit nibble check body frame body_says taken no_chars held_of unfinished stream.allowed
+unfolding overlaid digit nibble check body frame body_says taken few front_of held_of unfinished stream.allowed
     in_range low_agrees high_agrees agrees allowed_for all_allowed allowed placing partner_at place_of finding set_to
     serial_fits front_of identity_of serial_of identity_allowed sets_setting set_answer frame_answer
     core_allowed board_allowed fresh_board starting deciding decided_by heard_by answering is_complete is_valid makes made
@@ -269,7 +270,7 @@ takes_unseen answer counted u h =
     (sym (u (started_with factory) noise 75) ∙ h (started_with factory) noise 75 (is_allowed factory factory_is_allowed) (leb-true 75 75 refl))
 
 reads_unseen : (read : Listener → List ℕ → ℕ → ℕ → Given Listened) (counted : Listener → ℕ → ℕ → ℕ → ℕ) → ReadsUnseen read counted → ReadsToTheEnd read → ⊥
-unfolding partner_at place_of stream.allowed held_of no_chars unfinished taken is_over frame body check digit
+unfolding partner_at place_of stream.allowed held_of few front_of unfinished taken is_over frame body check digit
 reads_unseen read counted u h =
     not_both (counted (listen.starting 0) 30 0 35)
     (sym (u (listen.starting 0) two_sets 0 35) ∙ h (listen.starting 0) two_sets 0 35 (leb-true 35 35 refl) refl refl)
@@ -292,7 +293,7 @@ second_good (f ∷ good command bytes ∷ more) = true
 second_good (f ∷ refused number ∷ more) = false
 
 digits_left : HearsWritten leaves_digits → ⊥
-unfolding overlaid digit nibble check body frame body_says broken_says taken no_chars held_of unfinished stream.allowed stream.hearing box_hearing
+unfolding overlaid digit nibble check body frame body_says broken_says taken few front_of held_of unfinished stream.allowed stream.hearing box_hearing
 digits_left h =
     let e =
     h 1 [] (leb-true 1 15 refl) (leb-true 0 35 refl) (record { below = refl }) (held_of (inside (0x37 ∷ []))) refl refl []

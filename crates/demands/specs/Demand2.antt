@@ -61,7 +61,7 @@ then_written held command bytes more = broken_in (unfinished held) ++ good comma
 abbrev pub HearsWritten : (Held → List ℕ → ℕ → Given Heard) → Type 0
 HearsWritten hear =
     (command : ℕ) (bytes : List ℕ) → command ≤ most_nibble → length bytes ≤ most_data → Bytes bytes
-    → (held : Held) → length held.chars ≡ most_held → allowed held ≡ true → (more : List ℕ) (offers : List (Offer ℕ))
+    → (held : Held) → length held.chars.bytes ≡ most_held → allowed held ≡ true → (more : List ℕ) (offers : List (Offer ℕ))
     → let end = Cutting.calls (λ h room piece. step_of (hear h piece room)) held (frame command bytes ++ more) offers in
     end.taken ≡ length (frame command bytes ++ more)
     → end
@@ -77,7 +77,7 @@ WrittenIsHeard = HearsWritten box_hearing
 abbrev pub WrittenIsAnswered : Type 0
 WrittenIsAnswered =
     (command : ℕ) (bytes : List ℕ) → command ≤ most_nibble → length bytes ≤ most_data → Bytes bytes
-    → (board : Board) → length board.held.chars ≡ most_held → allowed board.held ≡ true → (more : List ℕ) (deeds : List Deed) → is_calls deeds ≡ true
+    → (board : Board) → length board.held.chars.bytes ≡ most_held → allowed board.held ≡ true → (more : List ℕ) (deeds : List Deed) → is_calls deeds ≡ true
     → (talk board (frame command bytes ++ more) deeds).taken ≡ length (frame command bytes ++ more)
     → (talk board (frame command bytes ++ more) deeds).said ≡ said_to_all board.core (then_written board.held command bytes more)
 
@@ -192,7 +192,7 @@ RepliesAreUnderstood =
 -- are handed to, in any cutting and whatever frame it holds unfinished, says of it what it says of that request.
 pub record ReadAs (command : ℕ) (bytes : List ℕ) (request more : List ℕ) : Type 0 where
   pub frame_is : frames_of (request ++ more) ≡ good command bytes ∷ frames_of more
-  pub board_says : (board : Board) (deeds : List Deed) → length board.held.chars ≡ most_held → allowed board.held ≡ true → is_calls deeds ≡ true
+  pub board_says : (board : Board) (deeds : List Deed) → length board.held.chars.bytes ≡ most_held → allowed board.held ≡ true → is_calls deeds ≡ true
       → (talk board (request ++ more) deeds).taken ≡ length (request ++ more)
       → (talk board (request ++ more) deeds).said ≡ said_to_all board.core (then_written board.held command bytes more)
 

@@ -73,17 +73,17 @@ AnyCutting =
 -- frames, outcomes and replies; and at the box in the same frames and the same frame held. (An array has its entries in every value of
 -- its type, which `length` says here and below.)
 pub record CuttingChangesNothing : Type 0 where
-  pub at_board : (board : Board) → length board.held.chars ≡ most_held → (bytes : List ℕ) (deeds deeds' : List Deed) → is_calls deeds ≡ true → is_calls deeds' ≡ true
+  pub at_board : (board : Board) → length board.held.chars.bytes ≡ most_held → (bytes : List ℕ) (deeds deeds' : List Deed) → is_calls deeds ≡ true → is_calls deeds' ≡ true
       → (talk board bytes deeds).taken ≡ (talk board bytes deeds').taken → talk board bytes deeds ≡ talk board bytes deeds'
-  pub at_box : (held : Held) → length held.chars ≡ most_held → (bytes : List ℕ) (offers offers' : List (Offer ℕ))
+  pub at_box : (held : Held) → length held.chars.bytes ≡ most_held → (bytes : List ℕ) (offers offers' : List (Offer ℕ))
       → (Cutting.calls box_hears held bytes offers).taken ≡ (Cutting.calls box_hears held bytes offers').taken
       → Cutting.calls box_hears held bytes offers ≡ Cutting.calls box_hears held bytes offers'
 
 -- "An empty piece takes 0 and changes nothing."
 pub record EmptyChangesNothing : Type 0 where
-  pub at_board : (board : Board) (room : ℕ) → length board.held.chars ≡ most_held → board_allowed board ≡ true → frame_room ≤ room
+  pub at_board : (board : Board) (room : ℕ) → length board.held.chars.bytes ≡ most_held → board_allowed board ≡ true → frame_room ≤ room
       → answering board [] room ≡ record { answer = record { board = board; outcome = Outcome.Nothing; len = 0; taken = 0 }; written = [] }
-  pub at_box : (held : Held) (room : ℕ) → length held.chars ≡ most_held → stream.allowed held ≡ true → most_data ≤ room
+  pub at_box : (held : Held) (room : ℕ) → length held.chars.bytes ≡ most_held → stream.allowed held ≡ true → most_data ≤ room
       → box_hearing held [] room ≡ record { answer = record { held = held; event = Ok None; taken = 0 }; written = [] }
 
 -- Calls that are handed a byte at least and lend room enough take every byte, in as many calls as there are bytes; from any allowed state.
@@ -140,7 +140,7 @@ NamedIsListed = follow.NamedIsListed
 pub record Rests (board : Board) : Type 0 where
   pub is_allowed : board_allowed board ≡ true
   pub not_inside : board.held.inside ≡ false
-  pub held_long : length board.held.chars ≡ most_held
+  pub held_long : length board.held.chars.bytes ≡ most_held
 
 -- The ordinary feeding is such a row: a call for each Set with room enough, handed that Set at least.
 abbrev pub set_by_set : List Ended → List Deed → Bool
@@ -200,5 +200,5 @@ ListIsConfirmed =
     let list = (listing from to room).written in
     (deeds : List Deed) → is_calls deeds ≡ true → (talk board list deeds).taken ≡ length list
     → let replies = replies_of (talk board list deeds).said in
-    (held : Held) → length held.chars ≡ most_held → stream.allowed held ≡ true
+    (held : Held) → length held.chars.bytes ≡ most_held → stream.allowed held ≡ true
     → (offers : List (Offer ℕ)) → (Cutting.calls box_hears held replies offers).taken ≡ length replies → Confirmed from to (followed from to held replies offers)

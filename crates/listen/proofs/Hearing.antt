@@ -55,7 +55,7 @@ pub box_all : (held : Held) (bytes : List ℕ) (offers : List (Offer ℕ)) → a
 unfolding box_hearing
 box_all = all_is_taken
 
-module _ (held : Held) (long : length held.chars ≡ 74) where
+module _ (held : Held) (long : length held.chars.bytes ≡ 74) where
   pub box_whole : allowed held ≡ true → (bytes : List ℕ) (offers : List (Offer ℕ)) → (calls box_hears held bytes offers).taken ≡ length bytes
       → calls box_hears held bytes offers ≡ record { state = held_of (left_from (unfinished held) bytes); events = frames_from (unfinished held) bytes; taken = length bytes }
   unfolding box_hearing

@@ -1,9 +1,7 @@
 -- `board::hearing::heard` meets its contract. Assumes nothing.
-use mathlib.Core.Path.{◌≡◌, subst, sym, ◌∙◌}
-use Rattle.laws.specs.Promise.{Given, Gives}
+use mathlib.Core.Path.{◌≡◌, sym, ◌∙◌}
 use Rattle.stream.specs.Calls.{hearing}
 use Rattle.answers.specs.AsHeld.{decided_of}
-use Rattle.board.specs.declared.Answered.{Answered}
 use Rattle.board.proofs.Sending.{sendable, decided_is}
 use Rattle.board.proofs.Heeding.{decision, heeded}
 use Rattle.board.proofs.hearing.heard.Goals as goal

@@ -1,10 +1,9 @@
 -- `board::hearing::put` meets its contract. Assumes nothing.
-use mathlib.Core.Path.{◌≡◌, refl}
+use mathlib.Core.Path.{refl}
 use Prim.Native.Nat.{◌≤◌}
 use native.Mathlib.Omega.{arith}
 use lib.ListN.{length, take, length-take}
 use Rattle.laws.proofs.Promise.{gives_none}
-use Rattle.board.specs.AsHeld.{Sendable}
 use Rattle.board.proofs.Sending.{made_is, made_whole}
 use Rattle.board.proofs.hearing.put.Goals as goal
 use Rattle.board.proofs.hearing.put.Goals.{In-Frame}
