@@ -14,18 +14,15 @@ use Rattle.stream.specs.Stream.{left_from, left_by, frames_from}
 use Rattle.stream.specs.Calls.{allowed, unfinished, held_of, unheard, heard_of, hearing}
 use Rattle.stream.specs.Laws.{Cut}
 use Rattle.stream.specs.declared.Held.{Held}
-use Rattle.stream.specs.declared.Event.{Event}
+use Rattle.std.specs.Prelude.{Ok, Err, None}
+use Rattle.paper.specs.declared.Refusal.{Refusal}
+use Rattle.paper.specs.Numbers.{short_buffer, number_of}
 use Rattle.stream.proofs.Answers.{hearing_short, hearing_heard}
 use Rattle.stream.proofs.Theorems.{any_cutting, whole_is_heard, all_is_taken, cutting_changes_nothing, empty_changes_nothing, refused_is_small}
 use Rattle.listen.specs.Hearing.{box_hearing, box_hears}
 
--- the stream's call is the box's
-pub box_is : box_hearing ≡ hearing
-unfolding box_hearing
-box_is = refl
-
 module _ (held : Held) (piece : List ℕ) (room : ℕ) where
-  pub box_short : room < 35 → box_hearing held piece room ≡ unheard held 11
+  pub box_short : room < 35 → box_hearing held piece room ≡ unheard held short_buffer
   unfolding box_hearing
   box_short = hearing_short held piece room
 
@@ -35,9 +32,9 @@ module _ (held : Held) (piece : List ℕ) (room : ℕ) where
 
 -- a frame is refused by one of the numbers 1 to 4, and no other
 pub small_refusal : (held : Held) → allowed held ≡ true → (piece : List ℕ) (room : ℕ) → 35 ≤ room
-    → (n : ℕ) → (box_hearing held piece room).answer.event ≡ Event.Refused n → ltb 4 n ≡ false
+    → (r : Refusal) → (box_hearing held piece room).answer.event ≡ Err r → ltb 4 (number_of r) ≡ false
 unfolding box_hearing
-small_refusal held ok piece room enough n e = le-ltb 4 n (refused_is_small held piece room n ok enough e)
+small_refusal held ok piece room enough r e = le-ltb 4 (number_of r) (refused_is_small held piece room r ok enough e)
 
 -- a row of calls, and a row of one
 pub box_cutting : (earlier bytes : List ℕ) (offers : List (Offer ℕ)) → Cut earlier bytes (calls box_hears (held_of (left_by earlier)) bytes offers)
@@ -67,6 +64,6 @@ module _ (held : Held) (long : length held.chars.bytes ≡ 74) where
   box_same = cutting_changes_nothing held long
 
   pub box_empty : (room : ℕ) → allowed held ≡ true → 35 ≤ room
-      → box_hearing held [] room ≡ record { answer = record { held = held; event = Event.Nothing; taken = 0 }; written = [] }
+      → box_hearing held [] room ≡ record { answer = record { held = held; event = Ok None; taken = 0 }; written = [] }
   unfolding box_hearing
   box_empty room = empty_changes_nothing held room long

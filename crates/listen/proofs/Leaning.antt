@@ -17,7 +17,9 @@ use Rattle.stream.specs.Calls.{allowed, unfinished, event_of, data_of_first}
 use Rattle.wire.specs.Laws.{Writable}
 use Rattle.stream.specs.Laws.{Writables, whole}
 use Rattle.stream.specs.Laws as stream
-use Rattle.stream.specs.declared.Event.{Event}
+use Rattle.stream.specs.Answers.{Event}
+use Rattle.std.specs.Prelude.{Some, None, Ok, Err}
+use Rattle.wire.specs.declared.Frame.{Frame}
 use Rattle.stream.specs.declared.Heard.{Heard}
 use Rattle.stream.proofs.Theorems.{heard_is_writable, only_a_frame_is_written}
 use Rattle.stream.proofs.Streams.{taken_within}
@@ -38,9 +40,9 @@ call_refused =
 
 -- what the stream hears is no refusal of the call
 heard_none : (e : Event) → refusal_of (told_by e) ≡ none
-heard_none Event.Nothing = refl
-heard_none (Event.Frame command len) = refl
-heard_none (Event.Refused number) = refl
+heard_none (Ok None) = refl
+heard_none (Ok (Some frame)) = refl
+heard_none (Err refusal) = refl
 
 pub given_when : ReadGivenWhen
 given_when l piece time room = by _ _ _ refl refl refl
@@ -54,9 +56,9 @@ given_when l piece time room = by _ _ _ refl refl refl
 
 -- a frame is told exactly where the stream heard one
 frame_told : (e : Event) → is_frame (told_by e) ≡ stream.is_frame e
-frame_told Event.Nothing = refl
-frame_told (Event.Frame command len) = refl
-frame_told (Event.Refused number) = refl
+frame_told (Ok None) = refl
+frame_told (Ok (Some frame)) = refl
+frame_told (Err refusal) = refl
 
 pub only_frame : OnlyAFrameIsWritten
 unfolding box_hearing
@@ -76,44 +78,43 @@ takes_to_the_end l piece time room enough ok early =
 
 -- a frame that is told
 
-told_frame : (e : Event) (command len : ℕ) → told_by e ≡ Told.Frame command len → e ≡ Event.Frame command len
-told_frame Event.Nothing command len e = let z : ◌≡◌ {A = ℕ} 0 1 = cc in absurd (omega arith)
-told_frame (Event.Frame c n) command len e = cc
-told_frame (Event.Refused number) command len e = let z : ◌≡◌ {A = ℕ} 0 1 = cc in absurd (omega arith)
+told_frame : (e : Event) (frame : Frame) → told_by e ≡ Told.Frame frame → e ≡ Ok (Some frame)
+told_frame (Ok None) frame e = let impossible : ⊥ = cc in absurd impossible
+told_frame (Ok (Some f)) frame e = cc
+told_frame (Err refusal) frame e = let impossible : ⊥ = cc in absurd impossible
 
-frame_of : (frames : List Ended) (command len : ℕ) → Writables frames → event_of frames ≡ Event.Frame command len → Whole command len (data_of_first frames)
-frame_of [] command len w e = let z : ◌≡◌ {A = ℕ} 0 1 = cc in absurd (omega arith)
-frame_of (refused number ∷ rest) command len w e = let z : ◌≡◌ {A = ℕ} 0 1 = cc in absurd (omega arith)
-frame_of (good c bytes ∷ rest) command len (whole w ws) e =
-    let same : c ≡ command = cc in
-    let long : len ≡ length bytes = cc in
-    record { long = long; writable = subst (λ (k : ℕ). Writable k bytes) same w }
+frame_of : (frames : List Ended) (frame : Frame) → Writables frames → event_of frames ≡ Ok (Some frame) → Whole frame.command frame.len (data_of_first frames)
+frame_of [] frame w e = let impossible : ⊥ = cc in absurd impossible
+frame_of (refused refusal ∷ rest) frame w e = let impossible : ⊥ = cc in absurd impossible
+frame_of (good c bytes ∷ rest) frame (whole w ws) e =
+    let same : ◌≡◌ {A = Frame} (record { command = c; len = length bytes }) frame = cc in
+    record { long = ap (λ (f : Frame). f.len) (sym same); writable = subst (λ (f : Frame). Writable f.command bytes) same w }
 
 pub frame_whole : FrameIsWhole
-frame_whole l piece time room command len =
-    cases l piece time room (λ g. g.answer.told ≡ Told.Frame command len → Whole command len g.written)
-    (λ n e. let z : ◌≡◌ {A = ℕ} 0 1 = cc in absurd (omega arith))
-    (λ enough ok over e. let z : ◌≡◌ {A = ℕ} 0 1 = cc in absurd (omega arith))
-    (λ enough ok early e. hears enough ok (told_frame (box_hearing l.held piece room).answer.event command len e))
+frame_whole l piece time room frame =
+    cases l piece time room (λ g. g.answer.told ≡ Told.Frame frame → Whole frame.command frame.len g.written)
+    (λ n e. let impossible : ⊥ = cc in absurd impossible)
+    (λ enough ok over e. let impossible : ⊥ = cc in absurd impossible)
+    (λ enough ok early e. hears enough ok (told_frame (box_hearing l.held piece room).answer.event frame e))
   where
-    hears : 35 ≤ room → allowed l.held ≡ true → (box_hearing l.held piece room).answer.event ≡ Event.Frame command len → Whole command len (box_hearing l.held piece room).written
+    hears : 35 ≤ room → allowed l.held ≡ true → (box_hearing l.held piece room).answer.event ≡ Ok (Some frame) → Whole frame.command frame.len (box_hearing l.held piece room).written
     hears enough ok e =
         let heard = box_heard l.held piece room enough ok in
         let bytes : List ℕ = take (taken (unfinished l.held) piece) piece in
-        rw heard (frame_of (frames_from (unfinished l.held) bytes) command len (heard_is_writable (unfinished l.held) bytes) (rw heard at e))
+        rw heard (frame_of (frames_from (unfinished l.held) bytes) frame (heard_is_writable (unfinished l.held) bytes) (rw heard at e))
 
 -- and every event is one of a stream
 
-told_on_stream : (told : Told) (written : List ℕ) → ((command len : ℕ) → told ≡ Told.Frame command len → Whole command len written) → OnStream (events_in told written)
+told_on_stream : (told : Told) (written : List ℕ) → ((frame : Frame) → told ≡ Told.Frame frame → Whole frame.command frame.len written) → OnStream (events_in told written)
 told_on_stream Told.Nothing written w = nothing
-told_on_stream (Told.Frame command len) written w =
-    let is = w command len refl in
-    let long : len ≡ length written = is.long in
-    rw (take_all len written (omega arith)) (a_frame is.writable.small nothing)
-told_on_stream (Told.Broken number) written w = a_refusal nothing
+told_on_stream (Told.Frame frame) written w =
+    let is = w frame refl in
+    let long : frame.len ≡ length written = is.long in
+    rw (take_all frame.len written (omega arith)) (a_frame is.writable.small nothing)
+told_on_stream (Told.Broken refusal) written w = a_refusal nothing
 told_on_stream Told.NoAnswer written w = a_silence nothing
-told_on_stream (Told.Refused number) written w = nothing
+told_on_stream (Told.Refused refusal) written w = nothing
 
 pub on_stream : EventsAreOnStream
 on_stream l piece time room =
-    told_on_stream (listening l piece time room).answer.told (listening l piece time room).written (λ command len. frame_whole l piece time room command len)
+    told_on_stream (listening l piece time room).answer.told (listening l piece time room).written (frame_whole l piece time room)

@@ -16,7 +16,10 @@ use Rattle.stream.specs.Calls.{held_of}
 use Rattle.stream.specs.Laws.{frame_in}
 use Rattle.stream.specs.Laws as stream
 use Rattle.stream.specs.declared.Held.{Held}
-use Rattle.stream.specs.declared.Event.{Event}
+use Rattle.stream.specs.Answers.{Event}
+use Rattle.std.specs.Prelude.{Some, None, Ok, Err}
+use Rattle.paper.specs.declared.Refusal.{Refusal}
+use Rattle.paper.specs.Numbers.{number_of}
 use Rattle.stream.proofs.Helds.{held_long}
 use Rattle.stream.proofs.Reached.{left_allowed}
 use Rattle.listen.specs.declared.Listener.{Listener}
@@ -28,10 +31,10 @@ use Rattle.listen.proofs.Hearing.{box_short, box_empty, box_cutting, box_all, on
 use Rattle.listen.proofs.Settling.{listening_short, listening_late, listening_heard}
 
 -- what is told, read as frames
-frames_told : (e : Event) (written : List ℕ) → ((n : ℕ) → e ≡ Event.Refused n → ltb 4 n ≡ false) → frames_in (told_by e) written ≡ frame_in e written
-frames_told Event.Nothing written small = refl
-frames_told (Event.Frame command len) written small = refl
-frames_told (Event.Refused n) written small = rw (small n refl)
+frames_told : (e : Event) (written : List ℕ) → ((r : Refusal) → e ≡ Err r → ltb 4 (number_of r) ≡ false) → frames_in (told_by e) written ≡ frame_in e written
+frames_told (Ok None) written small = refl
+frames_told (Ok (Some frame)) written small = refl
+frames_told (Err r) written small = rw (small r refl)
 
 -- A listener beside the stream alone: the same frame held, the same frames told, the same bytes taken; and its two times.
 pub record Alike (begun asked : ℕ) (mine : Step Listener Ended) (heard : Step Held Ended) : Type 0 where

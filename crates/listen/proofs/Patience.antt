@@ -11,7 +11,8 @@ use Rattle.laws.specs.Promise.{Given}
 use Rattle.laws.specs.Cutting.{Offer, calls}
 use Rattle.laws.proofs.Bools.{and_left, and_right, or_cases, or_first, or_second}
 use Rattle.stream.specs.Calls.{allowed}
-use Rattle.stream.specs.declared.Event.{Event}
+use Rattle.stream.specs.Answers.{Event}
+use Rattle.std.specs.Prelude.{Some, None, Ok, Err}
 use Rattle.listen.specs.declared.Listener.{Listener}
 use Rattle.listen.specs.declared.Told.{Told}
 use Rattle.listen.specs.declared.Listened.{Listened}
@@ -43,15 +44,15 @@ told_over begun asked time (trailer_over h) =
 -- one read
 
 never_by : {A : Type 0} (e : Event) → told_by e ≡ Told.NoAnswer → A
-never_by Event.Nothing e = let z : ◌≡◌ {A = ℕ} 0 1 = cc in absurd (omega arith)
-never_by (Event.Frame command len) e = let z : ◌≡◌ {A = ℕ} 0 1 = cc in absurd (omega arith)
-never_by (Event.Refused number) e = let z : ◌≡◌ {A = ℕ} 0 1 = cc in absurd (omega arith)
+never_by (Ok None) e = let impossible : ⊥ = cc in absurd impossible
+never_by (Ok (Some frame)) e = let impossible : ⊥ = cc in absurd impossible
+never_by (Err refusal) e = let impossible : ⊥ = cc in absurd impossible
 
 module _ (l : Listener) (piece : List ℕ) (time room : ℕ) where
   late_is : (listening l piece time room).answer.told ≡ Told.NoAnswer → is_over l.begun l.asked time ≡ true
   late_is =
       cases l piece time room (λ g. g.answer.told ≡ Told.NoAnswer → is_over l.begun l.asked time ≡ true)
-      (λ n e. let z : ◌≡◌ {A = ℕ} 0 1 = cc in absurd (omega arith))
+      (λ n e. let impossible : ⊥ = cc in absurd impossible)
       (λ enough ok over e. over)
       (λ enough ok early e. never_by (box_hearing l.held piece room).answer.event e)
 

@@ -1,11 +1,12 @@
 -- What each public call answers, for every input. What the box hears of the bytes meets its patience.
 -- Assumes nothing.
-use Rattle.std.specs.Prelude.{ℕ, zero, ◌-◌, Bool, cond, not, ◌||◌, List, [], ltb, leb}
+use Rattle.std.specs.Prelude.{ℕ, zero, ◌-◌, Bool, cond, Some, None, Ok, Err, not, ◌||◌, List, [], ltb, leb}
 use Rattle.laws.specs.Promise.{Given}
+use Rattle.paper.specs.declared.Refusal.{Refusal}
 use Rattle.paper.specs.Numbers.{most_data, short_buffer, not_allowed}
 use Rattle.stream.specs.Stream.{outside}
 use Rattle.stream.specs.Calls.{allowed, held_of}
-use Rattle.stream.specs.declared.Event.{Event}
+use Rattle.stream.specs.Answers.{Event}
 use Rattle.stream.specs.declared.Heard.{Heard}
 use Rattle.listen.specs.Hearing.{box_hearing}
 use Rattle.listen.specs.declared.Listener.{Listener}
@@ -32,19 +33,23 @@ starting time = record { held = held_of outside; begun = time; asked = time }
 abbrev pub asking : Listener → ℕ → Listener
 asking l time = record { held = l.held; begun = l.begun; asked = time }
 
+-- nothing is done: the listener is as it was, and nothing is taken
+abbrev pub idle : Listener → Told → Listened
+idle l told = record { listener = l; told = told; taken = zero }
+
 -- 11 and 12: "a state handed in comes back as it was, with counts and lengths 0"
-abbrev pub refusing : Listener → ℕ → Listened
-refusing l number = record { listener = l; told = Told.Refused number; taken = zero }
+abbrev pub refusing : Listener → Refusal → Listened
+refusing l refusal = idle l (Told.Refused refusal)
 
 -- the time is over: nothing is taken
 abbrev pub late : Listener → Listened
-late l = record { listener = l; told = Told.NoAnswer; taken = zero }
+late l = idle l Told.NoAnswer
 
 -- a frame that ended well, one that is broken, or none
 abbrev pub told_by : Event → Told
-told_by Event.Nothing = Told.Nothing
-told_by (Event.Frame command len) = Told.Frame command len
-told_by (Event.Refused number) = Told.Broken number
+told_by (Ok None) = Told.Nothing
+told_by (Ok (Some frame)) = Told.Frame frame
+told_by (Err refusal) = Told.Broken refusal
 
 abbrev pub reported : Listener → Heard → Listened
 reported l heard =

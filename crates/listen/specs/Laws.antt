@@ -5,8 +5,10 @@ use Rattle.std.proofs.Math.Option.{Option, none, some}
 use Rattle.laws.specs.Promise.{Given}
 use Rattle.laws.specs.Refusals.{row, first_of}
 use Rattle.laws.specs.Cutting.{Step, Offer, calls, ready}
-use Rattle.paper.specs.Numbers.{most_data}
+use Rattle.paper.specs.declared.Refusal.{Refusal}
+use Rattle.paper.specs.Numbers.{most_data, short_buffer, not_allowed, number_of}
 use Rattle.wire.specs.Parsing.{Ended, good, refused}
+use Rattle.wire.specs.declared.Frame.{Frame}
 use Rattle.stream.specs.Stream.{frames_from, left_by}
 use Rattle.stream.specs.Calls.{allowed, unfinished, held_of}
 use Rattle.wire.specs.Laws.{Writable}
@@ -18,13 +20,13 @@ use Rattle.listen.specs.declared.Told.{Told}
 use Rattle.listen.specs.declared.Listened.{Listened}
 
 -- 1. The stream in any cutting. What a read tells of the stream: a frame with its data, of the length that is said (one of another length is
--- none that a stream has); a frame that is refused; or no frame.
+-- none that a stream has: it counts as refused 12, which no frame is); a frame that is refused; or no frame.
 abbrev pub frames_in : Told → List ℕ → List Ended
 frames_in Told.Nothing written = []
-frames_in (Told.Frame command len) written = cond (eqb len (length written)) (good command written) (refused 0) ∷ []
-frames_in (Told.Broken number) written = refused number ∷ []
+frames_in (Told.Frame frame) written = cond (eqb frame.len (length written)) (good frame.command written) (refused not_allowed) ∷ []
+frames_in (Told.Broken refusal) written = refused refusal ∷ []
 frames_in Told.NoAnswer written = []
-frames_in (Told.Refused number) written = []
+frames_in (Told.Refused refusal) written = []
 
 -- one read: whether a request was sent before it and when, the time that it is handed, and with how much room
 pub record Turn : Type 0 where
@@ -139,15 +141,15 @@ LateTakesNothing =
     (l : Listener) (piece : List ℕ) (time room : ℕ) → (listening l piece time room).answer.told ≡ Told.NoAnswer → Untouched l piece time room
 
 -- 11 and 12: "no byte taken or written", and the listener comes back as it was.
-abbrev pub nothing_done : Listener → ℕ → Given Listened
-nothing_done l number = record { answer = record { listener = l; told = Told.Refused number; taken = 0 }; written = [] }
+abbrev pub nothing_done : Listener → Refusal → Given Listened
+nothing_done l refusal = record { answer = record { listener = l; told = Told.Refused refusal; taken = 0 }; written = [] }
 
 abbrev pub refusal_of : Told → Option ℕ
 refusal_of Told.Nothing = none
-refusal_of (Told.Frame command len) = none
-refusal_of (Told.Broken number) = none
+refusal_of (Told.Frame frame) = none
+refusal_of (Told.Broken refusal) = none
 refusal_of Told.NoAnswer = none
-refusal_of (Told.Refused number) = some number
+refusal_of (Told.Refused refusal) = some (number_of refusal)
 
 abbrev pub ReadGivenWhen : Type 0
 ReadGivenWhen =
@@ -155,8 +157,8 @@ ReadGivenWhen =
     → refusal_of (listening l piece time room).answer.told ≡ first_of (row 11 (ltb room 35) ∷ row 12 (not (allowed l.held)) ∷ [])
 
 pub record CallIsRefused : Type 0 where
-  pub short : (l : Listener) (piece : List ℕ) (time room : ℕ) → room < 35 → listening l piece time room ≡ nothing_done l 11
-  pub stray : (l : Listener) (piece : List ℕ) (time room : ℕ) → 35 ≤ room → allowed l.held ≡ false → listening l piece time room ≡ nothing_done l 12
+  pub short : (l : Listener) (piece : List ℕ) (time room : ℕ) → room < 35 → listening l piece time room ≡ nothing_done l short_buffer
+  pub stray : (l : Listener) (piece : List ℕ) (time room : ℕ) → 35 ≤ room → allowed l.held ≡ false → listening l piece time room ≡ nothing_done l not_allowed
 
 -- 3. What the caller of one read may lean on, whatever it handed in: no more bytes are taken than the piece has; and a frame that is told
 -- has its data at the front of the buffer, as many bytes as are said, within what the writer takes.
@@ -169,16 +171,16 @@ pub record Whole (command len : ℕ) (written : List ℕ) : Type 0 where
 
 abbrev pub FrameIsWhole : Type 0
 FrameIsWhole =
-    (l : Listener) (piece : List ℕ) (time room command len : ℕ) → (listening l piece time room).answer.told ≡ Told.Frame command len
-    → Whole command len (listening l piece time room).written
+    (l : Listener) (piece : List ℕ) (time room : ℕ) (frame : Frame) → (listening l piece time room).answer.told ≡ Told.Frame frame
+    → Whole frame.command frame.len (listening l piece time room).written
 
 -- "The data fill the front of the buffer only when 1 to 4 are passed": where no frame is told, nothing is written.
 abbrev pub is_frame : Told → Bool
 is_frame Told.Nothing = false
-is_frame (Told.Frame command len) = true
-is_frame (Told.Broken number) = false
+is_frame (Told.Frame frame) = true
+is_frame (Told.Broken refusal) = false
 is_frame Told.NoAnswer = false
-is_frame (Told.Refused number) = false
+is_frame (Told.Refused refusal) = false
 
 abbrev pub OnlyAFrameIsWritten : Type 0
 OnlyAFrameIsWritten =
@@ -187,10 +189,10 @@ OnlyAFrameIsWritten =
 -- What is told, as the event that the follower and the collector know, if it is one; every one of them is an event of a stream.
 abbrev pub events_in : Told → List ℕ → List Event
 events_in Told.Nothing written = []
-events_in (Told.Frame command len) written = heard command (take len written) ∷ []
-events_in (Told.Broken number) written = refused_frame ∷ []
+events_in (Told.Frame frame) written = heard frame.command (take frame.len written) ∷ []
+events_in (Told.Broken refusal) written = refused_frame ∷ []
 events_in Told.NoAnswer written = no_answer ∷ []
-events_in (Told.Refused number) written = []
+events_in (Told.Refused refusal) written = []
 
 abbrev pub EventsAreOnStream : Type 0
 EventsAreOnStream =

@@ -1,56 +1,48 @@
-// What a read answers: a refusal, that the time is over, or what the stream says.
+// What a read answers: that it did nothing and why, or what the stream says.
 ghost use Rattle.std.specs.Prelude.{◌≡◌};
 ghost use Rattle.listen.specs.Calls as calls;
 
 use crate::{Listened, Listener, Told};
-use stream::{Event, Heard};
+use paper::Refusal;
+use stream::Heard;
+use wire::Frame;
 
-// Refuses a call: the listener is as it was, and nothing is taken.
-pub(crate) fn refused(listener: Listener, number: u8) -> Listened
-    ensures { result ≡ calls.refusing listener number }
-{
-    Listened {
-        listener,
-        told: Told::Refused(number),
-        taken: 0,
+impl Listener {
+    // Tells why nothing was done: the listener is as it was, and nothing is taken.
+    pub(crate) fn idle(self, told: Told) -> Listened
+        ensures { result ≡ calls.idle self told }
+    {
+        Listened {
+            listener: self,
+            told,
+            taken: 0,
+        }
+    }
+
+    // Tells what the stream made of the bytes.
+    pub(crate) fn reported(self, heard: Heard) -> Listened
+        ensures { result ≡ calls.reported self heard }
+    {
+        Listened {
+            listener: Listener {
+                held: heard.held,
+                ..self
+            },
+            told: Told::from(heard.event),
+            taken: heard.taken,
+        }
     }
 }
 
-// Tells that the time is over: the listener is as it was, and nothing is taken.
-pub(crate) fn late(listener: Listener) -> Listened
-    ensures { result ≡ calls.late listener }
-{
-    Listened {
-        listener,
-        told: Told::NoAnswer,
-        taken: 0,
-    }
-}
+// What the stream's event tells.
+impl From<Result<Option<Frame>, Refusal>> for Told {
+    ghost from_gives = { λ event told. told ≡ calls.told_by event };
 
-// Returns what the stream's event tells.
-fn told_by(event: Event) -> Told
-    ensures { result ≡ calls.told_by event }
-{
-    match event {
-        Event::Nothing => Told::Nothing,
-        Event::Frame { command, len } => Told::Frame { command, len },
-        Event::Refused(number) => Told::Broken(number),
-    }
-}
-
-// Tells what the stream made of the bytes.
-pub(crate) fn reported(listener: Listener, heard: Heard) -> Listened
-    ensures { result ≡ calls.reported listener heard }
-{
-    let held = heard.held;
-    let event = heard.event;
-    Listened {
-        listener: Listener {
-            held,
-            begun: listener.begun,
-            asked: listener.asked,
-        },
-        told: told_by(event),
-        taken: heard.taken,
+    fn from(event: Result<Option<Frame>, Refusal>) -> Told {
+        match event {
+            Ok(None) => Told::Nothing,
+            Ok(Some(frame)) => Told::Frame(frame),
+            Err(refusal) => Told::Broken(refusal),
+        }
     }
 }

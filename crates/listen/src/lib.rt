@@ -8,14 +8,16 @@ ghost use Rattle.laws.specs.Promise.{Gives};
 ghost use Rattle.listen.specs.Calls.{starting, asking, listening};
 ghost use Rattle.listen.specs.declared.Listened.{Listened};
 
+use paper::Refusal;
 use stream::Held;
+use wire::Frame;
 
 mod answer;
 mod numbers;
 mod times;
 
 // The unfinished frame, and two times: when the trailer was begun, and when the last request was sent.
-#[derive(Clone, Copy)]
+#[derive(Clone, Copy, PartialEq, Eq)]
 pub struct Listener {
     pub held: Held,
     pub begun: u64,
@@ -23,18 +25,18 @@ pub struct Listener {
 }
 
 // What a read tells: to wait on; a frame, its data at the front of the lent buffer; a frame that document 01 refuses, 1 to 4; that the
-// board gave no answer in time; or the number of the refusal of the call itself, 11 or 12.
-#[derive(Clone, Copy)]
+// board gave no answer in time; or the refusal of the call itself, 11 or 12.
+#[derive(Clone, Copy, PartialEq, Eq)]
 pub enum Told {
     Nothing,
-    Frame { command: u8, len: usize },
-    Broken(u8),
+    Frame(Frame),
+    Broken(Refusal),
     NoAnswer,
-    Refused(u8),
+    Refused(Refusal),
 }
 
 // The advanced listener, what it tells, and how many bytes of the piece it took.
-#[derive(Clone, Copy)]
+#[derive(Clone, Copy, PartialEq, Eq)]
 pub struct Listened {
     pub listener: Listener,
     pub told: Told,
@@ -46,9 +48,8 @@ impl Listener {
     pub fn start(time: u64) -> Listener
         ensures { result ≡ starting time }
     {
-        let held = Held::outside();
         Listener {
-            held,
+            held: Held::outside(),
             begun: time,
             asked: time,
         }
@@ -65,20 +66,19 @@ impl Listener {
     // Takes the bytes of one read at this time, or what an earlier call did not take of them; none if the read gave none. Where the
     // request's or the trailer's time is over it takes nothing and tells so. Refuses 11 under 35 bytes of room, then 12 for an unfinished
     // frame that no bytes leave.
+    #[tactic(auto, unfolding(crate::specs::Calls::listening, crate::specs::Hearing::box_hearing, laws::specs::Promise::overlaid))]
     pub fn read(self, piece: &[u8], time: u64, into: &mut [u8]) -> Listened
         ensures { Gives Listened (listening self piece.now time (length into.old)) into.old result into.new }
     {
         if into.len() < paper::MOST_DATA {
-            return answer::refused(self, paper::SHORT_BUFFER);
+            return self.idle(Told::Refused(Refusal::ShortBuffer));
         }
-        let held = self.held;
-        if !held.is_allowed() {
-            return answer::refused(self, paper::NOT_ALLOWED);
+        if !self.held.is_allowed() {
+            return self.idle(Told::Refused(Refusal::NotAllowed));
         }
-        if times::is_over(self.begun, self.asked, time) {
-            return answer::late(self);
+        if self.is_over(time) {
+            return self.idle(Told::NoAnswer);
         }
-        let heard = held.hear(piece, into);
-        answer::reported(self, heard)
+        self.reported(self.held.hear(piece, into))
     }
 }
