@@ -7,6 +7,7 @@ ghost use Rattle.who.specs.Parts.{identity_allowed, no_readings};
 ghost use Rattle.who.specs.Calls.{naming, reading_out};
 
 use paper::Refusal;
+use spans::Byte;
 
 mod names;
 mod numbers;
@@ -69,7 +70,11 @@ impl Identity {
     pub fn is_allowed(self) -> bool
         ensures { result ≡ identity_allowed self }
     {
-        names::is_identity(self)
+        if paper::MOST_SERIAL < self.len {
+            return false;
+        }
+        spans::all(&self.serial[..self.len], names::PRINTED)
+            & spans::all(&self.serial[self.len..], Byte(0))
     }
 }
 

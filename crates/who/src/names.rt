@@ -1,14 +1,14 @@
-// Which identities are allowed. The array is 0 past the serial's length, so that an identity has one form.
+// The identity of a serial. The array is 0 past the serial's length, so that an identity has one form.
 ghost use Rattle.std.specs.Prelude.{◌≡◌, length, ◌≤◌};
 ghost use Rattle.paper.specs.Numbers.{most_serial};
 ghost use Rattle.laws.specs.Promise.{front_of};
-ghost use Rattle.who.specs.Parts.{serial_fits, identity_of, identity_allowed};
+ghost use Rattle.who.specs.Parts.{serial_fits, identity_of};
 
 use crate::{Identity, numbers};
-use spans::{Byte, Within};
+use spans::Within;
 
 // The bytes that a serial may have.
-const PRINTED: Within = Within {
+pub(crate) const PRINTED: Within = Within {
     low: numbers::FIRST_PRINTED,
     high: numbers::LAST_PRINTED,
 };
@@ -43,15 +43,4 @@ pub(crate) fn identity_of(product: u16, version: u16, serial: &[u8]) -> Identity
         len: serial.len(),
         serial: front(serial),
     }
-}
-
-// Returns whether an identity's serial fits, with 0 past its length.
-pub(crate) fn is_identity(identity: Identity) -> bool
-    ensures { result ≡ identity_allowed identity }
-{
-    if paper::MOST_SERIAL < identity.len {
-        return false;
-    }
-    spans::all(&identity.serial[..identity.len], PRINTED)
-        & spans::all(&identity.serial[identity.len..], Byte(0))
 }
