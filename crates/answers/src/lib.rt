@@ -66,9 +66,7 @@ impl Core {
     pub fn is_allowed(self) -> bool
         ensures { result ≡ core_allowed self }
     {
-        let identity = self.identity;
-        let table = self.table;
-        identity.is_allowed() & table.is_allowed()
+        self.identity.is_allowed() & self.table.is_allowed()
     }
 }
 
