@@ -27,7 +27,7 @@ use Rattle.reply.specs.Events.{most_tries}
 use Rattle.collect.specs.Collecting.{fits, valued, intake_of, moved, advanced, begun, within, all_fit, none_after, allowed}
 use Rattle.collect.specs.Laws.{run, good_reply, replies}
 use Rattle.collect.specs.declared.Collector.{Collector}
-use Rattle.collect.specs.declared.intake.Intake.{Intake}
+use Rattle.collect.specs.declared.place.Intake.{Intake}
 use Rattle.collect.proofs.Deciding.{heeded_is}
 use Rattle.collect.proofs.Moving.{few_answered, allowed_within, silence_counts}
 use Rattle.collect.proofs.Fitting.{fits_front, AllFit, front_fit}

@@ -67,8 +67,8 @@ reached_calls c long = (
 
 -- how far it is, by how many are answered
 stage_due : (len : ℕ) (stopped : Bool) → len < count → stage_of len stopped ≢ Stage.Done
-stage_due len true h e = let d = rw (lt-ltb len count h) at e in let z : ◌≡◌ {A = ℕ} 0 1 = cc in absurd (omega arith)
-stage_due len false h e = let d = rw (lt-ltb len count h) at e in let z : ◌≡◌ {A = ℕ} 0 1 = cc in absurd (omega arith)
+stage_due len true h e = let d = rw (lt-ltb len count h) at e in cc
+stage_due len false h e = let d = rw (lt-ltb len count h) at e in cc
 
 stage_done : (len : ℕ) (stopped : Bool) → count ≤ len → stage_of len stopped ≡ Stage.Done
 stage_done len stopped h = rw (le-ltb len count h)
@@ -235,7 +235,7 @@ run_handed events = ends_handed _ _ (begun_ends events)
 
 stray_handed : (c : Collector) → Handed (stray c)
 unfolding stray
-stray_handed c = record { done_allowed = λ e. let z : ◌≡◌ {A = ℕ} 0 1 = cc in absurd (omega arith); else_factory = λ e. refl }
+stray_handed c = record { done_allowed = λ e. cc; else_factory = λ e. refl }
 
 starting_handed : Handed starting
 unfolding starting

@@ -27,7 +27,7 @@ use Rattle.reply.proofs.Theorems.{heed_is_said}
 use Rattle.reply.specs.Events.{most_tries}
 use Rattle.collect.specs.Collecting.{fits, valued, on_heeded, intake_of}
 use Rattle.collect.specs.Laws.{good_reply, carries, Carried, following, carried_after}
-use Rattle.collect.specs.declared.intake.Intake.{Intake}
+use Rattle.collect.specs.declared.place.Intake.{Intake}
 use Rattle.collect.proofs.Deciding.{heeded_is}
 use Rattle.collect.proofs.Reaching.{so_far, taking, taking_on}
 

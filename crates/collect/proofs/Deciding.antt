@@ -18,7 +18,7 @@ use Rattle.reply.specs.Calls.{heeding}
 use Rattle.reply.specs.Answers.{Heeded}
 use Rattle.reply.specs.Events.{heard}
 use Rattle.collect.specs.Collecting.{fits, valued, on_heeded, intake_of}
-use Rattle.collect.specs.declared.intake.Intake.{Intake}
+use Rattle.collect.specs.declared.place.Intake.{Intake}
 
 -- the partner of a setting in the table
 pub partner_small : (k : ℕ) → k < count → (setting_at k).partner < count

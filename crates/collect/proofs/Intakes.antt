@@ -16,7 +16,7 @@ use Rattle.reply.specs.declared.Status.{Status}
 use Rattle.reply.proofs.Choices.{choose}
 use Rattle.reply.specs.Events.{Event, heard, refused_frame, no_answer}
 use Rattle.collect.specs.Collecting.{fits, valued, on_heeded, intake_of}
-use Rattle.collect.specs.declared.intake.Intake.{Intake}
+use Rattle.collect.specs.declared.place.Intake.{Intake}
 
 -- It depends on the numbers only by what fits, and what is taken fits.
 module _ (l m : List ℕ) (k : ℕ) (same : (n : ℕ) → fits l k n ≡ fits m k n) where

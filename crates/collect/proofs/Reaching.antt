@@ -16,7 +16,7 @@ use Rattle.reply.specs.Events.{most_tries}
 use Rattle.collect.specs.Collecting.{fits, intake_of, took, halted, counted, silenced, moved, is_waiting, advanced, begun, within, all_fit, none_after, allowed}
 use Rattle.collect.specs.Laws.{run, Carried, following}
 use Rattle.collect.specs.declared.Collector.{Collector}
-use Rattle.collect.specs.declared.intake.Intake.{Intake}
+use Rattle.collect.specs.declared.place.Intake.{Intake}
 use Rattle.collect.proofs.Moving.{waiting_moves, ended_stays}
 use Rattle.collect.proofs.Fitting.{fits_front, AllFit, none_fit, more_fit}
 use Rattle.collect.proofs.Intakes.{intake_same, Taken, intake_taken}

@@ -12,7 +12,7 @@ use Rattle.reply.specs.Answers.{Heeded}
 use Rattle.reply.specs.Events.{Event, heard, refused_frame, no_answer, most_tries}
 use Rattle.reply.specs.declared.Status.{Status}
 use Rattle.collect.specs.declared.Collector.{Collector}
-use Rattle.collect.specs.declared.intake.Intake.{Intake}
+use Rattle.collect.specs.declared.place.Intake.{Intake}
 
 -- A number fits place k when it is in the setting's own range and agrees with the partner's number, if that was answered before (a number
 -- agrees with itself). So every table that is done is allowed, and a stop names the setting at which it goes wrong.

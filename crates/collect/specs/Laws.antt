@@ -17,7 +17,7 @@ use Rattle.collect.specs.Calls.{told, starting, collecting}
 use Rattle.collect.specs.declared.Collector.{Collector}
 use Rattle.collect.specs.declared.Stage.{Stage}
 use Rattle.collect.specs.declared.Collected.{Collected}
-use Rattle.collect.specs.declared.intake.Intake.{Intake}
+use Rattle.collect.specs.declared.place.Intake.{Intake}
 
 -- A row of calls, each on the collector that the last one handed back.
 abbrev pub calls : Collected → List Event → Collected

@@ -12,7 +12,6 @@ use settings::{COUNT, Setting};
 use tables::Table;
 
 mod answer;
-mod intake;
 mod place;
 mod state;
 

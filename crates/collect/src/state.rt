@@ -4,8 +4,8 @@ ghost use Rattle.settings.specs.Columns.{count};
 ghost use Rattle.reply.specs.Events.{heard, no_answer};
 ghost use Rattle.collect.specs.Collecting as spec;
 
-use crate::intake::Intake;
-use crate::{Collector, intake, place};
+use crate::Collector;
+use crate::place::{Intake, Place};
 use reply::MOST_TRIES;
 use settings::COUNT;
 
@@ -30,9 +30,10 @@ impl Collector {
         requires { self.len ≤ count }
         ensures { result ≡ spec.all_fit self.numbers self.len }
     {
+        let numbers = self.numbers;
         let mut all = true;
-        for i in 0..self.len {
-            all &= place::is_fit(self.numbers, i, self.numbers[i]);
+        for index in 0..self.len {
+            all &= Place { numbers, index }.is_fit(numbers[index]);
         }
         all
     }
@@ -120,7 +121,12 @@ impl Collector {
         if !self.is_waiting() {
             return self;
         }
-        self.moved(intake::of_frame(self.numbers, self.len, command, bytes))
+        let numbers = self.numbers;
+        let due = Place {
+            numbers,
+            index: self.len,
+        };
+        self.moved(due.of_frame(command, bytes))
     }
 
     // Returns a collector to whose Get no answer came. An ended one stays as it was.

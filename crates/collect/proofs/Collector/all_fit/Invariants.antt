@@ -4,5 +4,5 @@ use Rattle.laws.specs.Lists.{up_to}
 use Rattle.collect.specs.Collecting.{fits}
 use Rattle.collect.proofs.Collector.all_fit.Given as goal
 
-abbrev pub invariant-loop-i : goal.invariant-loop-i
-invariant-loop-i l = l.all ≡ up_to l.i (λ k. fits l.self.numbers k (get_or l.self.numbers k 0))
+abbrev pub invariant-loop-index : goal.invariant-loop-index
+invariant-loop-index l = l.all ≡ up_to l.index (λ k. fits l.numbers k (get_or l.numbers k 0))
