@@ -4,6 +4,7 @@ pub mod Differing
 pub mod Restoring
 pub mod Writing
 pub mod Rows
+pub mod Putting
 pub mod Refusing
 pub mod Theorems
 pub mod Same

@@ -1,35 +1,31 @@
 -- The order as the program makes and holds it, and what the calls answer. Assumes nothing.
-use mathlib.Core.Path.{◌≡◌, refl, sym, ap, ap₂, ◌∙◌}
+use mathlib.Core.Path.{◌≡◌, refl, sym, ap, ◌∙◌}
 use mathlib.Core.Bool.{Bool, true, false, cond, not, ◌&&◌}
-use mathlib.Core.List.{List, [], ◌∷◌, ◌++◌, map, append_assoc, append-nil}
-use Prim.Native.Nat.{ℕ, zero, suc, ◌+◌, ◌*◌, ◌-◌, ◌≤◌, ◌<◌}
+use mathlib.Core.List.{List, [], ◌∷◌, map}
+use Prim.Native.Nat.{ℕ, zero, suc, ◌+◌, ◌*◌, ◌-◌, ◌^◌, ◌≤◌, ◌<◌, min, max}
 use native.Mathlib.Numerals.{add-one}
 use native.Mathlib.Omega.{arith}
 use borrow.Author.Tests.{lt-ltb, le-ltb, ltb-true, ltb-false}
-use lib.ListN.{length, get_or, take, set, length-take, length-set, length-map}
-use lib.Seq.{take-suc-set, take-set-le, get_or-take}
+use lib.ListN.{length, get_or, length-map}
 use lib.Dec.{ltb}
 use Rattle.laws.specs.Lists.{every}
-use Rattle.laws.specs.Promise.{overlaid, Gives}
-use Rattle.laws.proofs.Promise.{gives_bytes}
 use Rattle.laws.proofs.Bools.{and_left, and_right, both}
-use Rattle.settings.specs.Columns.{count, role_at}
+use Rattle.settings.specs.Columns.{count, width_at, partner_at, role_at}
 use Rattle.settings.specs.Rules.{agrees, allowed_for}
 use Rattle.tables.specs.Rules.{allowed, number_at}
 use Rattle.settings.specs.Calls.{allowing}
 use Rattle.tables.specs.declared.Table.{Table}
 use Rattle.tables.proofs.Tables.{range_at}
-use Rattle.restore.specs.Order.{differs, higher_first, placed, turns_from, order, wanted, due_sets}
-use Rattle.restore.specs.AsHeld.{Holds, sets_of}
+use Rattle.restore.specs.Order.{differs, higher_first, exchanged, placed, turns_from, order, wanted, set_at, due_sets}
+use Rattle.std.specs.List.{cons_option}
+use Rattle.std.proofs.lemmas.Option.{cond_some}
 use Rattle.restore.specs.Laws.{SetsAreFew, ListIsShort, Tells, a_set, none_left, not_allowed_lem, DueTells}
-use Rattle.restore.specs.Calls.{both_allowed, frames_for, list_room, unlisted, listed_as, listing, due_after, due_in}
+use Rattle.restore.specs.Calls.{both_allowed, frames_for, list_room, unlisted, listed_as, listing, set_after, due_after, due_in}
 use Rattle.requests.specs.declared.Wanted.{Wanted}
-use Rattle.std.specs.Prelude.{Some, None, Ok, Err}
+use Rattle.std.specs.Prelude.{Option, Some, None, Err, is_some, ◌≢◌}
 use Rattle.paper.specs.Numbers.{short_buffer, not_allowed}
-use Rattle.restore.specs.Answers.{Listed}
-use Rattle.restore.specs.declared.order.Row.{Row}
-use Rattle.restore.proofs.Writing.{frames_short}
-use Rattle.restore.proofs.Placing.{turns_none, turns_more, turns_skip, all_differ, entry_fits}
+use Rattle.restore.proofs.Writing.{frames_short, number_fits}
+use Rattle.restore.proofs.Placing.{by_lower, by_higher, placed_below, turns_none, turns_more, turns_skip, all_differ, entry_fits}
 
 -- for a wanted number of an allowed table, what is allowed is what agrees
 pub allows_agrees : (to : Table) → allowed to ≡ true → (k p : ℕ) → k < count → allowing k (number_at to k) p ≡ agrees (role_at k) (number_at to k) p
@@ -41,96 +37,93 @@ pub turned_is : (from to : Table) → allowed to ≡ true → (lower higher : �
 unfolding higher_first
 turned_is from to ok lower higher h = rw (allows_agrees to ok lower (number_at from higher) h)
 
-pub one_few : (b : Bool) → cond b 1 0 ≤ 1
-one_few true = omega arith
-one_few false = omega arith
+-- the Sets in turn, from a place on
+module _ (from to : Table) where
+  pub sets_from : ℕ → List Wanted
+  sets_from k = map (wanted to) (turns_from (count - k) k from to)
 
--- the settings put down so far, and those to come
-pub record Ordering (from to : Table) (indices : List ℕ) (len place : ℕ) : Type 0 where
-  pub within : place ≤ count
-  pub few : len ≤ place
-  pub long : length indices ≡ count
-  pub same : take len indices ++ turns_from (count - place) place from to ≡ order from to
+  pub all_sets : sets_from 0 ≡ due_sets from to
+  unfolding order sets_from
+  all_sets = refl
 
-pub ordering_start : (from to : Table) (indices : List ℕ) → length indices ≡ count → Ordering from to indices 0 0
-unfolding order
-ordering_start from to indices h = record { within = omega arith; few = omega arith; long = h; same = refl }
+  pub no_sets : (k : ℕ) → count ≤ k → sets_from k ≡ []
+  unfolding sets_from
+  no_sets k h =
+      let none : count - k ≡ 0 = omega arith in
+      rw (none, turns_none from to k)
 
-module _ {from to : Table} {indices : List ℕ} {len place : ℕ} (h : place < count) (w : Ordering from to indices len place) where
-  one_more : count - place ≡ suc (count - (place + 1))
-  one_more = omega arith
+  pub set_there : (k : ℕ) → k < count → set_at from to k ≡ cond (differs from to (placed from to k)) (Some (wanted to (placed from to k))) None
+  unfolding set_at
+  set_there k h = rw (lt-ltb k count h)
 
-  pub ordering_turn : (k : ℕ) → k ≡ placed from to place → Ordering from to (set indices len k) (len + cond (differs from to k) 1 0) (place + 1)
-  ordering_turn k is = by (differs from to k) refl
+  -- a Set, or none, and then those from the next place on
+  pub one_set : (k : ℕ) → k < count → cons_option (set_at from to k) (sets_from (k + 1)) ≡ sets_from k
+  unfolding sets_from
+  one_set k h = by (differs from to (placed from to k)) refl
     where
-      few : len ≤ place
-      few = w.few
+      left : count - k ≡ suc (count - (k + 1))
+      left = omega arith
 
-      inside : len < length indices
-      inside = omega (arith, w.long)
+      by : (b : Bool) → differs from to (placed from to k) ≡ b
+          → cons_option (set_at from to k) (map (wanted to) (turns_from (count - (k + 1)) (k + 1) from to)) ≡ map (wanted to) (turns_from (count - k) k from to)
+      by true d = rw (set_there k h, d, left, add-one, turns_more from to (count - suc k) k (placed from to k) refl d)
+      by false d = rw (set_there k h, d, left, add-one, turns_skip from to (count - suc k) k (placed from to k) refl d)
 
-      next : turns_from (count - place) place from to ≡ turns_from (suc (count - (place + 1))) place from to
-      next = ap (λ (m : ℕ). turns_from m place from to) one_more
+  module _ (k : ℕ) (h : k < count) where
+    pub next_none : set_at from to k ≡ None → sets_from k ≡ sets_from (k + 1)
+    next_none e = sym (one_set k h) ∙ ap (λ (o : Option Wanted). cons_option o (sets_from (k + 1))) e
 
-      later : turns_from (count - (place + 1)) (suc place) from to ≡ turns_from (count - (place + 1)) (place + 1) from to
-      later = ap (λ (m : ℕ). turns_from (count - (place + 1)) m from to) (sym (add-one place))
+    pub next_some : (w : Wanted) → set_at from to k ≡ Some w → sets_from k ≡ w ∷ sets_from (k + 1)
+    next_some w e = sym (one_set k h) ∙ ap (λ (o : Option Wanted). cons_option o (sets_from (k + 1))) e
 
-      by : (b : Bool) → differs from to k ≡ b → Ordering from to (set indices len k) (len + cond b 1 0) (place + 1)
-      by true d =
-          record {
-            within = omega arith;
-            few = omega arith;
-            long = length-set indices len k ∙ w.long;
-            same =
-                ap₂ (λ (a b : List ℕ). a ++ b) (ap (λ (m : ℕ). take m (set indices len k)) (add-one len) ∙ take-suc-set indices len k inside) (sym later)
-                ∙ append_assoc (take len indices) (k ∷ []) (turns_from (count - (place + 1)) (suc place) from to)
-                ∙ ap (λ (l : List ℕ). take len indices ++ l) (sym (next ∙ turns_more from to (count - (place + 1)) place k (sym is) d)) ∙ w.same;
-          }
-      by false d =
-          let plain : len + 0 ≡ len = omega arith in
-          record {
-            within = omega arith;
-            few = omega arith;
-            long = length-set indices len k ∙ w.long;
-            same =
-                ap₂ (λ (a b : List ℕ). a ++ b) (ap (λ (m : ℕ). take m (set indices len k)) plain ∙ take-set-le len indices len k (omega arith)) (sym later)
-                ∙ ap (λ (l : List ℕ). take len indices ++ l) (sym (next ∙ turns_skip from to (count - (place + 1)) place k (sym is) d)) ∙ w.same;
-          }
+    pub one_counted : (b : Bool) → b ≡ is_some (set_at from to k) → length (sets_from k) ≡ cond b 1 0 + length (sets_from (k + 1))
+    one_counted b e = ap (λ (l : List Wanted). length l) (sym (one_set k h)) ∙ rw e (by (set_at from to k))
+      where
+        by : (o : Option Wanted) → length (cons_option o (sets_from (k + 1))) ≡ cond (is_some o) 1 0 + length (sets_from (k + 1))
+        by None = omega arith
+        by (Some w) = omega arith
 
-pub ordering_end : {from to : Table} {indices : List ℕ} {len place : ℕ} → count ≤ place → Ordering from to indices len place
-    → Holds (record { len = len; indices = indices }) (order from to)
-ordering_end {from} {to} {indices} {len} {place} h w =
-    let most : place ≤ count = w.within in
-    let none : count - place ≡ 0 = omega arith in
-    let empty : turns_from (count - place) place from to ≡ [] = ap (λ (m : ℕ). turns_from m place from to) none ∙ turns_none from to place in
-    let is : take len indices ≡ order from to = sym (append-nil (take len indices)) ∙ ap (λ (l : List ℕ). take len indices ++ l) (sym empty) ∙ w.same in
-    let few : len ≤ place = w.few in
-    let size : length (take len indices) ≡ len = length-take len indices ∙ omega (arith, w.long) in
-    record { len_is = sym size ∙ ap length is; settings_are = is }
+-- a Set is of a setting of the table, and asks for a number that its width holds
+pub set_kept : (from to : Table) → both_allowed from to ≡ true → (k : ℕ) → k < count → (w : Wanted) → set_at from to k ≡ Some w
+    → (w.setting.index < count) × (w.number < 256 ^ width_at w.setting.index)
+set_kept from to ok k h w e =
+    let there = placed_below from to k h in
+    let is : wanted to (placed from to k) ≡ w = (cond_some _ _ _ (sym (set_there from to k h) ∙ e)).1 in
+    rw (sym is) (there, number_fits to (and_right (allowed from) _ ok) _ there)
+
+pub after_next : (w : Wanted) (l : List Wanted) (n : ℕ) → n ≢ 0 → set_after (w ∷ l) n ≡ set_after l (n - 1)
+after_next w l zero h = absurd (h refl)
+after_next w l (suc n) h = ap (set_after l) (omega arith)
+
+-- the same of one place, as the program finds it
+module _ (from to : Table) (k p : ℕ) (is : partner_at k ≡ p) where
+  exchanged_by : higher_first from to (min k p) (max k p) ≡ exchanged from to k
+  exchanged_by = by (ltb k p) refl
+    where
+      by : (b : Bool) → ltb k p ≡ b → higher_first from to (min k p) (max k p) ≡ exchanged from to k
+      by true e =
+          let less : k < p = ltb-true _ _ e in
+          let low : min k p ≡ k = omega arith in
+          let high : max k p ≡ p = omega arith in
+          rw (low, high, by_lower from to k (rw is less), is)
+      by false e =
+          let most : p ≤ k = ltb-false _ _ e in
+          let low : min k p ≡ p = omega arith in
+          let high : max k p ≡ k = omega arith in
+          rw (low, high, by_higher from to k (rw is most), is)
+
+  pub placed_by : (b : Bool) → higher_first from to (min k p) (max k p) ≡ b → cond b p k ≡ placed from to k
+  unfolding placed
+  placed_by b e = rw (sym exchanged_by, e, is)
+
+pub past_none : (from to : Table) (k : ℕ) → count ≤ k → set_at from to k ≡ None
+unfolding set_at
+past_none from to k h = rw (le-ltb k count h)
 
 every_left : (p q : ℕ → Bool) (l : List ℕ) → every (λ k. p k && q k) l ≡ true → every p l ≡ true
 every_left p q [] e = refl
 every_left p q (k ∷ l) e =
     both _ _ (and_left (p k) (q k) (and_left (p k && q k) _ e)) (every_left p q l (and_right (p k && q k) _ e))
-
--- what a row that holds the order gives
-module _ (from to : Table) (row : Row) (w : Holds row (order from to)) where
-  pub sets_are : sets_of row to ≡ due_sets from to
-  sets_are = ap (map (wanted to)) w.settings_are
-
-  pub row_fits : every (λ k. ltb k count) (take row.len row.indices) ≡ true
-  row_fits = rw w.settings_are (every_left (λ k. ltb k count) (differs from to) (order from to) (all_differ from to))
-
-  pub row_sets : row.len ≡ length (due_sets from to)
-  row_sets = w.len_is ∙ sym (length-map (order from to) (wanted to))
-
-  pub row_few : length row.indices ≡ count → row.len ≤ count
-  row_few long =
-      let size : row.len ≡ length (take row.len row.indices) = w.len_is ∙ ap length (sym w.settings_are) in
-      omega (arith, length-take row.len row.indices)
-
-  pub row_entry : (n : ℕ) → n < row.len → get_or row.indices n 0 ≡ get_or (order from to) n 0
-  row_entry n h = sym (get_or-take row.len row.indices n 0 h) ∙ ap (λ (l : List ℕ). get_or l n 0) w.settings_are
 
 -- the calls, case by case
 module _ (from to : Table) where
@@ -145,15 +138,6 @@ module _ (from to : Table) where
   pub list_made : (room : ℕ) → list_room ≤ room → both_allowed from to ≡ true → listing from to room ≡ listed_as (due_sets from to)
   unfolding listing
   list_made room h e = rw (le-ltb room list_room h, e)
-
-  pub list_gives : (row : Row) (buffer l : List ℕ) (len : ℕ) → Holds row (order from to) → list_room ≤ length buffer → both_allowed from to ≡ true
-      → len ≡ length (frames_for (sets_of row to)) → l ≡ overlaid (frames_for (sets_of row to)) buffer
-      → Gives Listed (listing from to (length buffer)) buffer (Ok (record { len = len; sets = row.len })) l
-  list_gives row buffer l len w room ok size stands =
-      let are : sets_of row to ≡ due_sets from to = sets_are from to row w in
-      let answer = ap₂ {C = Listed} (λ (n m : ℕ). Ok (record { len = n; sets = m })) (size ∙ ap (λ (d : List Wanted). length (frames_for d)) are) (row_sets from to row w) in
-      rw answer
-      (gives_bytes _ (frames_for (due_sets from to)) l (list_made (length buffer) room ok) (stands ∙ ap (λ (d : List Wanted). overlaid (frames_for d) buffer) are))
 
   pub due_stray : (n : ℕ) → both_allowed from to ≡ false → Err not_allowed ≡ due_in from to n
   unfolding due_in
@@ -184,12 +168,12 @@ frames_fit from to =
     frames_short to (order from to) (every_left (λ k. ltb k count) (differs from to) (order from to) (all_differ from to)) in
     omega arith
 
-pub after_last : (l : List Wanted) (n : ℕ) → length l ≤ n → Ok None ≡ due_after l n
+after_last : (l : List Wanted) (n : ℕ) → length l ≤ n → set_after l n ≡ None
 after_last [] n h = refl
 after_last (w ∷ l) zero h = absurd (omega arith)
 after_last (w ∷ l) (suc n) h = after_last l n (omega arith)
 
-pub after_some : (to : Table) (l : List ℕ) (n : ℕ) → n < length l → Ok (Some (wanted to (get_or l n 0))) ≡ due_after (map (wanted to) l) n
+after_some : (to : Table) (l : List ℕ) (n : ℕ) → n < length l → set_after (map (wanted to) l) n ≡ Some (wanted to (get_or l n 0))
 after_some to [] n h = absurd (omega arith)
 after_some to (k ∷ l) zero h = refl
 after_some to (k ∷ l) (suc n) h = after_some to l n (omega arith)
@@ -205,8 +189,7 @@ tells_due from to n = by (both_allowed from to) (ltb n (length (order from to)))
     by false s e f = rw (sym (due_stray from to n e)) (not_allowed_lem e)
     by true true e f =
         let less : n < length (order from to) = ltb-true _ _ f in
-        let is : Ok (Some (wanted to (get_or (order from to) n 0))) ≡ due_in from to n = after_some to (order from to) n less ∙ due_is from to n e in
-        rw (sym is) (a_set (get_or (order from to) n 0) refl (entry_fits from to n less).0 e (rw size less))
+        rw (sym (due_is from to n e), after_some to (order from to) n less) (a_set (get_or (order from to) n 0) refl (entry_fits from to n less).0 e (rw size less))
     by true false e f =
         let most : length (due_sets from to) ≤ n = rw size (ltb-false _ _ f) in
-        rw (sym (after_last (due_sets from to) n most ∙ due_is from to n e)) (none_left e most)
+        rw (sym (due_is from to n e), after_last (due_sets from to) n most) (none_left e most)

@@ -1,5 +1,5 @@
 -- What each public call answers, for every input. Assumes nothing.
-use Rattle.std.specs.Prelude.{ℕ, zero, suc, ◌*◌, Some, None, Ok, Err, Bool, cond, ◌&&◌, List, [], ◌∷◌, ◌++◌, length, ltb}
+use Rattle.std.specs.Prelude.{ℕ, zero, suc, ◌*◌, Some, None, Ok, Err, Bool, cond, ◌&&◌, List, [], ◌∷◌, ◌++◌, length, ltb, Option}
 use Rattle.paper.specs.Numbers as paper
 use Rattle.paper.specs.declared.Refusal.{Refusal}
 use Rattle.laws.specs.Promise.{Given}
@@ -39,10 +39,13 @@ unfoldable pub sets_due : Table → Table → Sets
 sets_due from to = cond (both_allowed from to) (Ok (length (due_sets from to))) (Err paper.not_allowed)
 
 -- the Set that is due when this many before it are done, or none
+abbrev pub set_after : List Wanted → ℕ → Option Wanted
+set_after [] n = None
+set_after (w ∷ more) zero = Some w
+set_after (w ∷ more) (suc n) = set_after more n
+
 abbrev pub due_after : List Wanted → ℕ → Due
-due_after [] n = Ok None
-due_after (w ∷ more) zero = Ok (Some w)
-due_after (w ∷ more) (suc n) = due_after more n
+due_after due n = Ok (set_after due n)
 
 unfoldable pub due_in : Table → Table → ℕ → Due
 due_in from to n = cond (both_allowed from to) (due_after (due_sets from to) n) (Err paper.not_allowed)

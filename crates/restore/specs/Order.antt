@@ -1,7 +1,7 @@
 -- Which Sets restore a table, and in which order. Document 01, "Restore list and its following": "Ascending id, one Set for each differing
 -- setting. Where both of a pair differ, the lower id goes first if its new number agrees with the partner's present one, else the higher."
 -- `from` is the present table, `to` the one that is wanted; settings are named by their places. Assumes nothing.
-use Rattle.std.specs.Prelude.{ℕ, zero, suc, Bool, cond, not, ◌&&◌, List, [], ◌∷◌, ◌++◌, map, ltb, eqb}
+use Rattle.std.specs.Prelude.{ℕ, zero, suc, Bool, cond, not, ◌&&◌, List, [], ◌∷◌, ◌++◌, map, ltb, eqb, Option, Some, None}
 use Rattle.settings.specs.Columns.{count, partner_at, role_at}
 use Rattle.settings.specs.Rules.{agrees}
 use Rattle.tables.specs.Rules.{number_at}
@@ -41,6 +41,10 @@ order from to = turns_from count 0 from to
 -- a Set: the setting, and the number that is wanted for it
 abbrev pub wanted : Table → ℕ → Wanted
 wanted to k = record { setting = setting_at k; number = number_at to k }
+
+-- the Set that has its turn at a place, where that setting differs
+unfoldable pub set_at : Table → Table → ℕ → Option Wanted
+set_at from to k = cond (ltb k count && differs from to (placed from to k)) (Some (wanted to (placed from to k))) None
 
 abbrev pub due_sets : Table → Table → List Wanted
 due_sets from to = map (wanted to) (order from to)

@@ -7,6 +7,7 @@ ghost use Rattle.laws.specs.Promise.{Gives};
 ghost use Rattle.restore.specs.Calls.{listing, sets_due, due_in};
 ghost use Rattle.restore.specs.Answers.{Listed};
 
+use order::Restore;
 use paper::Refusal;
 use requests::Wanted;
 use tables::Table;
@@ -30,36 +31,23 @@ pub fn list(from: Table, to: Table, out: &mut [u8]) -> Result<Size, Refusal>
     if out.len() < numbers::LIST_ROOM {
         return Err(Refusal::ShortBuffer);
     }
-    if !order::both_allowed(from, to) {
-        return Err(Refusal::NotAllowed);
-    }
-    let row = order::row_of(from, to);
-    let sets = row.len;
-    let len = writer::put_sets(row, to, out);
-    Ok(Size { len, sets })
+    let restore = Restore::between(from, to)?;
+    Ok(Size {
+        len: writer::put_sets(restore, out),
+        sets: restore.len(),
+    })
 }
 
 // Returns how many Sets turn the table `from` into `to`. Refuses 12 for a table that is not allowed.
 pub fn sets_due(from: Table, to: Table) -> Result<usize, Refusal>
     ensures { result ≡ sets_due from to }
 {
-    if !order::both_allowed(from, to) {
-        return Err(Refusal::NotAllowed);
-    }
-    Ok(order::row_of(from, to).len)
+    Ok(Restore::between(from, to)?.len())
 }
 
 // Returns the Set that is due once this many before it are done: nothing after the last. Refuses 12 for a table that is not allowed.
 pub fn due_after(from: Table, to: Table, done: usize) -> Result<Option<Wanted>, Refusal>
     ensures { result ≡ due_in from to done }
 {
-    if !order::both_allowed(from, to) {
-        return Err(Refusal::NotAllowed);
-    }
-    let row = order::row_of(from, to);
-    if row.len <= done {
-        return Ok(None);
-    }
-    let indices = row.indices;
-    Ok(Some(order::wanted_at(to, indices[done])))
+    Ok(Restore::between(from, to)?.after(done))
 }

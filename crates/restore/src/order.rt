@@ -1,106 +1,94 @@
 // The order of the Sets: ascending id; but where both of a pair differ and the lower id's new number does not agree with the higher's
 // present one, the higher goes first.
-ghost use Rattle.std.specs.Prelude.{◌<◌, ◌≡◌, true, cond};
-ghost use Rattle.settings.specs.Columns.{count, partner_at};
-ghost use Rattle.tables.specs.Rules.{allowed};
-ghost use Rattle.restore.specs.Order.{differs, higher_first, exchanged, placed, order, wanted};
-ghost use Rattle.restore.specs.Calls.{both_allowed};
-ghost use Rattle.restore.specs.AsHeld.{Holds};
+ghost use Rattle.std.specs.Prelude.{◌<◌, ◌≡◌, true, false, MatchResult, length};
+ghost use Rattle.paper.specs.Numbers.{not_allowed};
+ghost use Rattle.settings.specs.Columns.{count};
+ghost use Rattle.restore.specs.Order.{differs, higher_first, set_at, due_sets};
+ghost use Rattle.restore.specs.Calls.{both_allowed, set_after};
 
+use paper::Refusal;
 use requests::Wanted;
 use settings::COUNT;
 use tables::Table;
 
-// The differing settings by their places, in the order in which their Sets go.
+// The table that a board holds, and the one that is wanted.
 #[derive(Clone, Copy)]
-pub(crate) struct Row {
-    pub(crate) len: usize,
-    pub(crate) indices: [usize; COUNT],
+pub(crate) struct Restore {
+    from: Table,
+    to: Table,
+    ghost allowed: { both_allowed from to ≡ true },
 }
 
-// Returns whether both tables are allowed.
-pub(crate) fn both_allowed(from: Table, to: Table) -> bool
-    ensures { result ≡ both_allowed from to }
-{
-    from.is_allowed() & to.is_allowed()
-}
-
-// Returns a setting with the number that is wanted for it.
-pub(crate) fn wanted_at(to: Table, index: usize) -> Wanted
-    requires { index < count }
-    ensures { result ≡ wanted to index }
-{
-    let numbers = to.numbers;
-    Wanted {
-        setting: settings::setting_at(index),
-        number: numbers[index],
+impl Restore {
+    // Returns the restore of one allowed table to another. Refuses 12 for a table that is not allowed.
+    pub(crate) fn between(from: Table, to: Table) -> Result<Restore, Refusal>
+        ensures { MatchResult result (λ r. (r.from ≡ from) × (r.to ≡ to)) (λ e. (e ≡ not_allowed) × (both_allowed from to ≡ false)) }
+    {
+        if from.is_allowed() & to.is_allowed() {
+            Ok(Restore { from, to })
+        } else {
+            Err(Refusal::NotAllowed)
+        }
     }
-}
 
-// Returns whether a setting differs between the two tables.
-fn is_other(from: Table, to: Table, index: usize) -> bool
-    requires { index < count }
-    ensures { result ≡ differs from to index }
-{
-    let numbers = from.numbers;
-    let wanted = to.numbers;
-    numbers[index] != wanted[index]
-}
-
-// Returns 1 for what holds, else 0.
-fn one_if(test: bool) -> usize
-    ensures { result ≡ cond test 1 0 }
-{
-    if test { 1 } else { 0 }
-}
-
-// Returns whether the higher id of a pair goes first: both differ, and the lower's new number does not agree with the higher's present one.
-fn is_turned(from: Table, to: Table, lower: usize, higher: usize) -> bool
-    requires { (allowed to ≡ true) × (lower < count) × (higher < count) }
-    ensures { result ≡ higher_first from to lower higher }
-{
-    let numbers = from.numbers;
-    let wanted = to.numbers;
-    is_other(from, to, lower)
-        & (is_other(from, to, higher) & !settings::allows(lower, wanted[lower], numbers[higher]))
-}
-
-// Returns whether the two of the pair that a setting is in change places. A setting alone is its own partner, and stays.
-fn is_exchanged(from: Table, to: Table, place: usize, partner: usize) -> bool
-    requires { (allowed to ≡ true) × (place < count) × (partner ≡ partner_at place) }
-    ensures { result ≡ exchanged from to place }
-{
-    if place < partner {
-        return is_turned(from, to, place, partner);
+    // Returns how many Sets there are.
+    pub(crate) fn len(self) -> usize
+        ensures { result ≡ length (due_sets self.from self.to) }
+    {
+        let mut len = 0;
+        for place in 0..COUNT {
+            if self.set_at(place).is_some() {
+                len += 1;
+            }
+        }
+        len
     }
-    is_turned(from, to, partner, place)
-}
 
-// Returns the setting that has its turn at a place.
-fn turn_of(from: Table, to: Table, place: usize) -> usize
-    requires { (allowed to ≡ true) × (place < count) }
-    ensures { result ≡ placed from to place }
-{
-    let partner = settings::setting_at(place).partner;
-    if is_exchanged(from, to, place, partner) {
-        return partner;
+    // Returns the Set that is due after this many, if there is one.
+    pub(crate) fn after(self, done: usize) -> Option<Wanted>
+        ensures { result ≡ set_after (due_sets self.from self.to) done }
+    {
+        let mut left = done;
+        for place in 0..COUNT {
+            if let Some(set) = self.set_at(place) {
+                if left == 0 {
+                    return Some(set);
+                }
+                left -= 1;
+            }
+        }
+        None
     }
-    place
-}
 
-// Returns all differing settings in their order. Each setting is written where the next one goes, and counted only if it differs.
-pub(crate) fn row_of(from: Table, to: Table) -> Row
-    requires { allowed to ≡ true }
-    ensures { Holds result (order from to) }
-{
-    let mut indices = [0usize; COUNT];
-    let mut len = 0;
-    let mut place = 0;
-    while place < COUNT {
-        let index = turn_of(from, to, place);
-        indices[len] = index;
-        len += one_if(is_other(from, to, index));
-        place += 1;
+    // Returns the Set that has its turn at a place, if the setting differs: of that setting, or of its partner where the two change places.
+    pub(crate) fn set_at(self, place: usize) -> Option<Wanted>
+        ensures { result ≡ set_at self.from self.to place }
+    {
+        let partner = settings::at(place)?.partner;
+        let exchanged = self.higher_first(place.min(partner), place.max(partner));
+        let index = if exchanged { partner } else { place };
+        self.differs(index).then_some(Wanted {
+            setting: settings::setting_at(index),
+            number: self.to.numbers[index],
+        })
     }
-    Row { len, indices }
+
+    // Returns whether the higher id of a pair goes first: both differ, and the lower's new number does not agree with the higher's present
+    // one. A setting alone, which is its own partner, agrees with any.
+    fn higher_first(self, lower: usize, higher: usize) -> bool
+        requires { (lower < count) × (higher < count) }
+        ensures { result ≡ higher_first self.from self.to lower higher }
+    {
+        self.differs(lower)
+            & (self.differs(higher)
+                & !settings::allows(lower, self.to.numbers[lower], self.from.numbers[higher]))
+    }
+
+    // Returns whether a setting differs between the two tables.
+    fn differs(self, index: usize) -> bool
+        requires { index < count }
+        ensures { result ≡ differs self.from self.to index }
+    {
+        self.from.numbers[index] != self.to.numbers[index]
+    }
 }

@@ -1,19 +1,14 @@
 -- `restore::sets_due` meets its contract. Assumes nothing.
-use mathlib.Core.Path.{sym, ap, ◌∙◌}
-use Rattle.laws.proofs.Bools.{and_right}
-use Rattle.tables.specs.Rules.{allowed}
-use Rattle.restore.specs.Calls.{sets_due}
-use Rattle.std.specs.Prelude.{Ok}
-use Rattle.restore.proofs.Rows.{row_sets}
+use Rattle.std.proofs.Common.{rules, sym, ◌≡◌, true}
+use Rattle.restore.specs.Calls.{both_allowed, sets_due}
 use Rattle.restore.proofs.sets_due.Goals as goal
 
-pub returns-then-not-both_allowed : goal.returns-then-not-both_allowed
+pub returns-in_err-between : goal.returns-in_err-between
 unfolding sets_due
-returns-then-not-both_allowed c = rw (sym c.both_allowed.ensures ∙ c.if-not-both_allowed.true)
-
-pub row_of-requires : goal.row_of-requires
-row_of-requires c = and_right (allowed c.args.from) _ (sym c.both_allowed.ensures ∙ c.if-not-both_allowed.false)
+returns-in_err-between c = rw c.in_err-between.ensures.1 (search rules)
 
 pub returns : goal.returns
 unfolding sets_due
-returns c = rw (sym c.both_allowed.ensures ∙ c.if-not-both_allowed.false) (ap Ok (row_sets _ _ _ c.row_of.ensures))
+returns c =
+    let ok : both_allowed c.args.from c.args.to ≡ true = rw (sym c.in_ok-between.ensures.0, sym c.in_ok-between.ensures.1) c.in_ok-between.field-0.allowed in
+    rw (ok, c.len.ensures, c.in_ok-between.ensures.0, c.in_ok-between.ensures.1)

@@ -1,38 +1,29 @@
 -- `restore::writer::put_sets` meets its contract. Assumes nothing.
-use mathlib.Core.Path.{◌≡◌}
-use lib.ListN.{length}
-use Rattle.settings.specs.Columns.{count}
-use Rattle.restore.proofs.Writing.{number_fits, entry_below, putting_start, putting_room, putting_turn, putting_end}
-use borrow.Author.Rules.{rules}
-use native.Mathlib.Omega.{arith}
+use Rattle.std.proofs.Common.{arith, sym}
+use Rattle.restore.proofs.Rows.{set_kept}
+use Rattle.restore.proofs.Putting.{putting_start, putting_room, putting_none, putting_some, putting_end}
+use Rattle.restore.proofs.writer.put_sets.Goals.{in-Some, in_default}
 use Rattle.restore.proofs.writer.put_sets.Goals as goal
-use Rattle.restore.proofs.writer.put_sets.Goals.{Start}
 
-long : (c : Start) → length c.args.row.indices ≡ count
-long s = search rules
-
-pub loop-i-init : goal.loop-i-init
-loop-i-init c = putting_start c.args.to c.args.row (long (goal.at.loop-i-init c).Start) c.requires.2 c.requires.3 _ c.requires.0
-
-pub bounds-indices-i : goal.bounds-indices-i
-bounds-indices-i c = omega (arith, c.requires.2, c.loop-i-test.true)
-
-pub bounds-numbers-index : goal.bounds-numbers-index
-bounds-numbers-index c = entry_below c.args.to c.args.row (long (goal.at.bounds-numbers-index c).Start) c.requires.2 c.requires.3 _ c.loop-i-test.true
+pub loop-place-init : goal.loop-place-init
+loop-place-init c = putting_start _ _ _ c.requires
 
 pub put_set-at-requires : goal.put_set-at-requires
 put_set-at-requires c =
-    let below = entry_below c.args.to c.args.row (long (goal.at.put_set-at-requires c).Start) c.requires.2 c.requires.3 _ c.loop-i-test.true in
-    (putting_room c.args.to c.args.row (long (goal.at.put_set-at-requires c).Start) c.requires.2 c.requires.3 c.loop-i-test.true c.loop-i.invariant, below, number_fits c.args.to c.requires.1 _ below)
+    let kept = set_kept c.args.restore.from c.args.restore.to c.args.restore.allowed c.loop-place.place c.loop-place-test.true _ (sym c.in-Some.ensures) in
+    (putting_room _ _ c.loop-place-test.true c.loop-place.invariant, kept.0, kept.1)
 
-pub loop-i-smaller : goal.loop-i-smaller
-loop-i-smaller c = omega (arith, c.loop-i-test.true)
-
-pub loop-i-preserved : goal.loop-i-preserved
-loop-i-preserved c = putting_turn c.args.to c.args.row (long (goal.at.loop-i-preserved c).Start) c.requires.2 c.requires.3 c.loop-i-test.true c.loop-i.invariant c.put_set-at.ensures.0 c.put_set-at.ensures.1
+pub loop-place-preserved : goal.loop-place-preserved
+loop-place-preserved c = elim c.match-set_at.branch [
+  | in-Some w ↦
+      let is = sym w.in-Some.ensures in
+      let kept = set_kept c.args.restore.from c.args.restore.to c.args.restore.allowed c.loop-place.place c.loop-place-test.true _ is in
+      rw (w.at-is, w.out-is) (putting_some _ _ c.loop-place-test.true c.loop-place.invariant _ is kept.0 w.put_set-at.ensures.0 w.put_set-at.ensures.1)
+  | in_default w ↦ rw (w.at-is, w.out-is) (putting_none _ _ c.loop-place-test.true c.loop-place.invariant (sym w.in_default.ensures))
+]
 
 pub shape_of-out : goal.shape_of-out
-shape_of-out c = c.loop-i.invariant.long
+shape_of-out c = c.loop-place.invariant.long
 
 pub returns : goal.returns
-returns c = putting_end c.args.to c.args.row (long (goal.at.returns c).Start) c.requires.2 c.requires.3 c.loop-i-test.false c.requires.0 c.loop-i.invariant
+returns c = putting_end _ _ (omega arith) c.requires c.loop-place.invariant
