@@ -24,10 +24,6 @@ few_answered len silences false e = by (ltb len count) refl e
 
 -- which collectors are allowed
 module _ (c : Collector) where
-  pub allowed_rest : within c.len c.silences c.stopped ≡ true → (all_fit c.numbers c.len && none_after c.numbers c.len) ≡ allowed c
-  unfolding allowed
-  allowed_rest e = rw e
-
   pub allowed_within : allowed c ≡ true → within c.len c.silences c.stopped ≡ true
   unfolding allowed
   allowed_within e = and_left _ (all_fit c.numbers c.len && none_after c.numbers c.len) e

@@ -8,6 +8,7 @@ ghost use Rattle.reply.specs.Events.{heard, refused_frame, no_answer};
 ghost use Rattle.collect.specs.Calls.{starting, told, collecting};
 
 use paper::Refusal;
+use place::Intake;
 use settings::{COUNT, Setting};
 use tables::Table;
 
@@ -63,22 +64,16 @@ impl Collector {
     pub fn told(self) -> Collected
         ensures { result ≡ told self }
     {
-        if !self.is_allowed() {
-            return self.stray();
-        }
-        self.good()
+        self.after(Intake::Waits)
     }
 
     // Takes a frame of this command and these data. Only the number of a good Get reply with the due id, in its width and with a number
     // that fits, is taken. Refuses 12 for a collector that no start and events give.
-    #[tactic(auto, unfolding(crate::specs::Calls::collecting))]
+    #[tactic(auto, using(crate::proofs::Moving::waiting_few), unfolding(crate::specs::Calls::collecting, crate::specs::Collecting::advanced))]
     pub fn reply(self, command: u8, bytes: &[u8]) -> Collected
         ensures { result ≡ collecting self (heard command bytes.now) }
     {
-        if !self.is_allowed() {
-            return self.stray();
-        }
-        self.after_frame(command, bytes).good()
+        self.after(self.heard(command, bytes))
     }
 
     // Takes a frame that the stream refused, on which the collector waits on. Refuses 12 for one that no start and events give.
@@ -91,13 +86,10 @@ impl Collector {
 
     // Notes that no answer came: the same setting stays due, and the third time in a row stops a collector that waits. Refuses 12 for one
     // that no start and events give.
-    #[tactic(auto, unfolding(crate::specs::Calls::collecting))]
+    #[tactic(auto, unfolding(crate::specs::Calls::collecting, crate::specs::Collecting::advanced, crate::specs::Collecting::intake_of))]
     pub fn no_answer(self) -> Collected
         ensures { result ≡ collecting self no_answer }
     {
-        if !self.is_allowed() {
-            return self.stray();
-        }
-        self.after_silence().good()
+        self.after(Intake::Silence)
     }
 }

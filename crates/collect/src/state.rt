@@ -1,11 +1,13 @@
 // The states of a collector: which are allowed, and how one follows from another.
-ghost use Rattle.std.specs.Prelude.{◌≤◌, ◌<◌, ◌≡◌};
+ghost use Rattle.std.specs.Prelude.{◌≤◌, ◌<◌, ◌≡◌, cond, ltb};
 ghost use Rattle.settings.specs.Columns.{count};
-ghost use Rattle.reply.specs.Events.{heard, no_answer};
+ghost use Rattle.reply.specs.Events.{heard};
 ghost use Rattle.collect.specs.Collecting as spec;
+ghost use Rattle.collect.specs.Calls as calls;
+ghost use Rattle.collect.specs.declared.place.Intake.{Intake};
 
-use crate::Collector;
 use crate::place::{Intake, Place};
+use crate::{Collected, Collector};
 use reply::MOST_TRIES;
 use settings::COUNT;
 
@@ -54,7 +56,7 @@ impl Collector {
 
     // Returns whether a start and events give the collector.
     #[tactic(auto, using(crate::proofs::Moving::few_answered), unfolding(crate::specs::Collecting::allowed))]
-    pub(crate) fn is_allowed(self) -> bool
+    fn is_allowed(self) -> bool
         ensures { result ≡ spec.allowed self }
     {
         self.is_within() && self.all_fit() && self.none_after()
@@ -82,7 +84,8 @@ impl Collector {
         }
     }
 
-    // Returns a collector to whose Get no answer came once more. The third time it stops.
+    // Returns a collector to whose Get no answer came once more. The third time it stops: it holds that in its flag, while a viewer ends by
+    // the count itself (`view`), so that the two share no more than the number of tries.
     #[tactic(auto, unfolding(crate::specs::Collecting::silenced))]
     fn silenced(self) -> Collector
         ensures { result ≡ spec.silenced self }
@@ -113,30 +116,33 @@ impl Collector {
         }
     }
 
-    // Returns a collector after a frame. An ended one stays as it was.
-    #[tactic(auto, using(crate::proofs::Moving::waiting_few), unfolding(crate::specs::Collecting::advanced))]
-    pub(crate) fn after_frame(self, command: u8, bytes: &[u8]) -> Collector
-        ensures { result ≡ spec.advanced self (heard command bytes.now) }
+    // Returns what a frame does while a setting is left.
+    pub(crate) fn heard(self, command: u8, bytes: &[u8]) -> Intake
+        ensures { result ≡ cond (ltb self.len count) (spec.intake_of self.numbers self.len (heard command bytes.now)) Intake.Waits }
     {
-        if !self.is_waiting() {
-            return self;
+        if self.len >= COUNT {
+            return Intake::Waits;
         }
         let numbers = self.numbers;
         let due = Place {
             numbers,
             index: self.len,
         };
-        self.moved(due.of_frame(command, bytes))
+        due.of_frame(command, bytes)
     }
 
-    // Returns a collector to whose Get no answer came. An ended one stays as it was.
-    #[tactic(auto, using(crate::proofs::Moving::waiting_few), unfolding(crate::specs::Collecting::advanced, crate::specs::Collecting::intake_of))]
-    pub(crate) fn after_silence(self) -> Collector
-        ensures { result ≡ spec.advanced self no_answer }
+    // Returns the answer of any collector, after what came to its Get. An ended one stays as it was. Refuses 12 for one that no start and
+    // events give.
+    #[tactic(auto, using(crate::proofs::Moving::waiting_few))]
+    pub(crate) fn after(self, intake: Intake) -> Collected
+        ensures { result ≡ cond (spec.allowed self) (calls.good (cond (spec.is_waiting self) (spec.moved self intake) self)) (calls.stray self) }
     {
-        if !self.is_waiting() {
-            return self;
+        if !self.is_allowed() {
+            return self.stray();
         }
-        self.moved(Intake::Silence)
+        if !self.is_waiting() {
+            return self.good();
+        }
+        self.moved(intake).good()
     }
 }

@@ -70,18 +70,18 @@ module _ (core : Core) (command : ℕ) (request : List ℕ) (small : Bytes reque
   told_known (a_ping p) e = other 5 _ (λ s. absurd (false≢true s)) e
   told_known (a_version p) e = other 1 _ (λ s. absurd (false≢true s)) e
   told_known (a_product p) e = other 1 _ (λ s. absurd (false≢true s)) e
-  told_known (a_restart p) e = let z : ◌≡◌ {A = ℕ} 0 1 = cc in absurd (omega arith)
-  told_known (an_async p) e = let z : ◌≡◌ {A = ℕ} 0 1 = cc in absurd (omega arith)
+  told_known (a_restart p) e = cc
+  told_known (an_async p) e = cc
   told_known (a_get p k h is) e = known as_good 7 _ _ is e
   told_known (a_get_read_only p value holds) e = known as_good 7 (id_in request) value refl e
   told_known (a_set p k n h is number) e = known as_good 8 _ _ is e
   told_known row_5 e = other 3 _ (λ s. absurd (false≢true s)) e
-  told_known row_6 e = let z : ◌≡◌ {A = ℕ} 0 1 = cc in absurd (omega arith)
+  told_known row_6 e = cc
   told_known (row_7 p) e = known as_7 command (id_in request) _ refl e
   told_known row_8 e = known as_8 8 (id_in request) _ refl e
   told_known (row_9 k h is) e = known as_9 8 _ _ is e
   told_known (row_10 k m h is near) e = known as_10 8 _ _ is e
-  told_known row_12 e = let z : ◌≡◌ {A = ℕ} 0 1 = cc in absurd (omega arith)
+  told_known row_12 e = cc
 
 pub outcome_read : OutcomeIsRead
 outcome_read core command request code bytes small stated e = told_known core command request small code bytes stated (outcome_and_reply core command request small) e
