@@ -1,5 +1,5 @@
 -- The laws of the box's hearing: those of the stream's call, under its own name. Assumes nothing.
-use mathlib.Core.Path.{◌≡◌, refl}
+use mathlib.Core.Path.{◌≡◌}
 use mathlib.Core.Bool.{true, false}
 use mathlib.Core.List.{List, [], ◌∷◌, append-nil}
 use Prim.Native.Nat.{ℕ, ◌≤◌, ◌<◌}
@@ -11,7 +11,7 @@ use lib.Seq.{take_all}
 use lib.Dec.{leb, ltb}
 use Rattle.laws.specs.Cutting.{Offer, calls, ready}
 use Rattle.stream.specs.Stream.{left_from, left_by, frames_from}
-use Rattle.stream.specs.Calls.{allowed, unfinished, held_of, unheard, heard_of, hearing}
+use Rattle.stream.specs.Calls.{allowed, unfinished, held_of, unheard, heard_of}
 use Rattle.stream.specs.Laws.{Cut}
 use Rattle.stream.specs.declared.Held.{Held}
 use Rattle.std.specs.Prelude.{Ok, Err, None}

@@ -5,17 +5,14 @@ use mathlib.Core.List.{List}
 use Prim.Native.Nat.{ℕ, ◌≤◌, ◌<◌}
 use borrow.Author.Tests.{lt-ltb, le-ltb, ltb-true, ltb-false}
 use lib.Dec.{ltb}
-use Rattle.laws.specs.Promise.{Given, Gives}
-use Rattle.laws.proofs.Promise.{gives_bytes}
+use Rattle.laws.specs.Promise.{Given}
 use Rattle.paper.specs.declared.Refusal.{Refusal}
 use Rattle.paper.specs.Numbers.{short_buffer, not_allowed}
-use Rattle.stream.specs.Calls.{allowed, hearing}
-use Rattle.stream.specs.declared.Heard.{Heard}
+use Rattle.stream.specs.Calls.{allowed}
 use Rattle.listen.specs.declared.Listener.{Listener}
 use Rattle.listen.specs.declared.Listened.{Listened}
 use Rattle.listen.specs.Hearing.{box_hearing}
-use Rattle.listen.specs.Calls.{is_over, refusing, late, reported, wordless, reporting, listening}
-use Rattle.listen.proofs.Hearing.{box_is}
+use Rattle.listen.specs.Calls.{is_over, refusing, late, wordless, reporting, listening}
 
 module _ (l : Listener) (piece : List ℕ) (time room : ℕ) where
   pub listening_short : room < 35 → listening l piece time room ≡ wordless (refusing l short_buffer)
