@@ -4,19 +4,18 @@ ghost use Rattle.endian.specs.Numbers.{said};
 ghost use Rattle.answers.specs.AsHeld.{message_of};
 
 use crate::Message;
+use spans::Few;
 
 impl Message {
     // Returns a message of a command and its data.
-    #[tactic(auto, unfolding(crate::specs::AsHeld::message_of))]
     pub(crate) fn new(command: u8, from: &[u8]) -> Message
         requires { length from.now ≤ most_data }
         ensures { result ≡ message_of command from.now }
     {
-        let mut bytes = [0u8; paper::MOST_DATA];
-        spans::copy(from, &mut bytes);
+        let Few { len, bytes } = Few::of(from);
         Message {
             command,
-            len: from.len(),
+            len,
             bytes,
         }
     }

@@ -1,11 +1,10 @@
 // The identity of a serial. The array is 0 past the serial's length, so that an identity has one form.
 ghost use Rattle.std.specs.Prelude.{◌≡◌, length, ◌≤◌};
 ghost use Rattle.paper.specs.Numbers.{most_serial};
-ghost use Rattle.laws.specs.Promise.{front_of};
 ghost use Rattle.who.specs.Parts.{serial_fits, identity_of};
 
 use crate::{Identity, numbers};
-use spans::Within;
+use spans::{Few, Within};
 
 // The bytes that a serial may have.
 pub(crate) const PRINTED: Within = Within {
@@ -21,26 +20,16 @@ pub(crate) fn serial_fits(serial: &[u8]) -> bool
     (serial.len() <= paper::MOST_SERIAL) & spans::all(serial, PRINTED)
 }
 
-// Returns an array with some bytes at its front, and zeros after them.
-pub(crate) fn front(from: &[u8]) -> [u8; paper::MOST_SERIAL]
-    requires { length from.now ≤ most_serial }
-    ensures { result ≡ front_of most_serial from.now }
-{
-    let mut array = [0u8; paper::MOST_SERIAL];
-    spans::copy(from, &mut array);
-    array
-}
-
 // Returns the identity of a product, a version and a serial.
-#[tactic(auto, unfolding(crate::specs::Parts::identity_of))]
 pub(crate) fn identity_of(product: u16, version: u16, serial: &[u8]) -> Identity
     requires { length serial.now ≤ most_serial }
     ensures { result ≡ identity_of product version serial.now }
 {
+    let Few { len, bytes } = Few::of(serial);
     Identity {
         product,
         version,
-        len: serial.len(),
-        serial: front(serial),
+        len,
+        serial: bytes,
     }
 }

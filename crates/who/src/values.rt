@@ -1,24 +1,21 @@
 // The read-only values, as the bytes that a Get answers.
 ghost use Rattle.std.specs.Prelude.{◌≡◌, true, ◌≤◌, length};
 ghost use Rattle.paper.specs.Numbers.{most_serial};
-ghost use Rattle.endian.specs.Numbers.{little};
 ghost use Rattle.who.specs.Parts.{identity_allowed};
 ghost use Rattle.who.specs.Values.{product_value, serial_value, read_only};
 ghost use Rattle.who.specs.Calls.{value_of, looked_of};
 
-use crate::{Identity, Readings, Value, names};
+use crate::{Identity, Readings, Value};
 use paper::Refusal;
+use spans::Few;
 
 // Returns the value that some bytes are.
-#[tactic(auto, unfolding(crate::specs::Calls::value_of))]
 fn value_of(from: &[u8]) -> Value
     requires { length from.now ≤ most_serial }
     ensures { result ≡ value_of from.now }
 {
-    Value {
-        len: from.len(),
-        bytes: names::front(from),
-    }
+    let Few { len, bytes } = Few::of(from);
+    Value { len, bytes }
 }
 
 // Returns the value of 0100: a zero byte, the product, FF.

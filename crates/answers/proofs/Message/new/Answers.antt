@@ -1,10 +1,9 @@
 -- `answers::Message::new` meets its contract. Assumes nothing.
-use lib.ListN.{replicate}
-use Rattle.laws.specs.Promise.{front_of}
-use Rattle.laws.proofs.Promise.{copied}
+use Rattle.std.proofs.lemmas.List.{take_all}
+use Rattle.spans.specs.Few.{few}
 use Rattle.answers.specs.AsHeld.{message_of}
 use Rattle.answers.proofs.Message.new.Goals as goal
 
 pub returns : goal.returns
-unfolding message_of front_of
-returns c = rw (copied c.args.from.now (replicate 35 0) c.requires c.copy.ensures.copied)
+unfolding message_of few
+returns c = rw (c.of-len.ensures, take_all 35 c.args.from.now c.requires)
