@@ -18,6 +18,8 @@ mod state;
 
 // How many settings were answered, their numbers in the order of the ids, 0 past them, how many times no answer came to the Get of the one
 // that is due, and whether it has stopped. Which setting is due, and whether all is done, follows from these.
+// The four stay apart, in fixed memory: the law AllowedIsReached speaks of any of them together, and whoever hands in a state that no start and
+// events give is refused.
 #[derive(Clone, Copy)]
 pub struct Collector {
     pub len: usize,

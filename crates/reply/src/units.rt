@@ -1,4 +1,5 @@
 // Readings in their units: the exact whole number, divided once. A value of another width is refused by 9.
+// The three differ in the call of `endian`, by width and sign: a trait over those calls would be longer, and no plainer.
 ghost use Rattle.std.specs.Prelude.{◌≡◌, pos};
 ghost use Rattle.endian.specs.Numbers.{from_little, signed};
 ghost use Rattle.reply.specs.Units.{over, of_width};
