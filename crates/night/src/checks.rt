@@ -1,52 +1,52 @@
 // `night check FILE`, and the words for what is wrong in a file.
-use crate::file::Text;
 use crate::{file, names, words};
-use backup::Checked;
+use backup::BadText;
 use lines::Line;
+use paper::Refusal;
 use ports::{Report, System};
 use settings::COUNT;
+
+// How long the first line of a backup text is.
+const HEADER_LEN: usize = 12;
 
 // Says whether the file is good, or what is wrong in it and where.
 pub(crate) fn run(system: System) {
     let mut path = ports::buffer();
-    let len = ports::arg(system, words::FIRST, &mut path);
-    let text = file::read(system, &path[..len]);
-    if !text.is {
-        return;
+    let mut text = ports::buffer();
+    let path = words::arg(system, words::FIRST, &mut path);
+    if let Some(text) = file::read(system, path, &mut text) {
+        tell(ports::output(system), text);
     }
-    tell(ports::output(system), text);
 }
 
 // Says the verdict on a text, and the reason for a refusal.
-pub(crate) fn tell(report: Report, text: Text) {
-    let backup = text.backup;
-    let verdict = backup.verdict;
+pub(crate) fn tell(report: Report, text: &[u8]) {
+    let verdict = backup::read(text).verdict;
     words::add(report, sentences::checked(verdict));
-    match verdict {
-        Checked::Accepted => {}
-        Checked::Refused { number, line: row } => {
-            words::add(report, put_why(Line::start().put(b": "), number, row, text));
-        }
+    if let Err(bad) = verdict {
+        words::add(report, put_why(Line::start().put(b": "), bad, text));
     }
     words::end(report);
 }
 
 // Puts the reason for a refusal.
-fn put_why(line: Line, number: u8, row: usize, text: Text) -> Line {
-    match number {
-        13 => put_header(line, text.returns),
-        14 => line.put(b"not four digits, a tab, a number of 1 to 5 digits and a newline"),
-        15 => line.put(b"another id is due here"),
-        16 => put_range(line, row),
-        17 => put_pair(line, text.apart, text.first, text.second),
-        18 => line.put(b"bytes follow the last line"),
+fn put_why(line: Line, bad: BadText, text: &[u8]) -> Line {
+    match bad.refusal {
+        Refusal::OtherHeader => put_header(line, text),
+        Refusal::BadLine => line.put(
+            b"not four digits, a tab, a number of 1 to 5 digits and a newline",
+        ),
+        Refusal::OtherId => line.put(b"another id is due here"),
+        Refusal::OutOfRange => put_range(line, bad.line),
+        Refusal::PairDisagrees => put_pair(line, text),
+        Refusal::MoreBytes => line.put(b"bytes follow the last line"),
         _ => line.put(b"not allowed"),
     }
 }
 
-// Puts what the first line should be, and whether the file has the line ends of another system.
-fn put_header(line: Line, returns: bool) -> Line {
-    if returns {
+// Puts what the first line should be, or that the file has the line ends of another system.
+fn put_header(line: Line, text: &[u8]) -> Line {
+    if text.contains(&b'\r') {
         return line.put(b"the file has carriage returns: save it with plain line ends");
     }
     line.put(b"the first line is not settings, a tab and ")
@@ -55,22 +55,42 @@ fn put_header(line: Line, returns: bool) -> Line {
 
 // Puts the setting of a row, of which the first is the header, and its range.
 fn put_range(line: Line, row: usize) -> Line {
-    if row < 2 {
+    let Some(index) = row.checked_sub(2) else {
         return line;
-    }
-    let index = row - 2;
+    };
     let title = names::put_title(line, index).put(b" is outside its range, ");
     names::put_range(title, index)
+}
+
+// Returns the number of the setting at a place, in a text whose lines are good; 0 where the text has none.
+fn number_at(text: &[u8], place: usize) -> u16 {
+    let mut rest = text.get(HEADER_LEN..).unwrap_or_default();
+    for index in 0..place {
+        rest = match rows::judge(rest, index) {
+            Ok(judged) => rest.get(judged.len..).unwrap_or_default(),
+            Err(_) => &[],
+        };
+    }
+    rows::judge(rest, place).map_or(0, |judged| judged.number)
+}
+
+// Returns whether the setting at a place agrees with its partner.
+fn agrees(text: &[u8], index: usize) -> bool {
+    let partner = settings::setting_at(index).partner;
+    settings::allows(index, number_at(text, index), number_at(text, partner))
+}
+
+// Puts the first pair that disagrees, with both numbers.
+fn put_pair(line: Line, text: &[u8]) -> Line {
+    let Some(index) = (0..COUNT).find(|index| !agrees(text, *index)) else {
+        return line;
+    };
+    let partner = settings::setting_at(index).partner;
+    let begun = put_held(line, index, number_at(text, index)).put(b" and ");
+    put_held(begun, partner, number_at(text, partner)).put(b" disagree")
 }
 
 // Puts a setting and its number.
 fn put_held(line: Line, index: usize, number: u16) -> Line {
     names::put_amount(names::put_title(line, index).put(b" "), index, number)
-}
-
-// Puts the pair that disagrees, with both numbers.
-fn put_pair(line: Line, index: usize, first: u16, second: u16) -> Line {
-    let partner = settings::setting_at(index).partner;
-    let begun = put_held(line, index, first).put(b" and ");
-    put_held(begun, partner, second).put(b" disagree")
 }

@@ -1,7 +1,7 @@
 // What is at a path. Kinds are told by what the system lets be done.
 use ports::System;
 use std::fs::File;
-use std::io::Error;
+use std::io::{Error, ErrorKind};
 
 // What is there: nothing, a file, a link, a folder, a device or a pipe, or what cannot be opened.
 #[derive(Clone, Copy)]
@@ -17,23 +17,18 @@ pub(crate) enum Kind {
 // Returns the kind of what was opened.
 fn kind_of(file: File) -> Kind {
     if ports::is_plain(&file) {
-        return Kind::File;
+        Kind::File
+    } else {
+        Kind::Device
     }
-    Kind::Device
 }
 
 // Returns the kind of what could not be opened for writing: it may still be read.
 fn kind_shut(system: System, path: &[u8], error: Error) -> Kind {
-    let number = ports::number_of(error);
-    if number == ports::NOTHING_THERE {
-        return Kind::Nothing;
-    }
-    if number == ports::A_FOLDER {
-        return Kind::Folder;
-    }
-    match ports::open_read(system, path) {
-        Ok(file) => kind_of(file),
-        Err(_) => Kind::Shut,
+    match error.kind() {
+        ErrorKind::NotFound => Kind::Nothing,
+        ErrorKind::IsADirectory => Kind::Folder,
+        _ => ports::open_read(system, path).map_or(Kind::Shut, kind_of),
     }
 }
 

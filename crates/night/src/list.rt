@@ -1,213 +1,122 @@
 // The list of a yard: a row for each trailer with its name, its serial line and its file, blanks or tabs between, and after them, if it is
 // wished, `serial=` and the serial of its board. A file's name may have blanks. An empty row and one that begins with # are skipped.
-ghost use Rattle.std.specs.Prelude.{◌<◌, ◌≤◌, length};
+use crate::file::Unread;
+use crate::{file, words};
+use ports::System;
 
-use crate::whose::Serial;
-use crate::{file, whose, words};
-use ports::{Report, System};
-use std::fs::File;
+// What comes between a file and the serial of its board, after a blank.
+const MARK: &[u8] = b"serial=";
 
-// How long a blank and `serial=` are.
-const MARK: usize = 8;
-
-// What became of a list: all of it is there, it cannot be read, or it has more bytes than there is room for.
-#[derive(Drop)]
-pub(crate) enum State {
-    Whole,
-    Unread,
-    Long,
+// What a row of the list says of a trailer: the serial is the one that its board must have, if one is named.
+#[derive(Clone, Copy)]
+pub(crate) struct Trailer<'a> {
+    pub(crate) name: &'a [u8],
+    pub(crate) line: &'a [u8],
+    pub(crate) file: &'a [u8],
+    pub(crate) serial: Option<&'a [u8]>,
 }
 
-// The state of a list, and how many bytes of it were read.
-#[derive(Drop)]
-pub(crate) struct List {
-    pub(crate) state: State,
-    pub(crate) len: usize,
+// A row of the list: one that is skipped, one that has less than a name, a line and a file, or a trailer's.
+#[derive(Clone, Copy)]
+pub(crate) enum Row<'a> {
+    Skipped,
+    Short(&'a [u8]),
+    Of(Trailer<'a>),
 }
 
 // Reads the list that the first argument names into a buffer.
-pub(crate) fn read(system: System, into: &mut [u8]) -> List {
-    let mut path = ports::buffer();
-    let len = ports::arg(system, words::FIRST, &mut path);
-    match ports::open_read(system, &path[..len]) {
-        Ok(file) => read_open(file, into),
+pub(crate) fn read(system: System, into: &mut [u8]) -> Result<&[u8], Unread<'_>> {
+    let mut room = ports::buffer();
+    let path = words::arg(system, words::FIRST, &mut room);
+    match ports::open_read(system, path) {
+        Ok(file) => file::read_whole(&file, into),
         Err(error) => {
-            ports::fail(system, &path[..len], error);
-            nothing(State::Unread)
+            ports::fail(system, path, error);
+            Err(Unread::Failed)
         }
     }
 }
 
-// Reads an open list into a buffer, and closes it.
-fn read_open(file: File, into: &mut [u8]) -> List {
-    let len = ports::read_full(&file, into);
-    let whole = file::is_read(&file, len, into.len());
-    if !whole {
-        return nothing(State::Unread);
-    }
-    if len == into.len() {
-        return nothing(State::Long);
-    }
-    List {
-        state: State::Whole,
-        len,
+// Returns the first word of a text, and what follows the blanks after it.
+fn word_of(text: &[u8]) -> (&[u8], &[u8]) {
+    let end = text.iter().position(|c| words::is_blank(*c));
+    let (word, rest) = text.split_at(end.unwrap_or(text.len()));
+    (word, words::past_blanks(rest))
+}
+
+// Returns whether a text is a blank and then the mark of a serial.
+fn is_mark(text: &[u8]) -> bool {
+    matches!(text, [blank, mark @ ..] if words::is_blank(*blank) && mark == MARK)
+}
+
+// Returns the end of a row that begins with the file: its name, and the serial that follows it, if one does.
+fn file_of(rest: &[u8]) -> (&[u8], Option<&[u8]>) {
+    match rest.windows(1 + MARK.len()).position(is_mark) {
+        Some(at) => (
+            words::filled(&rest[..at]),
+            Some(&rest[at + 1 + MARK.len()..]),
+        ),
+        None => (rest, None),
     }
 }
 
-// Returns a list of which nothing is used.
-fn nothing(state: State) -> List {
-    List { state, len: 0 }
+// Returns what a row says.
+pub(crate) fn row_of(text: &[u8]) -> Row<'_> {
+    let row = words::filled(words::past_blanks(text));
+    if matches!(row, [] | [b'#', ..]) {
+        return Row::Skipped;
+    }
+    let (name, rest) = word_of(row);
+    let (line, rest) = word_of(rest);
+    if rest.is_empty() {
+        return Row::Short(row);
+    }
+    let (file, serial) = file_of(rest);
+    Row::Of(Trailer {
+        name,
+        line,
+        file,
+        serial,
+    })
 }
 
-// Returns where the row that begins at a place ends: at the next newline after its first byte, or at the list's end.
-pub(crate) fn row_end(list: &[u8], at: usize) -> usize
-    requires { at < length list.now }
-    ensures after { at < result }
-    ensures within { result ≤ length list.now }
-{
-    let next = at + 1;
-    next + spans::find(&list[next..], b'\n')
+// Returns the serial line of a row that is a trailer's.
+fn line_of(text: &[u8]) -> Option<&[u8]> {
+    match row_of(text) {
+        Row::Of(trailer) => Some(trailer.line),
+        _ => None,
+    }
 }
 
-// Returns whether two rows have the same serial line, and tells the first such one.
-pub(crate) fn is_doubled(list: &[u8], report: Report) -> bool {
-    let mut at = 0;
-    while at < list.len() {
-        let end = row_end(list, at);
-        if is_again(&list[0..at], &list[at..end], report) {
-            return true;
+// Returns whether one of the first rows of the list has this serial line.
+fn is_in(list: &[u8], count: usize, line: &[u8]) -> bool {
+    list.split(|c| *c == b'\n')
+        .take(count)
+        .any(|row| line_of(row) == Some(line))
+}
+
+// Returns the first serial line that an earlier row has too.
+pub(crate) fn doubled(list: &[u8]) -> Option<&[u8]> {
+    for (count, row) in list.split(|c| *c == b'\n').enumerate() {
+        let line = line_of(row);
+        if line.is_some_and(|line| is_in(list, count, line)) {
+            return line;
         }
-        at = end;
     }
-    false
-}
-
-// Returns whether an earlier row has this row's serial line, and tells which.
-fn is_again(before: &[u8], row: &[u8], report: Report) -> bool {
-    let path = line_of(row);
-    let end = next(row, path, true);
-    if path == end {
-        return false;
-    }
-    if !is_in(before, &row[path..end]) {
-        return false;
-    }
-    words::name(report, b"nothing was begun: two rows have one line");
-    words::say(report, &row[path..end]);
-    true
-}
-
-// Returns whether a row of the list has this serial line.
-fn is_in(list: &[u8], line: &[u8]) -> bool {
-    let mut at = 0;
-    while at < list.len() {
-        let end = row_end(list, at);
-        if has_line(&list[at..end], line) {
-            return true;
-        }
-        at = end;
-    }
-    false
-}
-
-// Returns whether this is the row's serial line.
-fn has_line(row: &[u8], line: &[u8]) -> bool {
-    let path = line_of(row);
-    let end = next(row, path, true);
-    words::same(&row[path..end], line)
-}
-
-// Returns where the serial line of a row begins: at the row's end for one that has none or no file, and for one that is skipped.
-fn line_of(row: &[u8]) -> usize
-    ensures { result ≤ length row.now }
-{
-    let name = next(row, 0, false);
-    let path = next(row, next(row, name, true), false);
-    let kept = next(row, next(row, path, true), false);
-    if row.len() <= kept {
-        return row.len();
-    }
-    if row[name] == b'#' {
-        return row.len();
-    }
-    path
-}
-
-// Returns the first place from `from` on that is a blank, or that is none, as wished; or the end.
-pub(crate) fn next(row: &[u8], from: usize, blank: bool) -> usize
-    requires { from ≤ length row.now }
-    ensures { (from ≤ result) × (result ≤ length row.now) }
-{
-    let mut at = from;
-    while at < row.len() {
-        if words::is_blank(row[at]) == blank {
-            return at;
-        }
-        at += 1;
-    }
-    at
-}
-
-// Returns whether the text is a blank and `serial=` at its front.
-fn is_mark(rest: &[u8]) -> bool {
-    if rest.len() < MARK {
-        return false;
-    }
-    words::is_blank(rest[0]) && words::same(&rest[1..MARK], b"serial=")
-}
-
-// Returns where the column of the expected serial begins, with the blank before it; or the row's end.
-pub(crate) fn mark_of(row: &[u8], from: usize) -> usize
-    requires { from ≤ length row.now }
-    ensures { (from ≤ result) × (result ≤ length row.now) }
-{
-    let mut at = from;
-    while at < row.len() {
-        if is_mark(&row[at..]) {
-            return at;
-        }
-        at += 1;
-    }
-    at
-}
-
-// Returns whether the board is the one that a row expects: any, where the row has no such column.
-pub(crate) fn is_expected(column: &[u8], serial: Serial) -> bool {
-    if column.len() < MARK {
-        return true;
-    }
-    whose::is(serial, &column[MARK..])
+    None
 }
 
 // Tells the name and the serial line of each trailer (`night lines LIST`), so that a script that sets the serial lines need not read the
 // list itself. Of a list that cannot be read it tells none; `night yard` tells why.
 pub(crate) fn tell_lines(system: System) {
-    let mut list = ports::large_buffer();
-    let read = read(system, &mut list);
-    let n = words::front(read.len, &list);
-    tell_all(ports::output(system), &list[..n]);
-}
-
-// Tells the name and the serial line of each row.
-fn tell_all(report: Report, list: &[u8]) {
-    let mut at = 0;
-    while at < list.len() {
-        let end = row_end(list, at);
-        tell_line(report, &list[at..end]);
-        at = end;
+    let mut room = ports::large_buffer();
+    let report = ports::output(system);
+    let list = read(system, &mut room).unwrap_or_default();
+    for row in list.split(|c| *c == b'\n') {
+        if let Row::Of(trailer) = row_of(row) {
+            words::put(report, trailer.name);
+            words::put(report, b" ");
+            words::say(report, trailer.line);
+        }
     }
-}
-
-// Tells the name and the serial line of a row that has both and a file.
-fn tell_line(report: Report, row: &[u8]) {
-    let path = line_of(row);
-    if path == row.len() {
-        return;
-    }
-    let name = next(row, 0, false);
-    let name_end = next(row, name, true);
-    let end = next(row, path, true);
-    ports::write_all(report, &row[name..name_end]);
-    ports::write_all(report, b" ");
-    words::say(report, &row[path..end]);
 }

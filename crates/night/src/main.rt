@@ -37,18 +37,17 @@ mod words;
 mod yard;
 
 fn main(rt: HostRuntime) {
-    let mut what = [0u8; words::MOST_COMMAND];
-    let len = ports::arg(rt, words::COMMAND, &mut what);
-    let command = words::asked_for(&what[..len], ports::arg_count(rt));
-    match command {
-        words::Command::Save => save::run(rt),
-        words::Command::Check => checks::run(rt),
-        words::Command::Restore => putback::run(rt),
-        words::Command::Plan => putback::plan(rt),
-        words::Command::Show => show::run(rt),
-        words::Command::Yard => yard::run(rt),
-        words::Command::Table => yard::run_table(rt),
-        words::Command::Lines => list::tell_lines(rt),
-        words::Command::Unknown => words::usage(rt),
+    let mut room = [0; words::MOST_COMMAND];
+    let command = words::arg(rt, words::COMMAND, &mut room);
+    match (command, ports::arg_count(rt)) {
+        (b"save", 4) => save::run(rt),
+        (b"check", 3) => checks::run(rt),
+        (b"restore", 4) => putback::run(rt),
+        (b"plan", 4) => putback::plan(rt),
+        (b"show", 3) => show::run(rt),
+        (b"yard", 3) => yard::run(rt),
+        (b"yard", 4) => yard::run_table(rt),
+        (b"lines", 3) => list::tell_lines(rt),
+        _ => words::usage(rt),
     }
 }

@@ -1,103 +1,76 @@
 // The settings as the report names them: plain English for document 001's names, its units, and as many decimals as its steps have. In the
 // order of the ids; tests/talk compares what is printed.
-ghost use Rattle.std.specs.Prelude.{◌≡◌, length};
-
-use crate::words;
 use lines::Line;
-use settings::{COUNT, Found};
+use settings::COUNT;
 
-// The units of the settings' numbers, each as wide as the widest, with the blank before it.
-const SUFFIX: usize = 4;
+// The unit of a setting's number.
+#[derive(Clone, Copy)]
+enum Unit {
+    Plain,
+    Volts,
+    Percent,
+    Kelvin,
+    AmpHours,
+    Minutes,
+    Amperes,
+}
 
-const SUFFIXES: usize = 28;
+// How a setting is shown: its name, its unit, how many digits its number has after the point, and whether 0 is no amount but turns it off,
+// as it does an alarm and the clearing point of a temperature.
+#[derive(Clone, Copy)]
+struct Shown {
+    name: &'static [u8],
+    unit: Unit,
+    decimals: u8,
+    off: bool,
+}
 
-const PLAIN: u8 = 0;
-
-const VOLTS: u8 = 1;
-
-const PERCENT: u8 = 2;
-
-const KELVIN: u8 = 3;
-
-const AMP_HOURS: u8 = 4;
-
-const MINUTES: u8 = 5;
-
-const AMPERES: u8 = 6;
-
-// The width of the column of names.
+// The width of the column of names, and as many blanks.
 const WIDE: usize = 22;
 
-const ALL: usize = 572;
+const BLANKS: [u8; WIDE] = [b' '; WIDE];
 
 // 0 degrees Celsius in steps of 0.01 K.
 const FREEZING: usize = 27315;
 
-const UNITS: [u8; COUNT] = [
-    VOLTS, // 0320
-    VOLTS, // 0321
-    VOLTS, // 0322
-    VOLTS, // 0323
-    PERCENT, // 0328
-    PERCENT, // 0329
-    KELVIN, // 032A
-    KELVIN, // 032B
-    KELVIN, // 032C
-    KELVIN, // 032D
-    PLAIN, // 0400
-    AMP_HOURS, // 1000
-    VOLTS, // 1001
-    PERCENT, // 1002
-    MINUTES, // 1003
-    PERCENT, // 1004
-    PLAIN, // 1005
-    AMPERES, // 1006
-    MINUTES, // 1007
-    PERCENT, // 1008
-    PERCENT, // 1009
-    PLAIN, // EEF5
-    PLAIN, // EEF7
-    AMPERES, // EEFB
-    PLAIN, // EEFC
-    PLAIN, // EEFE
-];
-
-// How many digits a number has after the point.
-const DECIMALS: [u8; COUNT] = [
-    1, // 0320
-    1, // 0321
-    1, // 0322
-    1, // 0323
-    1, // 0328
-    1, // 0329
-    2, // 032A
-    2, // 032B
-    2, // 032C
-    2, // 032D
-    0, // 0400
-    0, // 1000
-    1, // 1001
-    1, // 1002
-    0, // 1003
-    0, // 1004
-    2, // 1005
-    2, // 1006
-    0, // 1007
-    1, // 1008
-    1, // 1009
-    0, // EEF5
-    0, // EEF7
-    0, // EEFB
-    0, // EEFC
-    0, // EEFE
-];
-
-// Returns all names, each as wide as the column.
-fn all() -> [u8; ALL]
-    ensures { 572 ≡ length result }
-{
-    *b"low voltage alarm     low voltage clear     high voltage alarm    high voltage clear    low SOC alarm         low SOC clear         low temperature alarm low temperature clear high temperature alarmhigh temperature clearbacklight always on   battery capacity      charged voltage       tail current          detection time        charge efficiency     Peukert coefficient   current threshold     time-to-go delta      discharge floor       discharge floor clear scroll speed          temperature unit      shunt amps            alarm buzzer          backlight intensity   "
+// A setting as it is shown: name, unit and decimals, and `off` where 0 turns it off.
+macro_rules! shown {
+    ($name:literal, $unit:ident, $decimals:literal) => {
+        Shown { name: $name, unit: Unit::$unit, decimals: $decimals, off: false }
+    };
+    ($name:literal, $unit:ident, $decimals:literal, off) => {
+        Shown { name: $name, unit: Unit::$unit, decimals: $decimals, off: true }
+    };
 }
+
+const SHOWN: [Shown; COUNT] = [
+    shown!(b"low voltage alarm", Volts, 1, off), // 0320
+    shown!(b"low voltage clear", Volts, 1), // 0321
+    shown!(b"high voltage alarm", Volts, 1, off), // 0322
+    shown!(b"high voltage clear", Volts, 1), // 0323
+    shown!(b"low SOC alarm", Percent, 1, off), // 0328
+    shown!(b"low SOC clear", Percent, 1), // 0329
+    shown!(b"low temperature alarm", Kelvin, 2, off), // 032A
+    shown!(b"low temperature clear", Kelvin, 2, off), // 032B
+    shown!(b"high temperature alarm", Kelvin, 2, off), // 032C
+    shown!(b"high temperature clear", Kelvin, 2, off), // 032D
+    shown!(b"backlight always on", Plain, 0), // 0400
+    shown!(b"battery capacity", AmpHours, 0), // 1000
+    shown!(b"charged voltage", Volts, 1), // 1001
+    shown!(b"tail current", Percent, 1), // 1002
+    shown!(b"detection time", Minutes, 0), // 1003
+    shown!(b"charge efficiency", Percent, 0), // 1004
+    shown!(b"Peukert coefficient", Plain, 2), // 1005
+    shown!(b"current threshold", Amperes, 2), // 1006
+    shown!(b"time-to-go delta", Minutes, 0), // 1007
+    shown!(b"discharge floor", Percent, 1), // 1008
+    shown!(b"discharge floor clear", Percent, 1), // 1009
+    shown!(b"scroll speed", Plain, 0), // EEF5
+    shown!(b"temperature unit", Plain, 0), // EEF7
+    shown!(b"shunt amps", Amperes, 0), // EEFB
+    shown!(b"alarm buzzer", Plain, 0), // EEFC
+    shown!(b"backlight intensity", Plain, 0), // EEFE
+];
 
 // Puts a byte in two hex digits.
 pub(crate) fn put_byte(line: Line, byte: u8) -> Line {
@@ -107,143 +80,66 @@ pub(crate) fn put_byte(line: Line, byte: u8) -> Line {
 
 // Puts the id of the setting at a place.
 fn put_id(line: Line, index: usize) -> Line {
-    let found = settings::at(index);
-    match found {
-        Found::At(setting) => {
-            let low_first = endian::bytes_16(setting.id);
-            put_byte(put_byte(line, low_first[1]), low_first[0])
+    match settings::at(index) {
+        Some(setting) => {
+            let [low, high] = endian::bytes_16(setting.id);
+            put_byte(put_byte(line, high), low)
         }
-        Found::Nothing => line,
+        None => line,
     }
-}
-
-// Puts the name of the setting at a place, as wide as the column or without the blanks at its end.
-fn put_name(line: Line, index: usize, wide: bool) -> Line {
-    if COUNT <= index {
-        return line;
-    }
-    let all = all();
-    let from = index * WIDE;
-    let to = from + WIDE;
-    put_cell(line, &all[from..to], wide)
-}
-
-// Puts a name, with or without the blanks at its end.
-fn put_cell(line: Line, cell: &[u8], wide: bool) -> Line {
-    if wide {
-        return line.put(cell);
-    }
-    let len = words::filled(cell);
-    line.put(&cell[..len])
-}
-
-// Puts the degrees Celsius of steps of 0.01 K.
-fn put_degrees(line: Line, steps: usize) -> Line {
-    if steps < FREEZING {
-        return line.put(b"-").put_pointed(FREEZING - steps, 2);
-    }
-    line.put_pointed(steps - FREEZING, 2)
 }
 
 // Puts a temperature in degrees Celsius: `(16.85 °C)`.
 fn put_celsius(line: Line, number: u16) -> Line {
-    put_degrees(line.put(b" ("), number as usize).put(b" \xC2\xB0C)")
-}
-
-// Returns all units.
-fn suffixes() -> [u8; SUFFIXES]
-    ensures { 28 ≡ length result }
-{
-    *b"     V   %   K   Ah  min A  "
-}
-
-// Puts a unit after its number.
-fn put_suffix(line: Line, unit: u8) -> Line {
-    if AMPERES < unit {
-        return line;
-    }
-    let all = suffixes();
-    let from = unit as usize * SUFFIX;
-    let to = from + SUFFIX;
-    put_cell(line, &all[from..to], false)
+    let steps = usize::from(number);
+    let sign: &[u8] = if steps < FREEZING { b"-" } else { b"" };
+    line.put(b" (")
+        .put(sign)
+        .put_pointed(steps.abs_diff(FREEZING), 2)
+        .put(b" \xC2\xB0C)")
 }
 
 // Puts a unit after its number, and a temperature in degrees Celsius besides.
-fn put_unit(line: Line, unit: u8, number: u16) -> Line {
-    let line = put_suffix(line, unit);
-    if unit == KELVIN {
-        return put_celsius(line, number);
+fn put_unit(line: Line, unit: Unit, number: u16) -> Line {
+    match unit {
+        Unit::Plain => line,
+        Unit::Volts => line.put(b" V"),
+        Unit::Percent => line.put(b" %"),
+        Unit::Kelvin => put_celsius(line.put(b" K"), number),
+        Unit::AmpHours => line.put(b" Ah"),
+        Unit::Minutes => line.put(b" min"),
+        Unit::Amperes => line.put(b" A"),
     }
-    line
-}
-
-// Returns the unit of the setting at a place.
-fn unit_of(index: usize) -> u8 {
-    if COUNT <= index {
-        return PLAIN;
-    }
-    UNITS[index]
-}
-
-// Returns how many digits the setting at a place has after the point.
-fn decimals_of(index: usize) -> u8 {
-    if COUNT <= index {
-        return 0;
-    }
-    DECIMALS[index]
-}
-
-// Returns whether 0 is no amount but turns the setting off: an alarm, and the clearing point of a temperature.
-fn is_off(index: usize, number: u16) -> bool {
-    if number != 0 {
-        return false;
-    }
-    (index == 0) | (index == 2) | (index == 4) | (6 <= index) & (index <= 9)
 }
 
 // Puts a number of steps in the setting's unit: `12.0 V`.
 pub(crate) fn put_amount(line: Line, index: usize, number: u16) -> Line {
-    if COUNT <= index {
-        return line;
+    match SHOWN.get(index) {
+        Some(shown) if shown.off && number == 0 => line.put(b"off"),
+        Some(shown) => {
+            let counted = line.put_pointed(usize::from(number), shown.decimals);
+            put_unit(counted, shown.unit, number)
+        }
+        None => line,
     }
-    if is_off(index, number) {
-        return line.put(b"off");
-    }
-    let counted = line.put_pointed(number as usize, decimals_of(index));
-    put_unit(counted, unit_of(index), number)
-}
-
-// Returns the least number over 0 in a setting's range.
-fn least_of(index: usize) -> u16 {
-    let mut number: u16 = 1;
-    while number < 65535 && !settings::in_range(index, number) {
-        number += 1;
-    }
-    number
-}
-
-// Returns the largest number in a setting's range.
-fn most_of(index: usize) -> u16 {
-    let mut number: u16 = 65535;
-    while number > 0 && !settings::in_range(index, number) {
-        number -= 1;
-    }
-    number
 }
 
 // Puts a range, of which the lower end has no unit.
 fn put_ends(line: Line, index: usize, least: u16, most: u16) -> Line {
-    if COUNT <= index {
-        return line;
+    match SHOWN.get(index) {
+        Some(shown) => {
+            let begun = line.put_pointed(usize::from(least), shown.decimals);
+            put_amount(begun.put(b" to "), index, most)
+        }
+        None => line,
     }
-    let begun = line.put_pointed(least as usize, decimals_of(index));
-    put_amount(begun.put(b" to "), index, most)
 }
 
 // Puts a setting's own range: `1 to 9999 Ah`. A temperature is 0 or in a range that begins further up.
 pub(crate) fn put_range(line: Line, index: usize) -> Line {
-    let least = least_of(index);
-    let most = most_of(index);
+    let in_range = |number: &u16| settings::in_range(index, *number);
+    let least = (1..u16::MAX).find(in_range).unwrap_or(u16::MAX);
+    let most = (1..=u16::MAX).rev().find(in_range).unwrap_or(0);
     if !settings::in_range(index, 0) {
         return put_ends(line, index, least, most);
     }
@@ -256,11 +152,19 @@ pub(crate) fn put_range(line: Line, index: usize) -> Line {
 
 // Puts an id and a name: `0320 low voltage alarm`.
 pub(crate) fn put_title(line: Line, index: usize) -> Line {
-    put_name(put_id(line, index).put(b" "), index, false)
+    let titled = put_id(line, index).put(b" ");
+    match SHOWN.get(index) {
+        Some(shown) => titled.put(shown.name),
+        None => titled,
+    }
 }
 
 // Puts an id, a name and a number, the numbers in a column: `0320 low voltage alarm      12.0 V`.
 pub(crate) fn put_row(line: Line, index: usize, number: u16) -> Line {
-    let named = put_name(put_id(line, index).put(b" "), index, true);
-    put_amount(named.put(b" "), index, number)
+    let titled = put_title(line, index);
+    let wide = match SHOWN.get(index) {
+        Some(shown) => titled.put(BLANKS.get(shown.name.len()..).unwrap_or_default()),
+        None => titled,
+    };
+    put_amount(wide.put(b" "), index, number)
 }

@@ -4,7 +4,6 @@ use crate::{checks, collecting, file, restoring, serial, words};
 use collect::Stage;
 use lines::Line;
 use ports::System;
-use restore::Sets;
 use tables::Table;
 
 // `night restore LINE FILE`.
@@ -19,30 +18,24 @@ pub(crate) fn plan(system: System) {
 
 // Opens the serial line first: where the two arguments are swapped, the device is not read as a file.
 fn begin(system: System, sends: bool) {
-    let ends = serial::first(system);
-    if !ends.open {
-        return;
+    if let Some(ends) = serial::first(system) {
+        put_back(&ends, sends);
     }
-    put_back(&ends, sends);
-    serial::close(ends);
 }
 
 // Reads the file and, if it is good, goes on.
 fn put_back(ends: &Ends, sends: bool) {
     let mut path = ports::buffer();
-    let len = ports::arg(ends.system, words::SECOND, &mut path);
-    let text = file::read(ends.system, &path[..len]);
-    if !text.is {
+    let mut text = ports::buffer();
+    let path = words::arg(ends.system, words::SECOND, &mut path);
+    let Some(text) = file::read(ends.system, path, &mut text) else {
         words::say(ends.report, b"nothing was sent: the file cannot be read");
         return;
-    }
-    let backup = text.backup;
-    let verdict = backup.verdict;
-    let table = backup.table;
-    if file::is_good(verdict) {
-        meet(ends, table, sends);
-    } else {
-        checks::tell(ends.report, text);
+    };
+    let backup = backup::read(text);
+    match backup.verdict {
+        Ok(()) => meet(ends, backup.table, sends),
+        Err(_) => checks::tell(ends.report, text),
     }
 }
 
@@ -50,13 +43,9 @@ fn put_back(ends: &Ends, sends: bool) {
 fn meet(ends: &Ends, to: Table, sends: bool) {
     words::say(ends.report, b"reading the board");
     let read = collecting::settings_of(ends, false);
-    let collected = read.collected;
-    let stage = collected.stage;
-    match stage {
-        Stage::Done => list(ends, collected.table, to, sends),
-        Stage::Waiting(_) => collecting::tell_end(ends.report, read),
-        Stage::Stopped(_) => collecting::tell_end(ends.report, read),
-        Stage::Refused(_) => collecting::tell_end(ends.report, read),
+    match read.machine.stage {
+        Stage::Done => list(ends, read.machine.table, to, sends),
+        _ => collecting::tell_end(ends.report, &read),
     }
 }
 
@@ -64,35 +53,24 @@ fn meet(ends: &Ends, to: Table, sends: bool) {
 fn list(ends: &Ends, from: Table, to: Table, sends: bool) {
     restoring::show_list(ends.report, from, to);
     if sends {
-        send(ends, from, to);
+        let restored = restoring::follow(ends, from, to, true);
+        restoring::tell_end(ends.report, &restored);
     } else {
         words::tell(ends.report, planned(from, to));
     }
 }
 
-// Sends the list and says how it ended.
-fn send(ends: &Ends, from: Table, to: Table) {
-    let restored = restoring::follow(ends, from, to, true);
-    restoring::tell_end(ends.report, restored);
-}
-
-// Returns the sentence for how many settings a restore would set.
-fn counted(due: usize) -> Line {
-    if due == 0 {
-        return Line::start().put(b"equal: nothing to set");
-    }
-    let counted = Line::start().put(b"plan: ").put_number(due);
-    counted
-        .put(b" of ")
-        .put_number(settings::COUNT)
-        .put(b" settings would be set; no Set was sent")
-}
-
 // Returns what a restore would do.
 fn planned(from: Table, to: Table) -> Line {
-    let sets = restore::sets_due(from, to);
-    match sets {
-        Sets::Due(due) => counted(due),
-        Sets::Refused(_) => Line::start().put(b"refused 12"),
+    let line = Line::start();
+    match restore::sets_due(from, to) {
+        Ok(0) => line.put(b"equal: nothing to set"),
+        Ok(due) => line
+            .put(b"plan: ")
+            .put_number(due)
+            .put(b" of ")
+            .put_number(settings::COUNT)
+            .put(b" settings would be set; no Set was sent"),
+        Err(_) => line.put(b"refused 12"),
     }
 }

@@ -1,22 +1,19 @@
 // `night show LINE`.
-use crate::{serial, talk, words};
+use crate::talk::Talk;
+use crate::{serial, words};
 use ports::System;
-use view::Next;
+use view::{Next, Viewer};
 
 // Shows who the board is, and its readings. The last line tells a show that ended from one that broke off.
 pub(crate) fn run(system: System) {
-    let ends = serial::first(system);
-    if !ends.open {
+    let Some(ends) = serial::first(system) else {
         return;
+    };
+    let viewed = Talk::start(Viewer::start(), ends.begun)
+        .whole(&ends, true)
+        .machine;
+    if let Next::Silent(_) = viewed.next {
+        words::say(ends.report, b"no answer: look at the line and its plug");
     }
-    let report = ends.report;
-    let talk = talk::whole(&ends, talk::viewing(ends.begun), true);
-    serial::close(ends);
-    let viewed = talk.viewed;
-    let next = viewed.next;
-    if let Next::Silent(_) = next {
-        words::say(report, b"no answer: look at the line and its plug");
-    }
-    let viewer = viewed.viewer;
-    words::tell(report, sentences::shown(viewer));
+    words::tell(ends.report, sentences::shown(viewed.viewer));
 }

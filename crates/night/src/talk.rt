@@ -1,17 +1,12 @@
 // A talk with a board over a serial line: requests go out one at a time, and what comes back is told to the machine that asks. Three
-// machines ask: the collector reads the settings, the follower follows a restore, the viewer looks at the read-only values. One talk serves
-// all three.
-use crate::ear::News;
+// machines ask: the collector reads the settings (collecting.rt), the follower follows a restore (restoring.rt), the viewer looks at the
+// read-only values (viewing.rt).
+use crate::ear::{News, Said};
 use crate::serial::Ends;
-use crate::{clock, collecting, ear, restoring, viewing, words};
-use collect::{Collected, Collector};
-use follow::{Followed, Follower};
+use crate::{clock, ear};
 use listen::{Listener, Told};
 use ports::{Port, Report};
 use requests::Request;
-use tables::Table;
-use view::{Viewed, Viewer};
-use wire::Written;
 
 // The listener's time is over long before there are this many frames that say nothing of what was asked.
 const MOST_EVENTS: u32 = 1000000000;
@@ -19,276 +14,121 @@ const MOST_EVENTS: u32 = 1000000000;
 // A machine asks three times at most, for no more than there are settings.
 pub(crate) const MOST_REQUESTS: usize = 3 * settings::COUNT;
 
-// Which machine asks.
+// A machine that asks, as it is after what it was told last.
+pub(crate) trait Machine: Copy {
+    // Returns the request that it waits for, or none where it has ended.
+    fn due(&self) -> Option<Request>;
+
+    // Returns how many requests were answered in the way that it needs.
+    fn count(&self) -> usize;
+
+    // Returns it after a frame.
+    fn after_frame(&self, command: u8, bytes: &[u8]) -> Self;
+
+    // Returns it after what was no frame.
+    fn after_noise(&self) -> Self;
+
+    // Returns it after a wait in which no answer came.
+    fn after_silence(&self) -> Self;
+
+    // Shows what an answer has brought, with what was said and the machine after it.
+    fn show(&self, after: &Self, said: &[u8], report: Report);
+}
+
+// A talk: the machine that asks, whether the board was silent, whether nothing more can come, and what was said last.
 #[derive(Clone, Copy)]
-pub(crate) enum Asker {
-    Collector,
-    Follower,
-    Viewer,
-}
-
-// A talk: the machine that asks and two at rest, whether the board was silent, whether nothing more can come, and the data of the frame
-// heard last, none if that was no frame.
-#[derive(Clone, Copy)]
-pub(crate) struct Talk {
-    pub(crate) asker: Asker,
-    pub(crate) listener: Listener,
-    pub(crate) collected: Collected,
-    pub(crate) followed: Followed,
-    pub(crate) viewed: Viewed,
-    pub(crate) silent: bool,
-    pub(crate) ended: bool,
-    pub(crate) said: [u8; paper::MOST_DATA],
-    pub(crate) len: usize,
-}
-
-// What is to be sent: a request, or nothing any more.
-#[derive(Clone, Copy)]
-pub(crate) enum Turn {
-    Ask(Request),
-    Nothing,
-}
-
-// Returns a talk with a trailer that was begun at this time, in which nothing was sent yet.
-fn started(asker: Asker, begun: u64, followed: Followed) -> Talk {
-    Talk {
-        asker,
-        listener: Listener::start(begun),
-        collected: Collector::start(),
-        followed,
-        viewed: Viewer::start(),
-        silent: false,
-        ended: false,
-        said: [0u8; paper::MOST_DATA],
-        len: 0,
-    }
-}
-
-// Returns a follower with nothing to do.
-fn at_rest() -> Followed {
-    Follower::start(Table::factory(), Table::factory())
-}
-
-// Returns a talk that reads all settings.
-pub(crate) fn collecting(begun: u64) -> Talk {
-    started(Asker::Collector, begun, at_rest())
-}
-
-// Returns a talk that turns the board's table `from` into `to`.
-pub(crate) fn restoring(begun: u64, from: Table, to: Table) -> Talk {
-    started(Asker::Follower, begun, Follower::start(from, to))
-}
-
-// Returns a talk that looks at the read-only values.
-pub(crate) fn viewing(begun: u64) -> Talk {
-    started(Asker::Viewer, begun, at_rest())
-}
-
-// Returns what the machine that asks wants to be sent.
-fn due(talk: Talk) -> Turn {
-    let asker = talk.asker;
-    match asker {
-        Asker::Collector => collecting::due(talk.collected),
-        Asker::Follower => restoring::due(talk.followed),
-        Asker::Viewer => viewing::due(talk.viewed),
-    }
-}
-
-// Returns how many requests were answered in the way that the machine needs.
-fn answered(talk: Talk) -> usize {
-    let asker = talk.asker;
-    match asker {
-        Asker::Collector => collecting::answered(talk.collected),
-        Asker::Follower => restoring::answered(talk.followed),
-        Asker::Viewer => viewing::answered(talk.viewed),
-    }
-}
-
-// Returns whether something is still to be sent, or answered.
-fn is_due(turn: Turn) -> bool {
-    match turn {
-        Turn::Ask(_) => true,
-        Turn::Nothing => false,
-    }
-}
-
-// Returns whether the request after `before` answered ones is still open: nothing has answered it, and its time is not over.
-fn waits(talk: Talk, before: usize) -> bool {
-    is_due(due(talk)) & (answered(talk) == before) & !talk.silent
-}
-
-// Sends the frame that was written.
-fn put(line: &Port, frame: &[u8], written: Written) {
-    match written {
-        Written::Len(len) => {
-            words::send(line, frame, len);
-        }
-        Written::Refused(_) => {}
-    }
+pub(crate) struct Talk<M> {
+    pub(crate) machine: M,
+    listener: Listener,
+    silent: bool,
+    ended: bool,
+    pub(crate) said: Said,
 }
 
 // Sends a request.
 fn ask(line: &Port, request: Request) {
-    let mut frame = [0u8; paper::FRAME_ROOM];
-    let written = requests::write(request, &mut frame);
-    put(line, &frame, written);
-}
-
-// Sends what is due; false where nothing is.
-fn send(line: &Port, turn: Turn) -> bool {
-    match turn {
-        Turn::Ask(request) => {
-            ask(line, request);
-            true
-        }
-        Turn::Nothing => false,
+    let mut frame = [0; paper::FRAME_ROOM];
+    if let Ok(len) = requests::write(request, &mut frame) {
+        let _ = ports::send(line, frame.get(..len).unwrap_or_default());
     }
 }
 
-// Returns the talk after some news, with the three machines as they are then.
-fn moved(talk: Talk, news: News, collected: Collected, followed: Followed, viewed: Viewed) -> Talk {
-    let asker = talk.asker;
-    let listener = news.listener;
-    let told = news.told;
-    let said = news.data;
-    Talk {
-        asker,
-        listener,
-        collected,
-        followed,
-        viewed,
-        silent: is_silence(told),
-        ended: news.ended,
-        said,
-        len: ear::len_of(told),
-    }
-}
-
-// Returns whether the listener has given up.
-fn is_silence(told: Told) -> bool {
-    match told {
-        Told::Nothing => false,
-        Told::Frame { command: _, len: _ } => false,
-        Told::Broken(_) => false,
-        Told::NoAnswer => true,
-        Told::Refused(_) => true,
-    }
-}
-
-// Tells news to the machine that asks, and to no other.
-fn heard(talk: Talk, news: News) -> Talk {
-    let asker = talk.asker;
-    let told = news.told;
-    let data = news.data;
-    let collected = talk.collected;
-    let followed = talk.followed;
-    let viewed = talk.viewed;
-    match asker {
-        Asker::Collector => {
-            let next = collecting::told_to(collected, told, &data);
-            moved(talk, news, next, followed, viewed)
-        }
-        Asker::Follower => {
-            let next = restoring::told_to(followed, told, &data);
-            moved(talk, news, collected, next, viewed)
-        }
-        Asker::Viewer => {
-            let next = viewing::told_to(viewed, told, &data);
-            moved(talk, news, collected, followed, next)
+impl<M: Machine> Talk<M> {
+    // Returns a talk with a trailer that was begun at this time, in which nothing was sent yet.
+    pub(crate) fn start(machine: M, begun: u64) -> Talk<M> {
+        Talk {
+            machine,
+            listener: Listener::start(begun),
+            silent: false,
+            ended: false,
+            said: Said::of(&[]),
         }
     }
-}
 
-// Hears the next event on the serial line.
-fn event(ends: &Ends, talk: Talk) -> Talk {
-    let listener = talk.listener;
-    heard(talk, ear::next(ends, listener))
-}
+    // Returns whether the request after `before` answered ones is still open: nothing has answered it, and its time is not over.
+    fn waits(&self, before: usize) -> bool {
+        self.machine.due().is_some() && self.machine.count() == before && !self.silent
+    }
 
-// Notes that a request was sent: its time begins.
-fn asked(ends: &Ends, talk: Talk) -> Talk {
-    let asker = talk.asker;
-    let listener = talk.listener;
-    let collected = talk.collected;
-    let followed = talk.followed;
-    let viewed = talk.viewed;
-    let said = talk.said;
-    Talk {
-        asker,
-        listener: listener.asked(clock::time(ends.system)),
-        collected,
-        followed,
-        viewed,
-        silent: false,
-        ended: talk.ended,
-        said,
-        len: talk.len,
+    // Tells news to the machine.
+    fn hear(&mut self, news: News) {
+        self.machine = match news.told {
+            Told::Frame(frame) => self
+                .machine
+                .after_frame(frame.command, news.said.as_slice()),
+            Told::Nothing | Told::Broken(_) => self.machine.after_noise(),
+            Told::NoAnswer | Told::Refused(_) => self.machine.after_silence(),
+        };
+        self.listener = news.listener;
+        self.silent = matches!(news.told, Told::NoAnswer | Told::Refused(_));
+        self.ended = news.ended;
+        self.said = news.said;
     }
-}
 
-// Listens until the request is answered or the talk has ended.
-fn answer(ends: &Ends, talk: Talk) -> Talk {
-    let before = answered(talk);
-    let mut talk = talk;
-    let mut turns = MOST_EVENTS;
-    while turns > 0 && waits(talk, before) {
-        talk = event(ends, talk);
-        turns -= 1;
+    // Tells the machine that no answer came.
+    fn hear_silence(&mut self) {
+        self.hear(ear::silence(self.listener, self.ended));
     }
-    talk
-}
 
-// Tells the machine that asks that no answer came.
-fn unanswered(talk: Talk) -> Talk {
-    let listener = talk.listener;
-    heard(talk, ear::silence(listener, talk.ended))
-}
+    // Listens until the request that was sent is answered or the talk has ended. A request that is still open then has got no answer.
+    fn answer(&mut self, ends: &Ends) {
+        let before = self.machine.count();
+        self.listener = self.listener.asked(clock::time(ends.system));
+        self.silent = false;
+        for _ in 0..MOST_EVENTS {
+            if !self.waits(before) {
+                return;
+            }
+            self.hear(ear::next(ends, self.listener));
+        }
+        if self.waits(before) {
+            self.hear_silence();
+        }
+    }
 
-// Ends the wait, whatever came: a request that is still open has got no answer.
-fn patient(talk: Talk, before: usize) -> Talk {
-    if !waits(talk, before) {
-        return talk;
+    // Sends what is due, hears what becomes of it, and shows that where it is wished; does nothing where the machine has ended. Where
+    // nothing more can come, there is nobody to send to.
+    pub(crate) fn further(&mut self, ends: &Ends, shown: bool) {
+        if self.ended {
+            self.hear_silence();
+            return;
+        }
+        let before = self.machine;
+        let Some(request) = before.due() else {
+            return;
+        };
+        ask(&ends.port, request);
+        self.answer(ends);
+        if shown && self.machine.count() != before.count() {
+            before.show(&self.machine, self.said.as_slice(), ends.report);
+        }
     }
-    unanswered(talk)
-}
 
-// Shows what an answered request has brought.
-fn show(report: Report, before: Talk, after: Talk) {
-    if answered(after) == answered(before) {
-        return;
+    // Leads the talk to its end.
+    pub(crate) fn whole(mut self, ends: &Ends, shown: bool) -> Talk<M> {
+        for _ in 0..MOST_REQUESTS {
+            self.further(ends, shown);
+        }
+        self
     }
-    let asker = after.asker;
-    let said = after.said;
-    match asker {
-        Asker::Collector => collecting::show(report, before.collected, after.collected),
-        Asker::Follower => restoring::show(report, before.followed, after.followed),
-        Asker::Viewer => viewing::show(report, before.viewed, said, after.len),
-    }
-}
-
-// Sends what is due, hears what becomes of it, and shows that where it is wished; does nothing where the talk has ended. Where nothing more
-// can come, there is nobody to send to.
-pub(crate) fn further(ends: &Ends, talk: Talk, shown: bool) -> Talk {
-    if talk.ended {
-        return unanswered(talk);
-    }
-    if !send(&ends.port, due(talk)) {
-        return talk;
-    }
-    let next = patient(answer(ends, asked(ends, talk)), answered(talk));
-    if shown {
-        show(ends.report, talk, next);
-    }
-    next
-}
-
-// Leads the talk to its end.
-pub(crate) fn whole(ends: &Ends, talk: Talk, shown: bool) -> Talk {
-    let mut talk = talk;
-    let mut turns = MOST_REQUESTS;
-    while turns > 0 {
-        talk = further(ends, talk, shown);
-        turns -= 1;
-    }
-    talk
 }

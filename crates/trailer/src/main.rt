@@ -19,8 +19,7 @@ mod start;
 mod words;
 
 fn main(rt: HostRuntime) {
-    let begun = start::board(rt);
-    if begun.ready {
-        serve::line(rt, begun.board);
+    if let Some(board) = start::board(rt) {
+        serve::line(rt, board);
     }
 }

@@ -1,45 +1,31 @@
 use crate::words;
-use backup::Checked;
 use board::{Board, Handed};
 use ports::System;
 use tables::Table;
-use who::Verdict;
 
 // The board of document 01's worked lines.
 const PRODUCT: u16 = 0xA381;
 
 const VERSION: u16 = 0x4401;
 
-// A board, and whether it is the one asked for.
-#[derive(Drop)]
-pub(crate) struct Begun {
-    pub(crate) ready: bool,
-    pub(crate) board: Board,
+// Returns the board that the arguments ask for, or none and says why.
+pub(crate) fn board(system: System) -> Option<Board> {
+    let table = table(system)?;
+    let product = number(system, words::PRODUCT, PRODUCT)?;
+    let version = number(system, words::VERSION, VERSION)?;
+    let mut room = ports::buffer();
+    let serial = words::word(system, words::SERIAL, &mut room).unwrap_or_default();
+    started(system, Board::start(product, version, serial, table))
 }
 
-// A table, and whether it is the one asked for.
-#[derive(Drop)]
-struct Chosen {
-    ready: bool,
-    table: Table,
-}
-
-// Returns no board. The reason has been said already.
-fn none() -> Begun {
-    let judged = Board::start_factory(0, 0, &[]);
-    let board = judged.board;
-    Begun {
-        ready: false,
-        board,
-    }
-}
-
-// Returns the number of an argument, and says so where it is none.
-fn number(system: System, place: usize, otherwise: u16) -> words::Number {
-    let mut text = ports::buffer();
-    let len = words::word(system, place, &mut text);
-    let number = words::hex(&text[..len], otherwise);
-    if !number.is {
+// Returns the number of an argument, or the one to take where it is left out; none and says so where it is no number.
+fn number(system: System, place: usize, otherwise: u16) -> Option<u16> {
+    let mut room = ports::buffer();
+    let Some(word) = words::word(system, place, &mut room) else {
+        return Some(otherwise);
+    };
+    let number = words::hex(word);
+    if number.is_none() {
         words::say(
             system,
             b"not started: PRODUCT and VERSION are four hex digits each, such as A381",
@@ -48,104 +34,51 @@ fn number(system: System, place: usize, otherwise: u16) -> words::Number {
     number
 }
 
-// Returns the board that the arguments ask for, or none and says why.
-pub(crate) fn board(system: System) -> Begun {
-    let chosen = table(system);
-    if !chosen.ready {
-        return none();
-    }
-    let product = number(system, words::PRODUCT, PRODUCT);
-    if !product.is {
-        return none();
-    }
-    let version = number(system, words::VERSION, VERSION);
-    if !version.is {
-        return none();
-    }
-    let table = chosen.table;
-    named(system, product.number, version.number, table)
-}
-
-// Starts the board with the serial that the arguments ask for.
-fn named(system: System, product: u16, version: u16, table: Table) -> Begun {
-    let mut serial = ports::buffer();
-    let len = words::word(system, words::SERIAL, &mut serial);
-    if words::is_left_out(&serial[..len]) {
-        return judged_start(system, Board::start(product, version, &[], table));
-    }
-    judged_start(
-        system,
-        Board::start(product, version, &serial[..len], table),
-    )
-}
-
 // Returns the board of a start, or none and says why.
-fn judged_start(system: System, judged: Handed) -> Begun {
-    let board = judged.board;
-    let verdict = judged.verdict;
-    match verdict {
-        Verdict::Accepted => Begun { ready: true, board },
-        Verdict::Refused(_) => {
-            words::say(
-                system,
-                b"not started: SERIAL has over 32 characters, or one outside 0x20..0x7E",
-            );
-            none()
-        }
+fn started(system: System, handed: Handed) -> Option<Board> {
+    if handed.verdict.is_err() {
+        words::say(
+            system,
+            b"not started: SERIAL has over 32 characters, or one outside 0x20..0x7E",
+        );
+        return None;
     }
-}
-
-// Returns no table. The reason has been said already.
-fn no_table() -> Chosen {
-    Chosen {
-        ready: false,
-        table: Table::factory(),
-    }
+    Some(handed.board)
 }
 
 // Returns the table that the arguments ask for, or none and says why.
-fn table(system: System) -> Chosen {
-    let mut path = ports::buffer();
-    let len = words::word(system, words::START, &mut path);
-    if words::is_left_out(&path[..len]) {
-        return Chosen {
-            ready: true,
-            table: Table::factory(),
-        };
+fn table(system: System) -> Option<Table> {
+    let mut room = ports::buffer();
+    match words::word(system, words::START, &mut room) {
+        Some(path) => table_at(system, path),
+        None => Some(Table::factory()),
     }
-    table_at(system, &path[..len])
 }
 
 // Returns the table of the file at a path, or none and says why.
-fn table_at(system: System, path: &[u8]) -> Chosen {
-    let opened = ports::open_read(system, path);
-    match opened {
+fn table_at(system: System, path: &[u8]) -> Option<Table> {
+    match ports::open_read(system, path) {
         Ok(file) => {
-            let mut text = ports::buffer();
-            let count = ports::read_full(&file, &mut text);
-            read(system, &text[..count])
+            let mut room = ports::buffer();
+            read(system, ports::read_full(&file, &mut room))
         }
         Err(error) => {
             ports::fail(system, path, error);
             words::say(system, b"not started: START cannot be read");
-            no_table()
+            None
         }
     }
 }
 
 // Returns the table of a backup text, or none and says why.
-fn read(system: System, text: &[u8]) -> Chosen {
+fn read(system: System, text: &[u8]) -> Option<Table> {
     let backup = backup::read(text);
-    let table = backup.table;
-    let verdict = backup.verdict;
-    match verdict {
-        Checked::Accepted => Chosen { ready: true, table },
-        Checked::Refused { number: _, line: _ } => {
-            words::say(
-                system,
-                b"not started: START is refused, and `night check` says why",
-            );
-            no_table()
-        }
+    if backup.verdict.is_err() {
+        words::say(
+            system,
+            b"not started: START is refused, and `night check` says why",
+        );
+        return None;
     }
+    Some(backup.table)
 }

@@ -1,8 +1,0 @@
-use Rattle.std.proofs.Common.{length, ◌≤◌}
-use Rattle.trailer.proofs.serve.answer_all.Given as goal
-
-abbrev pub invariant-loop-turns : goal.invariant-loop-turns
-invariant-loop-turns l = l.at ≤ length l.piece
-
-abbrev pub decreases-loop-turns : goal.decreases-loop-turns
-decreases-loop-turns l = l.turns
