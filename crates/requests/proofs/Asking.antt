@@ -1,12 +1,12 @@
 -- The requests: their data, and what the calls make of them. Assumes nothing.
 use mathlib.Core.Path.{◌≡◌, refl, sym, ap, ◌∙◌}
-use mathlib.Core.Bool.{Bool, true, false, cond, ◌||◌}
+use mathlib.Core.Bool.{Bool, true, false, cond}
 use mathlib.Core.List.{[], ◌∷◌}
 use Prim.Native.Nat.{ℕ, zero, suc, ◌+◌, ◌/◌, ◌%◌, ◌^◌, ◌≤◌, ◌<◌}
 use native.Mathlib.Omega.{arith}
 use borrow.Author.Tests.{lt-ltb, le-ltb}
 use lib.ListN.{length, take}
-use lib.Dec.{ltb, eqb}
+use lib.Dec.{eqb}
 use Rattle.paper.specs.Numbers.{frame_room, short_buffer, get_code, set_code}
 use Rattle.wire.specs.Frame.{frame}
 use Rattle.endian.specs.Numbers.{little, said}
@@ -38,13 +38,6 @@ get_bytes id small =
 pub get_is : (id room : ℕ) → writing get_code (said id 0 []) room ≡ get_written id room
 unfolding get_written writing
 get_is id room = refl
-
--- one byte or two hold a number
-pub holds_is : (width n : ℕ) → 1 ≤ width → width ≤ 2 → n < 65536 → (eqb width 2 || ltb n 256) ≡ ltb n (256 ^ width)
-holds_is zero n some few small = absurd (omega arith)
-holds_is (suc zero) n some few small = refl
-holds_is (suc (suc zero)) n some few small = sym (lt-ltb n 65536 small)
-holds_is (suc (suc (suc w))) n some few small = absurd (omega arith)
 
 -- the data of a Set, in either width
 pub data_is : (width id n : ℕ) → 1 ≤ width → width ≤ 2 → take (3 + width) (said id 0 (little 2 n)) ≡ said id 0 (little width n)

@@ -1,6 +1,6 @@
 // What the box asks of a board about a setting, written as a frame: a Get of an id, and a Set of a setting to a number. Every call takes
 // anything, and its promise fixes its answer and every lent byte (specs/Calls.antt).
-#![tactic(auto)]
+#![tactic(auto, unfolding(crate::specs::Calls::set_written, crate::specs::Calls::writing))]
 
 ghost use Rattle.std.specs.Prelude.{◌≡◌, ◌≤◌, ◌^◌, ltb, length};
 ghost use Rattle.std.specs.Option.{ForSome};

@@ -12,7 +12,6 @@ use paper::Refusal;
 use requests::Wanted;
 use tables::Table;
 
-mod numbers;
 mod order;
 mod writer;
 
@@ -28,7 +27,7 @@ pub struct Size {
 pub fn list(from: Table, to: Table, out: &mut [u8]) -> Result<Size, Refusal>
     ensures { Gives Listed (listing from to (length out.old)) out.old result out.new }
 {
-    if out.len() < numbers::LIST_ROOM {
+    if out.len() < writer::LIST_ROOM {
         return Err(Refusal::ShortBuffer);
     }
     let restore = Restore::between(from, to)?;

@@ -1,5 +1,7 @@
 // The order of the Sets: ascending id; but where both of a pair differ and the lower id's new number does not agree with the higher's
 // present one, the higher goes first.
+#![tactic(auto, unfolding(crate::specs::Order::differs))]
+
 ghost use Rattle.std.specs.Prelude.{◌<◌, ◌≡◌, true, false, MatchResult, length};
 ghost use Rattle.paper.specs.Numbers.{not_allowed};
 ghost use Rattle.settings.specs.Columns.{count};

@@ -10,6 +10,10 @@ use crate::order::Restore;
 use requests::Wanted;
 use settings::COUNT;
 
+// The room that document 01 fixes for the list: the longest Set (a colon, the command, two digits for each byte of id, flags, value and
+// check, and a newline) for every setting.
+pub(crate) const LIST_ROOM: usize = 15 * COUNT;
+
 // Puts a Set at a place of the buffer, and returns the place after it. The frame writer wants room for the longest frame, which the buffer
 // may not have left, so the Set is written elsewhere and copied.
 fn put_set(out: &mut [u8], at: usize, set: Wanted) -> usize

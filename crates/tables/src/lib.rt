@@ -1,6 +1,6 @@
 // A board's settings: the numbers of all of them, and what a Set makes of them. Every call takes anything, and its promise fixes its
 // answer (specs/Calls.antt).
-#![tactic(auto)]
+#![tactic(auto, unfolding(crate::specs::Rules::allowed))]
 
 ghost use Rattle.std.specs.Prelude.{◌≡◌};
 ghost use Rattle.tables.specs.Rules.{factory, allowed};
