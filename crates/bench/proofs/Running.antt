@@ -13,22 +13,13 @@ use mir.Syntax.{w64}
 use Rattle.laws.specs.Promise.{Gives, overlaid}
 use Rattle.laws.proofs.Lists.{drop_turn, sets_append, part_to_end}
 use Rattle.laws.proofs.Promise.{overlaid_sets}
-use Rattle.tables.specs.Rules.{factory}
-use Rattle.board.specs.Calls.{starting, storing, answering}
+use Rattle.board.specs.Calls.{answering}
 use Rattle.board.specs.AsHeld.{whole}
 use Rattle.board.specs.declared.Board.{Board}
 use Rattle.board.specs.declared.Sample.{Sample}
-use Rattle.board.specs.declared.Handed.{Handed}
 use Rattle.board.specs.declared.Answered.{Answered}
 use Rattle.board.proofs.Replying.{bounded}
-use Rattle.bench.specs.Calls.{begun_board, running}
-use Rattle.bench.proofs.Streaming.{piece_is}
-
--- a start and a store
-pub begun_is : (product version : ℕ) (serial : List ℕ) (given : Sample) {started stored : Handed}
-    → started ≡ starting product version serial factory → stored ≡ storing started.board given → stored.board ≡ begun_board product version serial given
-unfolding begun_board
-begun_is product version serial given s t = ap (λ (j : Handed). j.board) (t ∙ ap (λ (j : Handed). storing j.board given) s)
+use Rattle.bench.specs.Calls.{running}
 
 -- readings as a call is handed them
 pub given_kept : (voltage current fine consumed charge : ℤ) → SFits w64 voltage → SFits w64 current → SFits w64 fine → SFits w64 consumed → SFits w64 charge
@@ -67,41 +58,36 @@ part_laid out w at h fits =
     ∙ sym (sets-eq w out at room)
 
 -- A loop over the sizes speaks of what is left.
-pub record Going (bytes sizes out₀ : List ℕ) (board₀ : Board) (out : List ℕ) (board : Board) (at len i : ℕ) : Type 0 where
-  pub within : at ≤ length bytes
+pub record Going (bytes sizes out₀ : List ℕ) (board₀ : Board) (out : List ℕ) (board : Board) (left : List ℕ) (len i : ℕ) : Type 0 where
   pub room : len ≤ length out₀
   pub long : length out ≡ length out₀
-  pub place : len + length (running board (drop at bytes) (drop i sizes) (length out₀ - len)) ≡ length (running board₀ bytes sizes (length out₀))
-  pub same : sets out len (running board (drop at bytes) (drop i sizes) (length out₀ - len)) ≡ sets out₀ 0 (running board₀ bytes sizes (length out₀))
+  pub place : len + length (running board left (drop i sizes) (length out₀ - len)) ≡ length (running board₀ bytes sizes (length out₀))
+  pub same : sets out len (running board left (drop i sizes) (length out₀ - len)) ≡ sets out₀ 0 (running board₀ bytes sizes (length out₀))
 
 module _ {bytes sizes out₀ : List ℕ} {board₀ : Board} where
-  pub going_start : Going bytes sizes out₀ board₀ out₀ board₀ 0 0 0
+  pub going_start : Going bytes sizes out₀ board₀ out₀ board₀ bytes 0 0
   going_start =
       let all : length out₀ - 0 ≡ length out₀ = omega arith in
-      record { within = omega arith; room = omega arith; long = refl; place = rw all (zero-add _); same = rw all }
+      record { room = omega arith; long = refl; place = rw all (zero-add _); same = rw all }
 
-  module _ {out : List ℕ} {board : Board} {at len i : ℕ} where
+  module _ {out left : List ℕ} {board : Board} {len i : ℕ} where
     -- one turn: the call's answer, and the part of the buffer that it was lent afterwards
-    module _ (some : i < length sizes) (n : ℕ) (n-is : n ≡ min (get_or sizes i 0) (length bytes - at)) {m : List ℕ} {r : Answered}
-        (g : Gives Answered (answering board (take ((at + n) - at) (drop at bytes)) (length (take (length out - len) (drop len out)))) (take (length out - len) (drop len out)) r m)
-        (v : Going bytes sizes out₀ board₀ out board at len i) where
-      abbrev piece : List ℕ
-      piece = take (get_or sizes i 0) (drop at bytes)
-
+    module _ (some : i < length sizes) {piece : List ℕ} (piece-is : piece ≡ take (get_or sizes i 0) left) {m : List ℕ} {r : Answered}
+        (g : Gives Answered (answering board piece (length (take (length out - len) (drop len out)))) (take (length out - len) (drop len out)) r m)
+        (v : Going bytes sizes out₀ board₀ out board left len i) where
       abbrev w : List ℕ
       w = (answering board piece (length out₀ - len)).written
 
       called : Gives Answered (answering board piece (length out₀ - len)) (drop len out) r m
       called =
           let size : length (drop len out) ≡ length out₀ - len = length-drop len out ∙ ap (λ (k : ℕ). k - len) v.long in
-          rw (piece_is bytes at (get_or sizes i 0) n n-is, part_to_end out (length out) len refl, size) at g
+          rw (part_to_end out (length out) len refl, size) at g
 
-      pub turn_within : at + r.taken ≤ length bytes
+      pub turn_within : r.taken ≤ length left
       turn_within =
           let is : r.taken ≡ (answering board piece (length out₀ - len)).answer.taken = ap (λ (a : Answered). a.taken) called.answered in
-          let few : (answering board piece (length out₀ - len)).answer.taken ≤ min (get_or sizes i 0) (length (drop at bytes)) = rw length-take at (bounded board piece (length out₀ - len)).within in
-          let rest : length (drop at bytes) ≡ length bytes - at = length-drop at bytes in
-          let in-it : at ≤ length bytes = v.within in
+          let few : (answering board piece (length out₀ - len)).answer.taken ≤ length piece = (bounded board piece (length out₀ - len)).within in
+          let part : length piece ≡ min (get_or sizes i 0) (length left) = ap length piece-is ∙ length-take (get_or sizes i 0) left in
           omega arith
 
       len_is : r.len ≡ length w
@@ -120,23 +106,22 @@ module _ {bytes sizes out₀ : List ℕ} {board₀ : Board} where
           ap (λ (l : List ℕ). take len out ++ (l ++ drop (length out - len) (drop len out))) called.left ∙ part_laid out w len h f
 
       abbrev later : List ℕ
-      later = running r.board (drop (at + r.taken) bytes) (drop (i + 1) sizes) (length out₀ - (len + r.len))
+      later = running r.board (drop r.taken left) (drop (i + 1) sizes) (length out₀ - (len + r.len))
 
-      rest_is : running board (drop at bytes) (drop i sizes) (length out₀ - len) ≡ w ++ later
+      rest_is : running board left (drop i sizes) (length out₀ - len) ≡ w ++ later
       rest_is =
-          let far : drop r.taken (drop at bytes) ≡ drop (at + r.taken) bytes = drop-drop r.taken at bytes in
-          let left : (length out₀ - len) - length w ≡ length out₀ - (len + r.len) = omega (arith, len_is) in
-          ap (λ (l : List ℕ). running board (drop at bytes) l (length out₀ - len)) (drop_turn sizes i some)
-          ∙ running_more board (drop at bytes) (length out₀ - len) (get_or sizes i 0) (drop (i + 1) sizes)
-          ∙ ap (λ (a : Answered). w ++ running a.board (drop a.taken (drop at bytes)) (drop (i + 1) sizes) ((length out₀ - len) - length w)) (sym called.answered)
-          ∙ ap₂ (λ (l : List ℕ) (k : ℕ). w ++ running r.board l (drop (i + 1) sizes) k) far left
+          let room : (length out₀ - len) - length w ≡ length out₀ - (len + r.len) = omega (arith, len_is) in
+          ap (λ (l : List ℕ). running board left l (length out₀ - len)) (drop_turn sizes i some)
+          ∙ running_more board left (length out₀ - len) (get_or sizes i 0) (drop (i + 1) sizes)
+          ∙ ap (λ (p : List ℕ). (answering board p (length out₀ - len)).written ++ running (answering board p (length out₀ - len)).answer.board (drop (answering board p (length out₀ - len)).answer.taken left) (drop (i + 1) sizes) ((length out₀ - len) - length (answering board p (length out₀ - len)).written)) (sym piece-is)
+          ∙ ap (λ (a : Answered). w ++ running a.board (drop a.taken left) (drop (i + 1) sizes) ((length out₀ - len) - length w)) (sym called.answered)
+          ∙ ap (λ (k : ℕ). w ++ running r.board (drop r.taken left) (drop (i + 1) sizes) k) room
 
-      pub going_turn : Going bytes sizes out₀ board₀ (take len out ++ (m ++ drop (length out - len) (drop len out))) r.board (at + r.taken) (len + r.len) (i + 1)
+      pub going_turn : Going bytes sizes out₀ board₀ (take len out ++ (m ++ drop (length out - len) (drop len out))) r.board (drop r.taken left) (len + r.len) (i + 1)
       going_turn =
-          let sum : length (running board (drop at bytes) (drop i sizes) (length out₀ - len)) ≡ length w + length later = ap length rest_is ∙ length-append w later in
-          let all : len + length (running board (drop at bytes) (drop i sizes) (length out₀ - len)) ≡ length (running board₀ bytes sizes (length out₀)) = v.place in
+          let sum : length (running board left (drop i sizes) (length out₀ - len)) ≡ length w + length later = ap length rest_is ∙ length-append w later in
+          let all : len + length (running board left (drop i sizes) (length out₀ - len)) ≡ length (running board₀ bytes sizes (length out₀)) = v.place in
           record {
-            within = turn_within;
             room = turn_room;
             long = ap length stored ∙ length-sets out len w ∙ v.long;
             place = omega (arith, len_is);
@@ -145,12 +130,12 @@ module _ {bytes sizes out₀ : List ℕ} {board₀ : Board} where
                 ∙ ap (sets out len) (sym rest_is) ∙ v.same;
           }
 
-    pub going_end : length sizes ≤ i → Going bytes sizes out₀ board₀ out board at len i → Gives ℕ (whole (running board₀ bytes sizes (length out₀))) out₀ len out
+    pub going_end : length sizes ≤ i → Going bytes sizes out₀ board₀ out board left len i → Gives ℕ (whole (running board₀ bytes sizes (length out₀))) out₀ len out
     going_end none v =
-        let gone : running board (drop at bytes) (drop i sizes) (length out₀ - len) ≡ [] =
-        ap (λ (l : List ℕ). running board (drop at bytes) l (length out₀ - len)) (drop_of_length-le sizes none) ∙ running_none board (drop at bytes) (length out₀ - len) in
-        let empty : length (running board (drop at bytes) (drop i sizes) (length out₀ - len)) ≡ 0 = ap length gone in
-        let all : len + length (running board (drop at bytes) (drop i sizes) (length out₀ - len)) ≡ length (running board₀ bytes sizes (length out₀)) = v.place in
+        let gone : running board left (drop i sizes) (length out₀ - len) ≡ [] =
+        ap (λ (l : List ℕ). running board left l (length out₀ - len)) (drop_of_length-le sizes none) ∙ running_none board left (length out₀ - len) in
+        let empty : length (running board left (drop i sizes) (length out₀ - len)) ≡ 0 = ap length gone in
+        let all : len + length (running board left (drop i sizes) (length out₀ - len)) ≡ length (running board₀ bytes sizes (length out₀)) = v.place in
         let place : len ≡ length (running board₀ bytes sizes (length out₀)) = omega arith in
         let fits : length (running board₀ bytes sizes (length out₀)) ≤ length out₀ = omega (arith, v.room) in
         record {

@@ -1,10 +1,10 @@
 -- What each public call answers, for every input. Assumes nothing.
-use Rattle.std.specs.Prelude.{ℕ, zero, suc, ◌-◌, ◌≡◌, List, [], ◌∷◌, ◌++◌, length, take, drop}
+use Rattle.std.specs.Prelude.{ℕ, zero, suc, ◌-◌, ◌≡◌, Some, None, Ok, Err, List, [], ◌∷◌, ◌++◌, length, take, drop}
 use Rattle.laws.specs.Promise.{overlaid}
 use Rattle.laws.specs.Cutting.{Offer, calls}
 use Rattle.wire.specs.Parsing.{Ended, good, refused}
 use Rattle.stream.specs.Laws.{hears}
-use Rattle.stream.specs.declared.Event.{Event}
+use Rattle.stream.specs.Answers.{Event}
 use Rattle.stream.specs.declared.Held.{Held}
 use Rattle.tables.specs.Rules.{factory}
 use Rattle.board.specs.Calls.{starting, storing, answering}
@@ -24,19 +24,19 @@ streaming held bytes sizes room = (calls hears held bytes (offers sizes room)).e
 abbrev pub good_ones : List Ended → ℕ
 good_ones [] = zero
 good_ones (good command bytes ∷ more) = suc (good_ones more)
-good_ones (refused number ∷ more) = good_ones more
+good_ones (refused refusal ∷ more) = good_ones more
 
 -- and in what happened in one call
 abbrev pub good_in : Event → ℕ
-good_in Event.Nothing = 0
-good_in (Event.Frame command len) = 1
-good_in (Event.Refused number) = 0
+good_in (Ok None) = 0
+good_in (Ok (Some frame)) = 1
+good_in (Err refusal) = 0
 
 -- a lent buffer with their data laid over it, one after the other
 abbrev pub laid_over : List Ended → List ℕ → List ℕ
 laid_over [] buffer = buffer
 laid_over (good command bytes ∷ more) buffer = laid_over more (overlaid bytes buffer)
-laid_over (refused number ∷ more) buffer = laid_over more buffer
+laid_over (refused refusal ∷ more) buffer = laid_over more buffer
 
 -- the answer, and the buffer as it is afterwards
 pub record Streamed (frames : List Ended) (buffer : List ℕ) (r : ℕ) (afterwards : List ℕ) : Type 0 where

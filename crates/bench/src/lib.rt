@@ -2,7 +2,7 @@
 // the call. Each takes anything, and its promise fixes its answer and every lent byte (specs/Calls.antt).
 #![tactic(auto)]
 
-ghost use Rattle.std.specs.Prelude.{ℕ, min, ◌≡◌, length};
+ghost use Rattle.std.specs.Prelude.{ℕ, ◌≡◌, length, take};
 ghost use Rattle.laws.specs.Promise.{Gives};
 ghost use Rattle.stream.specs.Calls.{held_of};
 ghost use Rattle.stream.specs.Stream.{outside};
@@ -10,7 +10,9 @@ ghost use Rattle.board.specs.AsHeld.{whole};
 ghost use Rattle.bench.specs.Calls.{good_in, Streamed, streaming, begun_board, running};
 
 use board::{Board, Sample};
-use stream::{Event, Held};
+use paper::Refusal;
+use stream::Held;
+use wire::Frame;
 
 // Reads `bytes` from outside a frame, with one call for each size: the call is handed at most that many of the bytes not taken yet, and
 // `into` is lent to every call. Returns the number of frames that were not refused.
@@ -18,18 +20,13 @@ pub fn reedsatchel_bench_stream(bytes: &[u8], sizes: &[u32], into: &mut [u8]) ->
     ensures { Streamed (streaming (held_of outside) bytes.now sizes.now (length into.old)) into.old result into.new }
 {
     let mut held = Held::outside();
-    let mut at = 0;
+    let mut left = bytes;
     let mut count = 0;
-    let mut i = 0;
-    while i < sizes.len() {
-        let end = at + least(sizes[i], bytes.len() - at);
-        let heard = held.hear(&bytes[at..end], into);
-        let event = heard.event;
-        let next = heard.held;
-        count += good_in(event);
-        at += heard.taken;
-        held = next;
-        i += 1;
+    for size in sizes {
+        let heard = held.hear(piece_of(left, *size), into);
+        count += good_in(heard.event);
+        left = &left[heard.taken..];
+        held = heard.held;
     }
     count
 }
@@ -67,46 +64,41 @@ fn run(board: Board, bytes: &[u8], sizes: &[u32], out: &mut [u8]) -> usize
     ensures { Gives ℕ (whole (running board bytes.now sizes.now (length out.old))) out.old result out.new }
 {
     let mut board = board;
-    let mut at = 0;
+    let mut left = bytes;
     let mut len = 0;
-    let mut i = 0;
-    while i < sizes.len() {
-        let end = at + least(sizes[i], bytes.len() - at);
-        let answered = board.answer(&bytes[at..end], &mut out[len..]);
-        let next = answered.board;
-        at += answered.taken;
+    for size in sizes {
+        let answered = board.answer(piece_of(left, *size), &mut out[len..]);
+        left = &left[answered.taken..];
         len += answered.len;
-        board = next;
-        i += 1;
+        board = answered.board;
     }
     len
 }
 
-// Returns the smaller of a size and what is left.
-fn least(size: u32, left: usize) -> usize
-    ensures { result ≡ min size left }
+// Returns as many of the bytes that are left as a size says, or all of them.
+fn piece_of(left: &[u8], size: u32) -> &[u8]
+    ensures { result.now ≡ take size left.now }
 {
-    let n = size as usize;
-    if n < left { n } else { left }
+    &left[..left.len().min(size as usize)]
 }
 
 // Returns 1 for a frame that was not refused, else 0.
-fn good_in(event: Event) -> u64
+fn good_in(event: Result<Option<Frame>, Refusal>) -> u64
     ensures { result ≡ good_in event }
 {
     match event {
-        Event::Nothing => 0,
-        Event::Frame { .. } => 1,
-        Event::Refused(_) => 0,
+        Ok(Some(_)) => 1,
+        _ => 0,
     }
 }
 
 // Returns a factory board with its first readings, or what a refused start or store leaves.
+#[tactic(auto, unfolding(crate::specs::Calls::begun_board))]
 fn begun(product: u16, version: u16, serial: &[u8], given: Sample) -> Board
     ensures { result ≡ begun_board product version serial.now given }
 {
-    let started = Board::start_factory(product, version, serial);
-    let fresh = started.board;
-    let stored = fresh.store(given);
-    stored.board
+    Board::start_factory(product, version, serial)
+        .board
+        .store(given)
+        .board
 }
