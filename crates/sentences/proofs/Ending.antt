@@ -12,9 +12,11 @@ use Rattle.restore.specs.Calls.{both_allowed, sets_due, due_in}
 use Rattle.restore.specs.Laws.{Tells, a_set, none_left, not_allowed_lem}
 use Rattle.requests.specs.declared.Wanted.{Wanted}
 use Rattle.requests.specs.declared.Request.{Request}
-use Rattle.restore.specs.declared.Due.{Due}
-use Rattle.restore.specs.declared.Sets.{Sets}
+use Rattle.restore.specs.Answers.{Due}
+use Rattle.paper.specs.Numbers as paper
+use Rattle.std.specs.Result.{result_unwrap_or}
 use Rattle.restore.proofs.Theorems.{due_tells}
+use Rattle.paper.specs.declared.Refusal.{Refusal}
 use Rattle.tables.specs.declared.Table.{Table}
 use Rattle.follow.specs.Following.{stands_at, standing, advanced, begun, total, follower_allowed}
 use Rattle.reply.specs.Events.{Event}
@@ -26,9 +28,8 @@ use Rattle.follow.specs.declared.Followed.{Followed}
 use Rattle.follow.proofs.Standings.{told_good, told_stray, following_good}
 use Rattle.follow.proofs.Counting.{Goes, goes_far, begins}
 use Rattle.tally.specs.Laws.{is_done}
-use Rattle.lines.specs.Lines.{chars, adding}
+use Rattle.lines.specs.Lines.{chars}
 use Rattle.lines.specs.Numbers.{decimal}
-use Rattle.lines.specs.declared.Line.{Line}
 use Rattle.sentences.specs.Texts.{between_text, of_text, refused_text, stopped_text, end_text, followed_text, progress_text}
 use Rattle.sentences.specs.Laws.{followed_by, joined, FollowersSay}
 
@@ -38,7 +39,7 @@ is_over (Standing.Waiting due) = false
 is_over Standing.Equal = true
 is_over Standing.Done = true
 is_over (Standing.Stopped due) = false
-is_over (Standing.Refused number) = false
+is_over (Standing.Refused refusal) = false
 
 still_due : (stopped : Bool) (due : Wanted) → is_over (cond stopped (Standing.Stopped due) (Standing.Waiting (Request.Set due))) ≡ false
 still_due true due = refl
@@ -54,7 +55,7 @@ is_known (Standing.Waiting due) = true
 is_known Standing.Equal = true
 is_known Standing.Done = true
 is_known (Standing.Stopped due) = true
-is_known (Standing.Refused number) = false
+is_known (Standing.Refused refusal) = false
 
 set_known : (stopped : Bool) (due : Wanted) → is_known (cond stopped (Standing.Stopped due) (Standing.Waiting (Request.Set due))) ≡ true
 set_known true due = refl
@@ -64,17 +65,13 @@ none_known : (b : Bool) → is_known (cond b Standing.Equal Standing.Done) ≡ t
 none_known true = refl
 none_known false = refl
 
-abbrev number_of : Sets → ℕ
-number_of (Sets.Due number) = number
-number_of (Sets.Refused number) = 0
-
 module _ (f : Follower) where
   -- the texts, by whether a start and events give it
   pub followed_good : follower_allowed f ≡ true → end_text (standing f) f.confirmed (total f) ≡ followed_text f
   unfolding followed_text
   followed_good ok = rw ok
 
-  pub followed_stray : follower_allowed f ≡ false → refused_text 12 ≡ followed_text f
+  pub followed_stray : follower_allowed f ≡ false → refused_text paper.not_allowed ≡ followed_text f
   unfolding followed_text
   followed_stray ok = rw ok
 
@@ -82,7 +79,7 @@ module _ (f : Follower) where
   unfolding progress_text
   progress_good ok = rw ok
 
-  pub progress_stray : follower_allowed f ≡ false → refused_text 12 ≡ progress_text f
+  pub progress_stray : follower_allowed f ≡ false → refused_text paper.not_allowed ≡ progress_text f
   unfolding progress_text
   progress_stray ok = rw ok
 
@@ -99,35 +96,36 @@ module _ (f : Follower) where
   word_good : follower_allowed f ≡ true → (told f).standing ≡ standing f
   word_good ok = sym (ap (λ (w : Followed). w.standing) (told_good f ok))
 
-  pub known_allowed : {w : Followed} (o : Standing) → w ≡ told f → w.standing ≡ o → is_known o ≡ follower_allowed f
-  known_allowed {w} o is e = by (follower_allowed f) refl
-    where
-      own : o ≡ (told f).standing
-      own = sym e ∙ ap (λ (v : Followed). v.standing) is
-
-      by : (t : Bool) → follower_allowed f ≡ t → is_known o ≡ follower_allowed f
-      by true ok = ap is_known (own ∙ word_good ok) ∙ stands_known ok ∙ sym ok
-      by false ok = ap is_known (own ∙ sym (ap (λ (v : Followed). v.standing) (told_stray f ok))) ∙ sym ok
-
-  -- what the functions put after a line
-  pub follower_line : (l : Line) {n : Line} (w : Followed) (due : ℕ) → follower_allowed f ≡ true → w ≡ told f → due ≡ total f
-      → n ≡ adding l (end_text w.standing f.confirmed due) → n ≡ adding l (followed_text f)
-  follower_line l w due ok is counts e =
-      e ∙ ap (adding l)
-      (ap₂ (λ (o : Standing) (k : ℕ). end_text o f.confirmed k) (ap (λ (v : Followed). v.standing) is ∙ word_good ok) counts ∙ followed_good ok)
-
-  pub confirmed_line : (l : Line) {n : Line} (due : ℕ) → follower_allowed f ≡ true → due ≡ total f
-      → n ≡ adding l (of_text [] f.confirmed due (chars " confirmed")) → n ≡ adding l (progress_text f)
-  confirmed_line l due ok counts e = e ∙ ap (adding l) (ap (λ (k : ℕ). of_text [] f.confirmed k (chars " confirmed")) counts ∙ progress_good ok)
+  word_stray : follower_allowed f ≡ false → (told f).standing ≡ Standing.Refused paper.not_allowed
+  word_stray bad = sym (ap (λ (w : Followed). w.standing) (told_stray f bad))
 
   -- the Sets that are due are those of its list
-  pub both_allowed_lem : follower_allowed f ≡ true → both_allowed f.from f.to ≡ true
-  unfolding follower_allowed
-  both_allowed_lem ok = and_left (both_allowed f.from f.to) _ ok
+  sets_are : follower_allowed f ≡ true → result_unwrap_or (sets_due f.from f.to) 0 ≡ total f
+  unfolding sets_due follower_allowed
+  sets_are ok = rw (and_left (both_allowed f.from f.to) _ ok)
 
-  pub sets_are : (d : Sets) → follower_allowed f ≡ true → sets_due f.from f.to ≡ d → number_of d ≡ total f
-  unfolding sets_due
-  sets_are d ok e = ap number_of (sym e) ∙ rw (both_allowed_lem ok)
+  -- what it says of itself is its text
+  pub followed_told : end_text (told f).standing f.confirmed (result_unwrap_or (sets_due f.from f.to) 0) ≡ followed_text f
+  followed_told = by (follower_allowed f) refl
+    where
+      by : (t : Bool) → follower_allowed f ≡ t → end_text (told f).standing f.confirmed (result_unwrap_or (sets_due f.from f.to) 0) ≡ followed_text f
+      by true ok = ap₂ (λ (o : Standing) (due : ℕ). end_text o f.confirmed due) (word_good ok) (sets_are ok) ∙ followed_good ok
+      by false bad = ap (λ (o : Standing). end_text o f.confirmed (result_unwrap_or (sets_due f.from f.to) 0)) (word_stray bad) ∙ followed_stray bad
+
+  pub progress_refused : (refusal : Refusal) → (told f).standing ≡ Standing.Refused refusal → refused_text refusal ≡ progress_text f
+  progress_refused refusal is = by (follower_allowed f) refl
+    where
+      by : (t : Bool) → follower_allowed f ≡ t → refused_text refusal ≡ progress_text f
+      by true ok = absurd (false≢true (sym (ap is_known (sym (word_good ok) ∙ is)) ∙ stands_known ok))
+      by false bad = let same : refusal ≡ paper.not_allowed = let e : Standing.Refused paper.not_allowed ≡ Standing.Refused refusal = sym (word_stray bad) ∙ is in cc in
+          ap refused_text same ∙ progress_stray bad
+
+  pub progress_told : is_known (told f).standing ≡ true → of_text [] f.confirmed (result_unwrap_or (sets_due f.from f.to) 0) (chars " confirmed") ≡ progress_text f
+  progress_told known = by (follower_allowed f) refl
+    where
+      by : (t : Bool) → follower_allowed f ≡ t → of_text [] f.confirmed (result_unwrap_or (sets_due f.from f.to) 0) (chars " confirmed") ≡ progress_text f
+      by true ok = ap (λ (due : ℕ). of_text [] f.confirmed due (chars " confirmed")) (sets_are ok) ∙ progress_good ok
+      by false bad = absurd (false≢true (sym (ap is_known (word_stray bad)) ∙ known))
 
   -- no more are confirmed than its list has
   pub within_list : follower_allowed f ≡ true → f.confirmed ≤ total f

@@ -4,6 +4,7 @@ use mathlib.Core.Bool.{Bool, true, false, false≢true}
 use Prim.Native.Nat.{ℕ, ◌≤◌, ◌<◌}
 use native.Mathlib.Omega.{arith}
 use borrow.Author.Tests.{lt-ltb}
+use Rattle.paper.specs.Numbers as paper
 use Rattle.settings.specs.Columns.{count}
 use Rattle.collect.specs.Collecting.{allowed}
 use Rattle.collect.specs.Calls.{stage_of, good, stray, told}
@@ -23,13 +24,13 @@ abbrev pub is_done : Stage → Bool
 is_done Stage.Done = true
 is_done (Stage.Stopped setting) = false
 is_done (Stage.Waiting setting) = false
-is_done (Stage.Refused number) = false
+is_done (Stage.Refused refusal) = false
 
 done_only : (s : Stage) → is_done s ≡ true → s ≡ Stage.Done
 done_only Stage.Done e = refl
 done_only (Stage.Stopped setting) e = absurd (false≢true e)
 done_only (Stage.Waiting setting) e = absurd (false≢true e)
-done_only (Stage.Refused number) e = absurd (false≢true e)
+done_only (Stage.Refused refusal) e = absurd (false≢true e)
 
 module _ (c : Collector) where
   pub own_good : allowed c ≡ true → told c ≡ good c
@@ -56,7 +57,7 @@ module _ (c : Collector) where
   unfolding collected_text good
   collected_good ok = ap (λ (w : Collected). read_text w.stage w.answered count) (own_good ok)
 
-  pub collected_stray : allowed c ≡ false → collected_text c ≡ refused_text 12
+  pub collected_stray : allowed c ≡ false → collected_text c ≡ refused_text paper.not_allowed
   unfolding collected_text stray
   collected_stray ok = ap (λ (w : Collected). read_text w.stage w.answered count) (own_stray ok)
 
@@ -64,7 +65,7 @@ module _ (c : Collector) where
   unfolding saved_text good
   saved_good kept ok = ap (λ (w : Collected). file_text w.stage w.answered kept) (own_good ok)
 
-  pub saved_stray : (kept : Kept) → allowed c ≡ false → saved_text c kept ≡ refused_text 12
+  pub saved_stray : (kept : Kept) → allowed c ≡ false → saved_text c kept ≡ refused_text paper.not_allowed
   unfolding saved_text stray
   saved_stray kept ok = ap (λ (w : Collected). file_text w.stage w.answered kept) (own_stray ok)
 

@@ -7,7 +7,7 @@ use contract.Lifetimes.{Lfts}
 use Rattle.laws.proofs.Promise.{equal_same}
 use Rattle.follow.specs.declared.Follower.{Follower}
 use Rattle.collect.specs.declared.Collector.{Collector}
-use Rattle.backup.specs.declared.Checked.{Checked}
+use Rattle.backup.specs.Answers.{Checked}
 use Rattle.tally.specs.declared.Tally.{Tally}
 use Rattle.view.specs.declared.Viewer.{Viewer}
 use Rattle.lines.specs.declared.Line.{Line}

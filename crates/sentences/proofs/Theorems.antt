@@ -30,14 +30,16 @@ use Rattle.collect.proofs.Theorems.{table_is_carried}
 use Rattle.collect.specs.declared.Collected.{Collected}
 use Rattle.collect.specs.declared.Collector.{Collector}
 use Rattle.collect.specs.declared.Stage as collects
-use Rattle.backup.specs.declared.Checked.{Checked}
+use Rattle.paper.specs.Numbers.{number_of}
+use Rattle.backup.specs.Answers.{Checked}
+use Rattle.std.proofs.Common.{Ok, Err}
 use Rattle.backup.specs.declared.Backup.{Backup}
 use lib.Dec.{ltb}
 use Rattle.laws.specs.Promise.{Given}
-use Rattle.backup.specs.Text.{Says as Judgement, good, refused, text_of, text_says}
+use Rattle.backup.specs.Text.{Says as Judgement, text_of, text_says}
+use Rattle.wire.specs.Answers.{Written}
 use Rattle.wire.specs.Calls.{written_as}
 use Rattle.backup.specs.Calls.{writing, parsing, read_as}
-use Rattle.wire.specs.declared.Written.{Written}
 use Rattle.backup.proofs.Theorems.{read_is_written, written_is_read}
 use Rattle.tally.specs.Results.{tally_allowed}
 use Rattle.who.specs.Parts.{serial_fits}
@@ -68,7 +70,7 @@ done_end follows.Standing.Done confirmed due e = refl
 done_end follows.Standing.Equal confirmed due e = let z : ◌≡◌ {A = ℕ} 0x65 0x64 = first e in absurd (omega arith)
 done_end (follows.Standing.Stopped wanted) confirmed due e = let z : ◌≡◌ {A = ℕ} 0x73 0x64 = first e in absurd (omega arith)
 done_end (follows.Standing.Waiting wanted) confirmed due e = let z : ◌≡◌ {A = ℕ} 0x6E 0x64 = first e in absurd (omega arith)
-done_end (follows.Standing.Refused number) confirmed due e = let z : ◌≡◌ {A = ℕ} 0x72 0x64 = first e in absurd (omega arith)
+done_end (follows.Standing.Refused refusal) confirmed due e = let z : ◌≡◌ {A = ℕ} 0x72 0x64 = first e in absurd (omega arith)
 
 equal_end : (o : follows.Standing) (confirmed due : ℕ) → take 7 (end_text o confirmed due) ≡ chars "equal: " → o ≡ follows.Standing.Equal
 unfolding between_text of_text refused_text stopped_text
@@ -76,7 +78,7 @@ equal_end follows.Standing.Done confirmed due e = let z : ◌≡◌ {A = ℕ} 0x
 equal_end follows.Standing.Equal confirmed due e = refl
 equal_end (follows.Standing.Stopped wanted) confirmed due e = let z : ◌≡◌ {A = ℕ} 0x73 0x65 = first e in absurd (omega arith)
 equal_end (follows.Standing.Waiting wanted) confirmed due e = let z : ◌≡◌ {A = ℕ} 0x6E 0x65 = first e in absurd (omega arith)
-equal_end (follows.Standing.Refused number) confirmed due e = let z : ◌≡◌ {A = ℕ} 0x72 0x65 = first e in absurd (omega arith)
+equal_end (follows.Standing.Refused refusal) confirmed due e = let z : ◌≡◌ {A = ℕ} 0x72 0x65 = first e in absurd (omega arith)
 
 -- a text by the outcome of a follower that is allowed
 by_outcome : (f : Follower) (o : follows.Standing) → follower_allowed f ≡ true → standing f ≡ o → followed_text f ≡ end_text o f.confirmed (total f)
@@ -148,7 +150,7 @@ unfolding between_text of_text refused_text
 read_end collects.Stage.Done answered due e = refl
 read_end (collects.Stage.Stopped setting) answered due e = let z : ◌≡◌ {A = ℕ} 0x73 0x61 = first e in absurd (omega arith)
 read_end (collects.Stage.Waiting setting) answered due e = let z : ◌≡◌ {A = ℕ} 0x6E 0x61 = first e in absurd (omega arith)
-read_end (collects.Stage.Refused number) answered due e = let z : ◌≡◌ {A = ℕ} 0x72 0x61 = first e in absurd (omega arith)
+read_end (collects.Stage.Refused refusal) answered due e = let z : ◌≡◌ {A = ℕ} 0x72 0x61 = first e in absurd (omega arith)
 
 pub read_is_read : ReadIsRead
 unfolding collected_text between_text
@@ -196,7 +198,7 @@ unfolding refused_text between_text
 file_whole collects.Stage.Done answered kept e = (refl, kept_whole kept answered e)
 file_whole (collects.Stage.Stopped setting) answered kept e = let z : ◌≡◌ {A = ℕ} 0x6E 0x73 = first e in absurd (omega arith)
 file_whole (collects.Stage.Waiting setting) answered kept e = let z : ◌≡◌ {A = ℕ} 0x6E 0x73 = first e in absurd (omega arith)
-file_whole (collects.Stage.Refused number) answered kept e = let z : ◌≡◌ {A = ℕ} 0x72 0x73 = first e in absurd (omega arith)
+file_whole (collects.Stage.Refused refusal) answered kept e = let z : ◌≡◌ {A = ℕ} 0x72 0x73 = first e in absurd (omega arith)
 
 pub saved_is_saved : SavedIsSaved
 unfolding saved_text between_text
@@ -218,7 +220,7 @@ unfolding refused_text between_text
 file_not collects.Stage.Done answered kept e = (refl, kept_not kept answered e)
 file_not (collects.Stage.Stopped setting) answered kept e = let z : ◌≡◌ {A = ℕ} 0x6E 0x74 = letter 11 e in absurd (omega arith)
 file_not (collects.Stage.Waiting setting) answered kept e = let z : ◌≡◌ {A = ℕ} 0x6E 0x74 = letter 11 e in absurd (omega arith)
-file_not (collects.Stage.Refused number) answered kept e = let z : ◌≡◌ {A = ℕ} 0x72 0x6E = first e in absurd (omega arith)
+file_not (collects.Stage.Refused refusal) answered kept e = let z : ◌≡◌ {A = ℕ} 0x72 0x6E = first e in absurd (omega arith)
 
 pub not_saved_is_not : NotSavedIsNot
 unfolding saved_text
@@ -237,21 +239,21 @@ good_is_good verdict = (
   λ is. text_says_lem (checked_text verdict) "good: " (omega arith) (ap (λ (v : Checked). take 6 (checked_text v)) is),
 )
   where
-    by : (v : Checked) → take 6 (checked_text v) ≡ chars "good: " → v ≡ Checked.Accepted
-    by Checked.Accepted e = refl
-    by (Checked.Refused number row) e =
-        let z : ◌≡◌ {A = ℕ} 0x72 0x67 = sym (pick (λ (l : List ℕ). get_or (take 6 l) 0 0 ≡ 0x72) (eqb row 0) refl refl) ∙ first e in
+    by : (v : Checked) → take 6 (checked_text v) ≡ chars "good: " → v ≡ Ok tt
+    by (Ok done) e = refl
+    by (Err why) e =
+        let z : ◌≡◌ {A = ℕ} 0x72 0x67 = sym (pick (λ (l : List ℕ). get_or (take 6 l) 0 0 ≡ 0x72) (eqb why.line 0) refl refl) ∙ first e in
         absurd (omega arith)
 
 -- a text that is accepted is read as some table, which it is the text of
-read_as_lem : (text : List ℕ) (s : Judgement) → text_says text ≡ s → (read_as s).verdict ≡ Checked.Accepted → IsBackup text
+read_as_lem : (text : List ℕ) (s : Judgement) → text_says text ≡ s → (read_as s).verdict ≡ Ok tt → IsBackup text
 unfolding parsing writing
-read_as_lem text (good table) is e =
+read_as_lem text (Ok table) is e =
     let written = read_is_written text table (ap read_as is) in
     let made : writing table 512 ≡ written_as (text_of table) = rw written.is_allowed refl in
     let same : text ≡ text_of table = ap (λ (g : Given Written). g.written) (sym (written.is_written 512 (omega arith)) ∙ made) in
     record { table = table; is_whole = written.is_whole; is_allowed = written.is_allowed; is_text = same }
-read_as_lem text (refused number line) is e = let z : ◌≡◌ {A = ℕ} 0 1 = cc in absurd (omega arith)
+read_as_lem text (Err why) is e = cc
 
 pub good_is_backup : GoodIsBackup
 unfolding parsing
@@ -280,7 +282,7 @@ end_known follows.Standing.Done confirmed due e = let z : ◌≡◌ {A = ℕ} 0x
 end_known follows.Standing.Equal confirmed due e = let z : ◌≡◌ {A = ℕ} 0x65 0x72 = first e in absurd (omega arith)
 end_known (follows.Standing.Stopped wanted) confirmed due e = let z : ◌≡◌ {A = ℕ} 0x73 0x72 = first e in absurd (omega arith)
 end_known (follows.Standing.Waiting wanted) confirmed due e = let z : ◌≡◌ {A = ℕ} 0x6E 0x72 = first e in absurd (omega arith)
-end_known (follows.Standing.Refused number) confirmed due e = refl
+end_known (follows.Standing.Refused refusal) confirmed due e = refl
 
 first_kept : (l : List ℕ) → get_or (take 10 l) 0 0 ≡ get_or l 0 0
 first_kept [] = refl
@@ -369,9 +371,9 @@ line_joined a b c d = simp (append_assoc, append-nil)
 
 pub refusal_is_told : RefusalIsTold
 unfolding refusal_text refused_text between_text
-refusal_is_told number row = (
-  between_joined (chars "refused ") [] number,
-  λ some. rw (ne_eqb row 0 some) (line_joined (chars "refused ") (decimal number) (chars ", line ") (decimal row)),
+refusal_is_told refusal row = (
+  between_joined (chars "refused ") [] (number_of refusal),
+  λ some. rw (ne_eqb row 0 some) (line_joined (chars "refused ") (decimal (number_of refusal)) (chars ", line ") (decimal row)),
 )
 
 pub followers_fit : FollowersFit

@@ -12,7 +12,10 @@ use Rattle.follow.specs.Following.{standing, total, follower_allowed}
 use Rattle.follow.specs.declared.Standing as follows
 use Rattle.collect.specs.Calls.{told}
 use Rattle.collect.specs.declared.Stage as collects
-use Rattle.backup.specs.declared.Checked.{Checked}
+use Rattle.paper.specs.Numbers.{number_of, not_allowed}
+use Rattle.paper.specs.declared.Refusal.{Refusal}
+use Rattle.backup.specs.Answers.{Checked}
+use Rattle.std.proofs.Common.{Ok, Err}
 use Rattle.tally.specs.Results.{tally_allowed}
 use Rattle.tally.specs.declared.Tally.{Tally}
 use Rattle.tally.proofs.Counting.{within_of}
@@ -41,12 +44,12 @@ fits_of before after m n h = omega (arith, of_long before after m n 20 (digits_f
 joined : (a b : List ℕ) (m n : ℕ) → length a ≤ m → length b ≤ n → length (a ++ b) ≤ m + n
 joined a b m n h k = rw (length-append a b) (omega arith)
 
-refused_long : (number : ℕ) → length (refused_text number) ≤ 28
+refused_long : (refusal : Refusal) → length (refused_text refusal) ≤ 28
 unfolding refused_text
-refused_long number = between_long _ _ number 20 (digits_few 19 number)
+refused_long refusal = between_long _ _ (number_of refusal) 20 (digits_few 19 (number_of refusal))
 
-refused_fits : (number : ℕ) → Fits (refused_text number)
-refused_fits number = omega (arith, refused_long number)
+refused_fits : (refusal : Refusal) → Fits (refused_text refusal)
+refused_fits refusal = omega (arith, refused_long refusal)
 
 stopped_fits : (confirmed due : ℕ) → Fits (stopped_text confirmed due)
 unfolding stopped_text
@@ -63,20 +66,20 @@ end_fits follows.Standing.Done confirmed due = fits_of _ _ _ _ (omega arith)
 end_fits follows.Standing.Equal confirmed due = omega arith
 end_fits (follows.Standing.Stopped wanted) confirmed due = stopped_fits _ _
 end_fits (follows.Standing.Waiting wanted) confirmed due = fits_of _ _ _ _ (omega arith)
-end_fits (follows.Standing.Refused number) confirmed due = refused_fits _
+end_fits (follows.Standing.Refused refusal) confirmed due = refused_fits _
 
 pub followers_uncut : FollowersFit
 unfolding followed_text progress_text
 followers_uncut f = (
-  pick Fits (follower_allowed f) (end_fits (standing f) f.confirmed (total f)) (refused_fits 12),
-  pick Fits (follower_allowed f) (fits_of _ _ _ _ (omega arith)) (refused_fits 12),
+  pick Fits (follower_allowed f) (end_fits (standing f) f.confirmed (total f)) (refused_fits not_allowed),
+  pick Fits (follower_allowed f) (fits_of _ _ _ _ (omega arith)) (refused_fits not_allowed),
 )
 
 read_fits : (o : collects.Stage) (answered due : ℕ) → Fits (read_text o answered due)
 read_fits collects.Stage.Done answered due = fits_between _ _ _ (omega arith)
 read_fits (collects.Stage.Stopped setting) answered due = fits_of _ _ _ _ (omega arith)
 read_fits (collects.Stage.Waiting setting) answered due = fits_of _ _ _ _ (omega arith)
-read_fits (collects.Stage.Refused number) answered due = refused_fits _
+read_fits (collects.Stage.Refused refusal) answered due = refused_fits _
 
 kept_fits : (kept : Kept) (settings : ℕ) → Fits (kept_text kept settings)
 kept_fits Kept.Not settings = omega arith
@@ -87,25 +90,25 @@ file_fits : (o : collects.Stage) (answered : ℕ) (kept : Kept) → Fits (file_t
 file_fits collects.Stage.Done answered kept = kept_fits kept answered
 file_fits (collects.Stage.Stopped setting) answered kept = omega arith
 file_fits (collects.Stage.Waiting setting) answered kept = omega arith
-file_fits (collects.Stage.Refused number) answered kept = refused_fits _
+file_fits (collects.Stage.Refused refusal) answered kept = refused_fits _
 
-line_fits : (number row : ℕ) → Fits (refused_text number ++ between_text (chars ", line ") row [])
-line_fits number row =
+line_fits : (refusal : Refusal) (row : ℕ) → Fits (refused_text refusal ++ between_text (chars ", line ") row [])
+line_fits refusal row =
     let at : List ℕ = between_text (chars ", line ") row [] in
-    let all : length (refused_text number ++ at) ≤ 55 = joined (refused_text number) at 28 27 (refused_long number) (between_long (chars ", line ") [] row 20 (digits_few 19 row)) in
+    let all : length (refused_text refusal ++ at) ≤ 55 = joined (refused_text refusal) at 28 27 (refused_long refusal) (between_long (chars ", line ") [] row 20 (digits_few 19 row)) in
     omega arith
 
-refusal_fits : (number row : ℕ) → Fits (refusal_text number row)
+refusal_fits : (refusal : Refusal) (row : ℕ) → Fits (refusal_text refusal row)
 unfolding refusal_text
-refusal_fits number row = pick Fits (eqb row 0) (refused_fits number) (line_fits number _)
+refusal_fits refusal row = pick Fits (eqb row 0) (refused_fits refusal) (line_fits refusal _)
 
 good_fits : (settings : ℕ) → Fits (good_text settings)
 unfolding good_text
 good_fits settings = fits_between _ _ _ (omega arith)
 
 checked_fits : (verdict : Checked) → Fits (checked_text verdict)
-checked_fits Checked.Accepted = good_fits _
-checked_fits (Checked.Refused number row) = refusal_fits number row
+checked_fits (Ok done) = good_fits _
+checked_fits (Err why) = refusal_fits why.refusal why.line
 
 pub files_uncut : FilesFit
 unfolding collected_text saved_text
@@ -144,6 +147,6 @@ pub yards_uncut : YardsFit
 unfolding summed_text
 yards_uncut t = by (tally_allowed t) refl
   where
-    by : (b : Bool) → tally_allowed t ≡ b → Fits (cond b (counts_text t) (refused_text 12))
+    by : (b : Bool) → tally_allowed t ≡ b → Fits (cond b (counts_text t) (refused_text not_allowed))
     by true ok = counts_fit t ok
-    by false ok = refused_fits 12
+    by false ok = refused_fits not_allowed

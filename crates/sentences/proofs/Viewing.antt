@@ -8,7 +8,6 @@ use lib.ListN.{get_or, take}
 use Rattle.wire.specs.Frame.{digits_of}
 use Rattle.wire.proofs.Theorems.{digits_are_two}
 use Rattle.reply.specs.Replies.{rest}
-use Rattle.reply.specs.Units.{in_volts, in_amperes, in_fine_amperes, in_amp_hours, in_percent}
 use Rattle.reply.specs.Calls.{showing}
 use Rattle.reply.specs.Events.{heard}
 use Rattle.view.specs.Values.{serial_in, is_understood}
@@ -41,7 +40,7 @@ module _ (v : Viewer) (command : ℕ) (bytes : List ℕ) (viewed : Viewed) (s : 
   has_value id u = understood_valued v command bytes id (sight_is ∙ u)
 
 pub read_alike : ReadAlike
-unfolding showing in_volts in_amperes in_fine_amperes in_amp_hours in_percent is_understood words_text reading_text amount_text
+unfolding showing is_understood words_text reading_text amount_text
 read_alike value = (
   record { shown_is = refl; understood_is = refl; told_is = refl },
   (

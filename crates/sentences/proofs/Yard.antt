@@ -8,6 +8,7 @@ use borrow.Author.Tests.{ltb-true, ltb-false}
 use lib.ListN.{length, get_or, take, drop, length-append, drop_of_length-le}
 use lib.Seq.{take_all, drop-append_seam}
 use lib.Dec.{ltb}
+use Rattle.paper.specs.Numbers.{not_allowed}
 use Rattle.tally.specs.Results.{tally_allowed}
 use Rattle.tally.specs.declared.Tally.{Tally}
 use Rattle.lines.specs.Lines.{most, chars, text_of, line_of}
@@ -113,7 +114,7 @@ module _ (t : Tally) where
       in_row : (a b c d : List ℕ) → a ++ b ++ c ++ d ≡ a ++ (b ++ (c ++ d))
       in_row a b c d = simp append_assoc
 
-  pub summed_stray : tally_allowed t ≡ false → refused_text 12 ≡ summed_text t
+  pub summed_stray : tally_allowed t ≡ false → refused_text not_allowed ≡ summed_text t
   unfolding summed_text
   summed_stray ok = rw ok
 

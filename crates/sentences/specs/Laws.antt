@@ -1,6 +1,6 @@
 -- What is proved of the sentences. Each is proved under its name in proofs/Theorems.antt. (That a follower or a collector is allowed exactly
 -- when a start and events give it is AllowedIsReached of `follow` and of `collect`.) Assumes nothing.
-use Rattle.std.specs.Prelude.{ℕ, ◌-◌, ◌≤◌, ◌<◌, ◌≡◌, ◌≢◌, ◌↔◌, true, false, ◌&&◌, List, [], ◌∷◌, ◌++◌, length}
+use Rattle.std.specs.Prelude.{ℕ, ◌-◌, ◌≤◌, ◌<◌, ◌≡◌, ◌≢◌, ◌↔◌, Ok, Err, true, false, ◌&&◌, List, [], ◌∷◌, ◌++◌, length}
 use Rattle.settings.specs.Columns.{count}
 use Rattle.settings.specs.declared.Setting.{Setting}
 use Rattle.tables.specs.Rules as tables
@@ -22,7 +22,9 @@ use Rattle.collect.specs.declared.Collector.{Collector}
 use Rattle.collect.specs.declared.Collected.{Collected}
 use Rattle.backup.specs.Text.{text_of, good}
 use Rattle.backup.specs.Calls.{parsing, read_as}
-use Rattle.backup.specs.declared.Checked.{Checked}
+use Rattle.paper.specs.Numbers.{number_of}
+use Rattle.paper.specs.declared.Refusal.{Refusal}
+use Rattle.backup.specs.Answers.{Checked, bad}
 use Rattle.tally.specs.Results.{tally_allowed}
 use Rattle.tally.specs.declared.Tally.{Tally}
 use Rattle.lines.specs.Lines.{most, chars, line_of, Says}
@@ -124,7 +126,7 @@ LineIsCarried = (events : List Event) → OnStream events → CarriedSays events
 
 -- 4. A backup is said to be good exactly where it is accepted: where it is byte for byte the text of an allowed table.
 abbrev pub GoodIsGood : Type 0
-GoodIsGood = (verdict : Checked) → Says (line_of (checked_text verdict)) 0 "good: " ↔ (verdict ≡ Checked.Accepted)
+GoodIsGood = (verdict : Checked) → Says (line_of (checked_text verdict)) 0 "good: " ↔ (verdict ≡ Ok tt)
 
 pub record IsBackup (text : List ℕ) : Type 0 where
   pub table : Table
@@ -209,9 +211,9 @@ FilesCount =
 -- A refused one is told by the number of its refusal, and by its line where it has one.
 abbrev pub RefusalIsTold : Type 0
 RefusalIsTold =
-    (number row : ℕ)
-    → (checked_text (Checked.Refused number 0) ≡ joined (chars "refused " ∷ decimal number ∷ []))
-    × (row ≢ 0 → checked_text (Checked.Refused number row) ≡ joined (chars "refused " ∷ decimal number ∷ chars ", line " ∷ decimal row ∷ []))
+    (refusal : Refusal) (row : ℕ)
+    → (checked_text (Err (bad refusal 0)) ≡ joined (chars "refused " ∷ decimal (number_of refusal) ∷ []))
+    × (row ≢ 0 → checked_text (Err (bad refusal row)) ≡ joined (chars "refused " ∷ decimal (number_of refusal) ∷ chars ", line " ∷ decimal row ∷ []))
 
 -- 8. No sentence is cut: each fits a line, with any counts.
 abbrev pub Fits : List ℕ → Type 0

@@ -1,5 +1,5 @@
 -- The sentences, each as it is printed. Document 00: the box "says done only for what the board confirmed". Assumes nothing.
-use Rattle.std.specs.Prelude.{ℕ, ◌-◌, cond, List, [], ◌++◌, eqb}
+use Rattle.std.specs.Prelude.{ℕ, ◌-◌, Ok, Err, cond, List, [], ◌++◌, eqb}
 use Rattle.paper.specs.Numbers as paper
 use Rattle.settings.specs.Columns.{count}
 use Rattle.follow.specs.Following.{standing, total, follower_allowed}
@@ -8,7 +8,8 @@ use Rattle.follow.specs.declared.Standing as follows
 use Rattle.collect.specs.Calls.{told}
 use Rattle.collect.specs.declared.Collector.{Collector}
 use Rattle.collect.specs.declared.Stage as collects
-use Rattle.backup.specs.declared.Checked.{Checked}
+use Rattle.paper.specs.declared.Refusal.{Refusal}
+use Rattle.backup.specs.Answers.{Checked}
 use Rattle.tally.specs.Results.{tally_allowed}
 use Rattle.tally.specs.declared.Tally.{Tally}
 use Rattle.lines.specs.Lines.{chars}
@@ -23,8 +24,8 @@ between_text before n after = before ++ decimal n ++ after
 unfoldable pub of_text : List ℕ → ℕ → ℕ → List ℕ → List ℕ
 of_text before done due after = before ++ decimal done ++ chars " of " ++ decimal due ++ after
 
-unfoldable pub refused_text : ℕ → List ℕ
-refused_text number = between_text (chars "refused ") number []
+unfoldable pub refused_text : Refusal → List ℕ
+refused_text refusal = between_text (chars "refused ") (paper.number_of refusal) []
 
 -- A restore, by its outcome, the Sets that the board has confirmed, and those of its list.
 
@@ -37,7 +38,7 @@ end_text follows.Standing.Done confirmed due = of_text (chars "done: ") confirme
 end_text follows.Standing.Equal confirmed due = chars "equal: nothing to set"
 end_text (follows.Standing.Stopped wanted) confirmed due = stopped_text confirmed due
 end_text (follows.Standing.Waiting wanted) confirmed due = of_text (chars "not ended: ") confirmed due (chars " settings confirmed")
-end_text (follows.Standing.Refused number) confirmed due = refused_text number
+end_text (follows.Standing.Refused refusal) confirmed due = refused_text refusal
 
 -- 12 where no start and events give the follower
 unfoldable pub followed_text : Follower → List ℕ
@@ -52,7 +53,7 @@ abbrev pub read_text : collects.Stage → ℕ → ℕ → List ℕ
 read_text collects.Stage.Done answered due = between_text (chars "all ") answered (chars " settings read")
 read_text (collects.Stage.Stopped setting) answered due = of_text (chars "stopped: ") answered due (chars " settings read")
 read_text (collects.Stage.Waiting setting) answered due = of_text (chars "not ended: ") answered due (chars " settings read")
-read_text (collects.Stage.Refused number) answered due = refused_text number
+read_text (collects.Stage.Refused refusal) answered due = refused_text refusal
 
 -- a collector's own word: how far it is (12 where no start and events give it), and its own count
 unfoldable pub collected_text : Collector → List ℕ
@@ -72,7 +73,7 @@ abbrev pub file_text : collects.Stage → ℕ → Kept → List ℕ
 file_text collects.Stage.Done answered kept = kept_text kept answered
 file_text (collects.Stage.Stopped setting) answered kept = unread_text
 file_text (collects.Stage.Waiting setting) answered kept = unread_text
-file_text (collects.Stage.Refused number) answered kept = refused_text number
+file_text (collects.Stage.Refused refusal) answered kept = refused_text refusal
 
 unfoldable pub saved_text : Collector → Kept → List ℕ
 saved_text c kept = file_text (told c).stage (told c).answered kept
@@ -82,12 +83,12 @@ saved_text c kept = file_text (told c).stage (told c).answered kept
 unfoldable pub good_text : ℕ → List ℕ
 good_text settings = between_text (chars "good: ") settings (chars " settings, every number in range, every pair agrees")
 
-unfoldable pub refusal_text : ℕ → ℕ → List ℕ
-refusal_text number row = cond (eqb row 0) (refused_text number) (refused_text number ++ between_text (chars ", line ") row [])
+unfoldable pub refusal_text : Refusal → ℕ → List ℕ
+refusal_text refusal row = cond (eqb row 0) (refused_text refusal) (refused_text refusal ++ between_text (chars ", line ") row [])
 
 abbrev pub checked_text : Checked → List ℕ
-checked_text Checked.Accepted = good_text count
-checked_text (Checked.Refused number row) = refusal_text number row
+checked_text (Ok done) = good_text count
+checked_text (Err why) = refusal_text why.refusal why.line
 
 -- A yard's night.
 

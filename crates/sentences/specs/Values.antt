@@ -75,9 +75,6 @@ amount_text before whole decimals after = before ++ whole_text whole decimals ++
 abbrev pub row_text : Row → List ℕ → List ℕ
 row_text r value = amount_text (chars r.word) (whole_of r value) r.decimals (chars r.unit)
 
-unfoldable pub wide_text : ℕ → List ℕ → List ℕ
-wide_text id value = row_text (row_in wide_rows id) value
-
 unfoldable pub reading_text : ℕ → List ℕ → List ℕ
 reading_text id value = row_text (row_in signed_rows id) value
 

@@ -1,26 +1,25 @@
-ghost use Rattle.std.specs.Prelude.{◌-◌, ◌≡◌, true};
-ghost use Rattle.follow.specs.Following.{total, follower_allowed};
+ghost use Rattle.std.specs.Prelude.{◌≡◌};
+ghost use Rattle.std.specs.Result.{result_unwrap_or};
+ghost use Rattle.restore.specs.Calls.{sets_due};
 ghost use Rattle.lines.specs.Lines.{adding, chars};
 ghost use Rattle.sentences.specs.Texts.{of_text, stopped_text, end_text, followed_text, progress_text};
 
 use crate::parts;
 use follow::{Follower, Standing};
 use lines::Line;
-use restore::Sets;
-
-// Returns how many of `due` are left.
-fn left_of(confirmed: usize, due: usize) -> usize
-    ensures { result ≡ due - confirmed }
-{
-    if confirmed < due { due - confirmed } else { 0 }
-}
 
 // Puts how far a restore came that stopped.
+#[tactic(auto, using(lines::proofs::Adding::further), unfolding(crate::specs::Texts::stopped_text))]
 fn put_stopped(line: Line, confirmed: usize, due: usize) -> Line
     ensures { result ≡ adding line (stopped_text confirmed due) }
 {
     let counted = parts::put_of(line, b"stopped: ", confirmed, due, b" settings confirmed, ");
-    parts::put_between(counted, b"", left_of(confirmed, due), b" not confirmed")
+    parts::put_between(
+        counted,
+        b"",
+        due.saturating_sub(confirmed),
+        b" not confirmed",
+    )
 }
 
 // Puts how many settings are confirmed, after a word.
@@ -39,56 +38,43 @@ fn put_end(line: Line, standing: Standing, confirmed: usize, due: usize) -> Line
         Standing::Equal => line.put(b"equal: nothing to set"),
         Standing::Done => put_settings(line, b"done: ", confirmed, due),
         Standing::Stopped(_) => put_stopped(line, confirmed, due),
-        Standing::Refused(number) => parts::put_refused(line, number),
+        Standing::Refused(refusal) => parts::put_refused(line, refusal),
     }
 }
 
-// Returns whether a start and events give the follower. For any other the sentence is "refused 12".
-fn is_allowed(follower: Follower) -> bool
-    ensures { result ≡ follower_allowed follower }
-{
-    let followed = follower.told();
-    let standing = followed.standing;
-    match standing {
-        Standing::Waiting(_) => true,
-        Standing::Equal => true,
-        Standing::Done => true,
-        Standing::Stopped(_) => true,
-        Standing::Refused(_) => false,
-    }
-}
-
-// Returns how many Sets the list of a follower has.
+// Returns how many Sets the list of a follower has, and 0 where there is none.
 fn due_of(follower: Follower) -> usize
-    requires { follower_allowed follower ≡ true }
-    ensures { result ≡ total follower }
+    ensures { result ≡ result_unwrap_or (sets_due follower.from follower.to) 0 }
 {
-    let sets = restore::sets_due(follower.from, follower.to);
-    match sets {
-        Sets::Due(number) => number,
-        Sets::Refused(_) => 0,
-    }
+    restore::sets_due(follower.from, follower.to).unwrap_or(0)
 }
 
 // Puts how many Sets of its list the board has confirmed, by the follower's own count.
+#[tactic(auto, using(crate::proofs::Ending::progress_told))]
 pub(crate) fn put_confirmed(line: Line, follower: Follower) -> Line
     ensures { result ≡ adding line (progress_text follower) }
 {
-    if !is_allowed(follower) {
-        return parts::put_stray(line);
+    if let Standing::Refused(refusal) = follower.told().standing {
+        return parts::put_refused(line, refusal);
     }
-    let due = due_of(follower);
-    parts::put_of(line, b"", follower.confirmed, due, b" confirmed")
+    parts::put_of(
+        line,
+        b"",
+        follower.confirmed,
+        due_of(follower),
+        b" confirmed",
+    )
 }
 
 // Puts how a restore ended, by the follower's own account.
+#[tactic(auto, using(crate::proofs::Ending::followed_told))]
 pub(crate) fn put_follower(line: Line, follower: Follower) -> Line
     ensures { result ≡ adding line (followed_text follower) }
 {
-    if !is_allowed(follower) {
-        return parts::put_stray(line);
-    }
-    let followed = follower.told();
-    let standing = followed.standing;
-    put_end(line, standing, follower.confirmed, due_of(follower))
+    put_end(
+        line,
+        follower.told().standing,
+        follower.confirmed,
+        due_of(follower),
+    )
 }

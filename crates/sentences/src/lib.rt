@@ -9,7 +9,7 @@ ghost use Rattle.lines.specs.Lines.{line_of};
 ghost use Rattle.sentences.specs.Texts.{followed_text, progress_text, collected_text, saved_text, checked_text, summed_text};
 ghost use Rattle.sentences.specs.Values.{seen_text, shown_text};
 
-use backup::Checked;
+use backup::BadText;
 use collect::Collector;
 use follow::Follower;
 use lines::Line;
@@ -25,7 +25,7 @@ mod values;
 
 // What became of the file for a board's settings, as the caller says: it is as it was; it has the new text, but a power cut may undo that;
 // or it has the new text on the disk.
-#[derive(Drop)]
+#[derive(Clone, Copy, PartialEq, Eq)]
 pub enum Kept {
     Not,
     Unsure,
@@ -33,6 +33,7 @@ pub enum Kept {
 }
 
 // Returns the sentence for how a restore ended, with how many of its Sets the board has confirmed.
+#[tactic(auto, using(lines::proofs::Adding::from_start))]
 pub fn followed(follower: Follower) -> Line
     ensures { result ≡ line_of (followed_text follower) }
 {
@@ -40,6 +41,7 @@ pub fn followed(follower: Follower) -> Line
 }
 
 // Returns the sentence for how many Sets of a restore are confirmed, by the follower's own count.
+#[tactic(auto, using(lines::proofs::Adding::from_start))]
 pub fn progress(follower: Follower) -> Line
     ensures { result ≡ line_of (progress_text follower) }
 {
@@ -47,6 +49,7 @@ pub fn progress(follower: Follower) -> Line
 }
 
 // Returns the sentence for how many settings of a board were read, and whether all.
+#[tactic(auto, using(lines::proofs::Adding::from_start))]
 pub fn collected(collector: Collector) -> Line
     ensures { result ≡ line_of (collected_text collector) }
 {
@@ -54,6 +57,7 @@ pub fn collected(collector: Collector) -> Line
 }
 
 // Returns the sentence for whether the settings that were read are saved: only where every one was read.
+#[tactic(auto, using(lines::proofs::Adding::from_start))]
 pub fn saved(collector: Collector, kept: Kept) -> Line
     ensures { result ≡ line_of (saved_text collector kept) }
 {
@@ -61,13 +65,15 @@ pub fn saved(collector: Collector, kept: Kept) -> Line
 }
 
 // Returns the sentence for a backup: good, or the number of its refusal and the line.
-pub fn checked(verdict: Checked) -> Line
+#[tactic(auto, using(lines::proofs::Adding::from_start))]
+pub fn checked(verdict: Result<(), BadText>) -> Line
     ensures { result ≡ line_of (checked_text verdict) }
 {
     checks::put_verdict(Line::start(), verdict)
 }
 
 // Returns the sums of a yard: how many boards ended in which way, and how many settings were confirmed.
+#[tactic(auto, using(lines::proofs::Adding::from_start))]
 pub fn summed(tally: Tally) -> Line
     ensures { result ≡ line_of (summed_text tally) }
 {
@@ -78,9 +84,7 @@ pub fn summed(tally: Tally) -> Line
 pub fn seen(viewer: Viewer, command: u8, bytes: &[u8]) -> Line
     ensures { result ≡ line_of (seen_text viewer command bytes.now) }
 {
-    let viewed = viewer.reply(command, bytes);
-    let sight = viewed.sight;
-    match sight {
+    match viewer.reply(command, bytes).sight {
         Sight::Nothing => Line::start(),
         Sight::Understood(id) => values::put_words(Line::start(), id, &bytes[paper::FRONT..]),
         Sight::Strange(id) => values::put_strange(Line::start(), id),
@@ -88,6 +92,7 @@ pub fn seen(viewer: Viewer, command: u8, bytes: &[u8]) -> Line
 }
 
 // Returns the sentence for how many values were shown, by the viewer's own count.
+#[tactic(auto, using(lines::proofs::Adding::from_start), unfolding(crate::specs::Values::shown_text))]
 pub fn shown(viewer: Viewer) -> Line
     ensures { result ≡ line_of (shown_text viewer) }
 {

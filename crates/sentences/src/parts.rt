@@ -4,8 +4,10 @@ ghost use Rattle.lines.specs.Lines.{adding};
 ghost use Rattle.sentences.specs.Texts.{between_text, of_text, refused_text};
 
 use lines::Line;
+use paper::Refusal;
 
 // Puts a number between words.
+#[tactic(auto, using(lines::proofs::Adding::further), unfolding(crate::specs::Texts::between_text))]
 pub(crate) fn put_between(line: Line, before: &[u8], n: usize, after: &[u8]) -> Line
     ensures { result ≡ adding line (between_text before.now n after.now) }
 {
@@ -13,6 +15,7 @@ pub(crate) fn put_between(line: Line, before: &[u8], n: usize, after: &[u8]) -> 
 }
 
 // Puts how many of how many, between words.
+#[tactic(auto, using(lines::proofs::Adding::further), unfolding(crate::specs::Texts::of_text))]
 pub(crate) fn put_of(line: Line, before: &[u8], done: usize, due: usize, after: &[u8]) -> Line
     ensures { result ≡ adding line (of_text before.now done due after.now) }
 {
@@ -20,23 +23,17 @@ pub(crate) fn put_of(line: Line, before: &[u8], done: usize, due: usize, after: 
     counted.put(b" of ").put_number(due).put(after)
 }
 
-// Returns a refusal's number at the width of `put_number`.
-fn number_of(n: u8) -> usize
-    ensures { result ≡ n }
-{
-    n as usize
-}
-
 // Puts the number of a refusal.
-pub(crate) fn put_refused(line: Line, number: u8) -> Line
-    ensures { result ≡ adding line (refused_text number) }
+#[tactic(auto, unfolding(crate::specs::Texts::refused_text))]
+pub(crate) fn put_refused(line: Line, refusal: Refusal) -> Line
+    ensures { result ≡ adding line (refused_text refusal) }
 {
-    put_between(line, b"refused ", number_of(number), b"")
+    put_between(line, b"refused ", refusal.number() as usize, b"")
 }
 
 // Puts the refusal of a state that no calls of its machine give.
 pub(crate) fn put_stray(line: Line) -> Line
     ensures { result ≡ adding line (refused_text paper.not_allowed) }
 {
-    put_refused(line, paper::NOT_ALLOWED)
+    put_refused(line, Refusal::NotAllowed)
 }

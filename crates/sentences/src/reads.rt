@@ -1,10 +1,10 @@
 // A board whose settings were read, and the file for them.
 ghost use Rattle.std.specs.Prelude.{◌≡◌};
 ghost use Rattle.lines.specs.Lines.{adding, chars};
-ghost use Rattle.sentences.specs.Texts.{of_text, read_text, kept_text, unread_text, file_text, collected_text, saved_text};
+ghost use Rattle.sentences.specs.Texts.{of_text, read_text, kept_text, file_text, collected_text, saved_text};
 
 use crate::{Kept, parts};
-use collect::{Collector, Stage};
+use collect::{Collected, Collector, Stage};
 use lines::Line;
 use settings::COUNT;
 
@@ -23,17 +23,21 @@ fn put_read(line: Line, stage: Stage, answered: usize, due: usize) -> Line
         Stage::Waiting(_) => put_settings(line, b"not ended: ", answered, due),
         Stage::Done => parts::put_between(line, b"all ", answered, b" settings read"),
         Stage::Stopped(_) => put_settings(line, b"stopped: ", answered, due),
-        Stage::Refused(number) => parts::put_refused(line, number),
+        Stage::Refused(refusal) => parts::put_refused(line, refusal),
     }
 }
 
 // Puts how far a collector came, by its own account and count.
+#[tactic(auto, unfolding(crate::specs::Texts::collected_text))]
 pub(crate) fn put_collector(line: Line, collector: Collector) -> Line
     ensures { result ≡ adding line (collected_text collector) }
 {
-    let collected = collector.told();
-    let stage = collected.stage;
-    put_read(line, stage, collected.answered, COUNT)
+    let Collected {
+        stage,
+        answered,
+        ..
+    } = collector.told();
+    put_read(line, stage, answered, COUNT)
 }
 
 // Puts what became of a file with this many settings.
@@ -47,30 +51,28 @@ fn put_kept(line: Line, kept: Kept, count: usize) -> Line
     }
 }
 
-// Puts that not every setting was read.
-fn put_unread(line: Line) -> Line
-    ensures { result ≡ adding line unread_text }
-{
-    line.put(b"not saved: not every setting was read")
-}
-
 // Puts what became of a file, by how far the collector came: it can be saved only where every setting was read.
 fn put_file(line: Line, stage: Stage, answered: usize, kept: Kept) -> Line
     ensures { result ≡ adding line (file_text stage answered kept) }
 {
     match stage {
-        Stage::Waiting(_) => put_unread(line),
         Stage::Done => put_kept(line, kept, answered),
-        Stage::Stopped(_) => put_unread(line),
-        Stage::Refused(number) => parts::put_refused(line, number),
+        Stage::Waiting(_) | Stage::Stopped(_) => {
+            line.put(b"not saved: not every setting was read")
+        }
+        Stage::Refused(refusal) => parts::put_refused(line, refusal),
     }
 }
 
 // Puts whether the settings of a collector are saved.
+#[tactic(auto, unfolding(crate::specs::Texts::saved_text))]
 pub(crate) fn put_saved(line: Line, collector: Collector, kept: Kept) -> Line
     ensures { result ≡ adding line (saved_text collector kept) }
 {
-    let collected = collector.told();
-    let stage = collected.stage;
-    put_file(line, stage, collected.answered, kept)
+    let Collected {
+        stage,
+        answered,
+        ..
+    } = collector.told();
+    put_file(line, stage, answered, kept)
 }

@@ -7,6 +7,7 @@ use lines::Line;
 use tally::Tally;
 
 // Puts how many boards were done, equal and stopped.
+#[tactic(auto, using(lines::proofs::Adding::further))]
 fn put_ended(line: Line, tally: Tally) -> Line
     ensures { result ≡ adding line (ended_text tally) }
 {
@@ -16,6 +17,7 @@ fn put_ended(line: Line, tally: Tally) -> Line
 }
 
 // Puts how many boards ended in which way, and how many settings were confirmed of those that were due.
+#[tactic(auto, using(lines::proofs::Adding::further), unfolding(crate::specs::Texts::counts_text))]
 fn put_counts(line: Line, tally: Tally) -> Line
     ensures { result ≡ adding line (counts_text tally) }
 {
@@ -32,6 +34,7 @@ fn put_counts(line: Line, tally: Tally) -> Line
 }
 
 // Puts the sums of a tally, or its refusal where it is not allowed.
+#[tactic(auto, unfolding(crate::specs::Texts::summed_text))]
 pub(crate) fn put_sums(line: Line, tally: Tally) -> Line
     ensures { result ≡ adding line (summed_text tally) }
 {

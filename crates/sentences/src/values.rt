@@ -1,21 +1,15 @@
 // The words and units of a board's read-only values. Which values are understood is in `view`.
-ghost use Rattle.std.specs.Prelude.{◌*◌, ◌-◌, ◌≤◌, ◌<◌, suc, ◌≡◌, true, cond, length, ltb, pos, negsuc};
+ghost use Rattle.std.specs.Prelude.{◌≡◌, true, length, pos};
 ghost use Rattle.endian.specs.Numbers.{from_little, signed};
 ghost use Rattle.view.specs.Values.{width_of, is_understood};
 ghost use Rattle.lines.specs.Lines.{adding};
-ghost use Rattle.sentences.specs.Values.{word_text, strange_text, product_text, version_text, serial_text, amount_text, wide_text, reading_text, words_text};
+ghost use Rattle.sentences.specs.Values.{word_text, strange_text, serial_text, amount_text, reading_text, words_text};
 
 use lines::Line;
-
-// How many numbers two bytes and four bytes have: from half of it on, a number is negative. For the one reading without a sign it is twice
-// as many, so that no number of two bytes is negative.
-const ALL_16: usize = 65536;
-
-const ALL_32: usize = 4294967296;
-
-const UNSIGNED_16: usize = 131072;
+use spans::Byte;
 
 // Puts two bytes in four digits, between words.
+#[tactic(auto, using(lines::proofs::Adding::further), unfolding(crate::specs::Values::word_text))]
 fn put_word(line: Line, before: &[u8], high: u8, low: u8, after: &[u8]) -> Line
     ensures { result ≡ adding line (word_text before.now high low after.now) }
 {
@@ -26,23 +20,8 @@ fn put_word(line: Line, before: &[u8], high: u8, low: u8, after: &[u8]) -> Line
         .put(after)
 }
 
-// Puts the value of 0100. A product has its low byte first, and is printed high byte first.
-fn put_product(line: Line, value: &[u8]) -> Line
-    requires { length value.now ≡ 4 }
-    ensures { result ≡ adding line (product_text value.now) }
-{
-    put_word(line, b"product ", value[2], value[1], b"")
-}
-
-// Puts the value of EEF9, likewise.
-fn put_version(line: Line, value: &[u8]) -> Line
-    requires { length value.now ≡ 2 }
-    ensures { result ≡ adding line (version_text value.now) }
-{
-    put_word(line, b"version ", value[1], value[0], b"")
-}
-
 // Puts that the answer of an id is not understood.
+#[tactic(auto, unfolding(crate::specs::Values::strange_text))]
 pub(crate) fn put_strange(line: Line, id: u16) -> Line
     ensures { result ≡ adding line (strange_text id) }
 {
@@ -56,97 +35,79 @@ pub(crate) fn put_strange(line: Line, id: u16) -> Line
 }
 
 // Puts the value of 010A: the serial, which ends at the first zero byte.
+#[tactic(auto, using(lines::proofs::Adding::further), unfolding(crate::specs::Values::serial_text))]
 fn put_serial(line: Line, value: &[u8]) -> Line
     ensures { result ≡ adding line (serial_text value.now) }
 {
-    let end = spans::find(value, 0);
+    let end = spans::first(value, Byte(0));
     line.put(b"serial ").put(&value[..end])
 }
 
-// Puts a number of steps between words. From half of `all` on it is negative, counted back from `all`.
-fn put_amount(line: Line, before: &[u8], all: usize, n: usize, decimals: u8, after: &[u8]) -> Line
-    requires { (n < all) × (all ≤ 4294967296) }
-    ensures { result ≡ adding line (amount_text before.now (cond (ltb (2 * n) all) (pos n) (negsuc (all - suc n))) decimals after.now) }
+// Puts a whole number of steps in its unit, between words.
+#[tactic(auto, using(lines::proofs::Adding::further), unfolding(crate::specs::Values::amount_text))]
+fn put_amount(line: Line, before: &[u8], steps: i32, decimals: u8, after: &[u8]) -> Line
+    ensures { result ≡ adding line (amount_text before.now steps decimals after.now) }
 {
     let begun = line.put(before);
-    if 2 * n < all {
-        return begun.put_pointed(n, decimals).put(after);
+    let size = steps.unsigned_abs() as usize;
+    if steps < 0 {
+        return begun.put(b"-").put_pointed(size, decimals).put(after);
     }
-    begun.put(b"-").put_pointed(all - n, decimals).put(after)
+    begun.put_pointed(size, decimals).put(after)
 }
 
-// Puts a number of two bytes with a sign, between words.
-fn put_narrow(line: Line, before: &[u8], value: &[u8], decimals: u8, after: &[u8]) -> Line
+// Returns the whole number of two bytes with a sign.
+#[tactic(auto, using(endian::proofs::Little::all_first))]
+fn narrow(value: &[u8]) -> i32
     requires { length value.now ≡ 2 }
-    ensures { result ≡ adding line (amount_text before.now (signed 2 (from_little value.now)) decimals after.now) }
+    ensures { result ≡ signed 2 (from_little value.now) }
 {
-    put_amount(
-        line,
-        before,
-        ALL_16,
-        endian::read_16(value) as usize,
-        decimals,
-        after,
-    )
+    i32::from(endian::signed_16(endian::read_16(value)))
 }
 
-// Puts a number of four bytes with a sign, between words.
-fn put_wide(line: Line, before: &[u8], value: &[u8], decimals: u8, after: &[u8]) -> Line
+// Returns the whole number of four bytes with a sign.
+#[tactic(auto, using(endian::proofs::Little::all_first))]
+fn wide(value: &[u8]) -> i32
     requires { length value.now ≡ 4 }
-    ensures { result ≡ adding line (amount_text before.now (signed 4 (from_little value.now)) decimals after.now) }
+    ensures { result ≡ signed 4 (from_little value.now) }
 {
-    put_amount(
-        line,
-        before,
-        ALL_32,
-        endian::read_32(value) as usize,
-        decimals,
-        after,
-    )
+    endian::signed_32(endian::read_32(value))
 }
 
-// Puts a reading in its unit: one of four bytes, or else the charge.
-fn put_other(line: Line, id: u16, value: &[u8]) -> Line
-    requires { length value.now ≡ width_of id }
-    ensures { result ≡ adding line (wide_text id value.now) }
+// Returns the whole number of two bytes without a sign.
+#[tactic(auto, using(endian::proofs::Little::all_first))]
+fn unsigned(value: &[u8]) -> i32
+    requires { length value.now ≡ 2 }
+    ensures { result ≡ pos (from_little value.now) }
 {
-    if id == paper::FINE_ID {
-        return put_wide(line, b"current ", value, 3, b" A");
-    }
-    if id == paper::CONSUMED_ID {
-        return put_wide(line, b"consumed ", value, 1, b" Ah");
-    }
-    let steps = endian::read_16(value) as usize;
-    put_amount(line, b"charge ", UNSIGNED_16, steps, 2, b" %")
+    i32::from(endian::read_16(value))
 }
 
 // Puts a reading in its unit.
+#[tactic(auto, unfolding(crate::specs::Values::reading_text))]
 fn put_reading(line: Line, id: u16, value: &[u8]) -> Line
     requires { length value.now ≡ width_of id }
     ensures { result ≡ adding line (reading_text id value.now) }
 {
-    if id == paper::VOLTAGE_ID {
-        return put_narrow(line, b"voltage ", value, 2, b" V");
+    match id {
+        paper::VOLTAGE_ID => put_amount(line, b"voltage ", narrow(value), 2, b" V"),
+        paper::CURRENT_ID => put_amount(line, b"current ", narrow(value), 1, b" A"),
+        paper::FINE_ID => put_amount(line, b"current ", wide(value), 3, b" A"),
+        paper::CONSUMED_ID => put_amount(line, b"consumed ", wide(value), 1, b" Ah"),
+        _ => put_amount(line, b"charge ", unsigned(value), 2, b" %"),
     }
-    if id == paper::CURRENT_ID {
-        return put_narrow(line, b"current ", value, 1, b" A");
-    }
-    put_other(line, id, value)
 }
 
-// Puts a value that is understood, by its id.
+// Puts a value that is understood, by its id. A product and a version have their low byte first, and are printed high byte first.
+#[tactic(auto, using(view::proofs::Widths::product_wide, view::proofs::Widths::reading_wide), unfolding(crate::specs::Values::words_text))]
 pub(crate) fn put_words(line: Line, id: u16, value: &[u8]) -> Line
     requires { is_understood id value.now ≡ true }
     ensures { result ≡ adding line (words_text id value.now) }
 {
-    if id == paper::PRODUCT_ID {
-        return put_product(line, value);
+    match id {
+        paper::PRODUCT_ID => put_word(line, b"product ", value[2], value[1], b""),
+        paper::SERIAL_ID => put_serial(line, value),
+        paper::VERSION_ID => put_word(line, b"version ", value[1], value[0], b""),
+        _ => put_reading(line, id, value),
     }
-    if id == paper::SERIAL_ID {
-        return put_serial(line, value);
-    }
-    if id == paper::VERSION_ID {
-        return put_version(line, value);
-    }
-    put_reading(line, id, value)
 }

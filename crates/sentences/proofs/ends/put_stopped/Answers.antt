@@ -5,5 +5,4 @@ use Rattle.sentences.proofs.ends.put_stopped.Goals as goal
 
 pub returns : goal.returns
 unfolding stopped_text
-returns c =
-    further _ _ _ c.put_of-counted.ensures (rw c.left_of.ensures at c.put_between.ensures)
+returns c = further _ _ _ c.put_of-counted.ensures (rw c.saturating_sub.ensures at c.put_between.ensures)

@@ -1,6 +1,7 @@
 -- `sentences::values::put_serial` meets its contract: the serial ends at the first zero byte. Assumes nothing.
-use mathlib.Core.Path.{◌∙◌}
-use Rattle.view.proofs.Serials.{zero_found}
+use mathlib.Core.Path.{◌≡◌}
+use lib.Dec.{eqb}
+use Rattle.laws.specs.Lists.{before}
 use Rattle.lines.proofs.Adding.{further}
 use Rattle.sentences.specs.Values.{serial_text}
 use Rattle.sentences.proofs.values.put_serial.Goals as goal
@@ -8,4 +9,5 @@ use Rattle.sentences.proofs.values.put_serial.Goals as goal
 pub returns : goal.returns
 unfolding serial_text
 returns c =
-    further _ _ _ c.put.ensures (rw (c.find-end.ensures.first ∙ zero_found c.args.value.now) at c.put-2.ensures)
+    let end : c.first-end.result ≡ before (eqb 0) c.args.value.now = c.first-end.ensures.first in
+    further _ _ _ c.put.ensures (rw end at c.put-2.ensures)

@@ -1,6 +1,0 @@
--- `sentences::checked` meets its contract. Assumes nothing.
-use Rattle.lines.proofs.Adding.{from_start}
-use Rattle.sentences.proofs.checked.Goals as goal
-
-pub returns : goal.returns
-returns c = from_start _ c.start.ensures c.put_verdict.ensures
