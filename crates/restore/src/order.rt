@@ -33,7 +33,7 @@ impl Restore {
         }
     }
 
-    // Returns how many Sets there are.
+    // Returns how many Sets there are. (Here and below a chain over the places was tried: its proof did not close.)
     pub(crate) fn len(self) -> usize
         ensures { result ≡ length (due_sets self.from self.to) }
     {

@@ -1,5 +1,5 @@
-// The constant table of document 01, "Settings", column by column, in the order of the ids, and a function for each column. Every look-up
-// of an id, a width, an end, a factory number or a partner comes here.
+// The constant table of document 01, "Settings", column by column, in the order of the ids: const arrays, the form that the paper names.
+// Every look-up of an id, a width, an end, a factory number or a partner comes here.
 ghost use Rattle.std.specs.Prelude.{◌<◌, ◌≤◌, ◌≡◌, MatchOption, eqb};
 ghost use Rattle.std.specs.List.{position};
 ghost use Rattle.settings.specs.Columns.{count, low_at, high_at, zero_at, partner_at, role_at, lows, highs, zeros, roles, place_of};
