@@ -23,10 +23,8 @@ impl Known {
     pub(crate) fn find(id: u16) -> Option<Known>
         ensures { MatchOption result (finding id ≡ None) (λ known. finding id ≡ Some known.setting) }
     {
-        match settings::find(id) {
-            Some(setting) => Some(Known { setting }),
-            None => None,
-        }
+        let setting = settings::find(id)?;
+        Some(Known { setting })
     }
 
     // Returns the number that the setting holds.

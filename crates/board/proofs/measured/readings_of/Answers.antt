@@ -78,4 +78,4 @@ returns c =
     let f = fine at.In_ok-ok-3 (wide-fine at.Start) in
     let a = consumed at.In_ok-ok-4 (wide-consumed at.Start) in
     let c5 = charge at.In_ok-ok-5 (wide-charge at.Start) in
-    rw (v.0, i.0, f.0, a.0, c5.0, v.1, i.1, f.1, a.1, c5.1, narrow_16 _ v.0, narrow_16 _ i.0, narrow_32 _ f.0, narrow_32 _ a.0)
+    rw (v.0, i.0, f.0, a.0, c5.0, v.1, i.1, f.1, a.1, c5.1, narrow_16 c.args.given.voltage v.0, narrow_16 c.args.given.current i.0, narrow_32 c.args.given.fine f.0, narrow_32 c.args.given.consumed a.0)
