@@ -5,7 +5,6 @@ use Prim.Native.Nat.{ℕ, ◌*◌, ◌^◌, ◌≤◌, ◌<◌}
 use native.Mathlib.Omega.{arith}
 use borrow.Author.Tests.{ltb-true, ltb-false, lt-ltb, le-ltb}
 use lib.Dec.{ltb}
-use lib.IntN.{ℤ}
 use mir.Val.{Fits, to_z, of_z, bits, hbits}
 use mir.ValLaws.{to_z_pos, pow-bits, of_z-to_z}
 use mir.Syntax.{Width}

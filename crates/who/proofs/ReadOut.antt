@@ -7,9 +7,8 @@ use Prim.Native.Nat.{ℕ, ◌+◌, ◌≤◌, ◌<◌}
 use native.Mathlib.Omega.{arith}
 use borrow.Author.Tests.{lt-ltb, le-ltb, ltb-true, ltb-false, leb-true, eqb-true}
 use lib.Dec.{leb, ltb, eqb}
-use lib.ListN.{length, take, replicate, length-append, length-take}
+use lib.ListN.{length, take, length-append, length-take}
 use Rattle.laws.specs.Lists.{every, byte}
-use Rattle.laws.specs.Promise.{overlaid, front_of}
 use Rattle.laws.proofs.Bools.{and_left, and_right, both, pick}
 use Rattle.laws.proofs.Lists.{every_append}
 use Rattle.laws.proofs.Fronts.{front_is}
@@ -23,9 +22,7 @@ use Rattle.who.specs.Laws.{Small, small_none, small_some, ValuesFit, NothingRead
 use Rattle.who.specs.declared.Identity.{Identity}
 use Rattle.who.specs.declared.Readings.{Readings}
 use Rattle.std.proofs.Common.{Ok, Err}
-use Rattle.paper.specs.declared.Refusal.{Refusal}
 use Rattle.who.specs.declared.Value.{Value}
-use Rattle.who.specs.Answers.{Looked}
 use Rattle.who.proofs.Serials.{serial_within}
 
 small_little : (width n : ℕ) → width ≤ 32 → Small (some (little width n))
