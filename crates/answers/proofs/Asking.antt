@@ -6,13 +6,12 @@ use mathlib.Core.Option.{some}
 use Prim.Native.Nat.{ℕ, zero, suc, ◌^◌, ◌≤◌, ◌<◌}
 use native.Mathlib.Omega.{arith}
 use lib.ListN.{length}
-use Rattle.std.proofs.Common.{Some, None}
+use Rattle.std.proofs.Common.{None}
 use Rattle.endian.proofs.Little.{length_little}
 use Rattle.endian.proofs.Theorems.{little_is_read}
 use Rattle.settings.specs.Columns.{count, id_at, width_at}
 use Rattle.tables.specs.Rules.{partner_number}
 use Rattle.settings.specs.Calls.{setting_at, finding}
-use Rattle.settings.specs.Answers.{Found}
 use Rattle.settings.proofs.Theorems.{rows_hold, find_is_found, allowed_has_room}
 use Rattle.tables.proofs.Theorems.{refused_names_nearest}
 use Rattle.tables.proofs.Tables.{set_accepted}

@@ -19,7 +19,7 @@ use Rattle.tables.specs.declared.Change.{Change}
 use Rattle.paper.specs.Numbers.{get_code, set_code, most_serial, not_allowed}
 use Rattle.answers.specs.Answers.{core_allowed, with_table, silent, staying, good, malformed, unknown_id, not_supported, wrong_width, gets_other, gets_found, get_answer, sets_other, stored, sets_setting, sets_found, set_answer, frame_answer}
 use Rattle.who.specs.Parts.{identity_allowed}
-use Rattle.endian.specs.Numbers.{from_little, said}
+use Rattle.endian.specs.Numbers.{from_little}
 use Rattle.who.specs.Calls.{value_of, looked_of}
 use Rattle.who.specs.declared.Value.{Value}
 use Rattle.laws.proofs.Fronts.{front_taken}

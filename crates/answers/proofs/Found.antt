@@ -6,10 +6,9 @@ use native.Mathlib.Nat.{le_of_suc-le-suc}
 use native.Mathlib.Omega.{arith}
 use lib.ListN.{take}
 use Rattle.endian.specs.Numbers.{little}
-use Rattle.std.proofs.Common.{Some, None}
+use Rattle.std.proofs.Common.{Some}
 use Rattle.settings.specs.Calls.{finding}
 use Rattle.settings.specs.declared.Setting.{Setting}
-use Rattle.settings.specs.Answers.{Found}
 use Rattle.settings.proofs.Theorems.{rows_hold, found_has_id}
 use Rattle.answers.specs.Settled.{Settled}
 

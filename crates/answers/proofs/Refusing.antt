@@ -16,7 +16,6 @@ use Rattle.laws.specs.Refusals.{first_of}
 use Rattle.settings.specs.Columns.{count, ids, width_at, place_of}
 use Rattle.settings.specs.Rules.{allowed_for}
 use Rattle.settings.specs.Calls.{setting_at, placing, finding}
-use Rattle.settings.specs.Answers.{Found}
 use Rattle.tables.specs.Rules.{allowed, partner_number}
 use Rattle.tables.specs.Calls.{set_to}
 use Rattle.tables.proofs.Tables.{set_accepted, set_refused}

@@ -15,7 +15,6 @@ use Rattle.laws.proofs.Lists.{every_drop}
 use Rattle.settings.specs.Columns.{count, id_at, width_at, place_of}
 use Rattle.settings.specs.Rules.{allowed_for}
 use Rattle.settings.specs.Calls.{setting_at, finding}
-use Rattle.settings.specs.Answers.{Found}
 use Rattle.settings.proofs.Theorems.{rows_hold, found_has_id}
 use Rattle.tables.specs.Rules.{partner_number}
 use Rattle.tables.specs.Calls.{set_to}
