@@ -9,7 +9,6 @@ use follow::{Follower, Standing};
 use lines::Line;
 
 // Puts how far a restore came that stopped.
-#[tactic(auto, using(lines::proofs::Adding::further), unfolding(crate::specs::Texts::stopped_text))]
 fn put_stopped(line: Line, confirmed: usize, due: usize) -> Line
     ensures { result ≡ adding line (stopped_text confirmed due) }
 {

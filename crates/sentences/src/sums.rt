@@ -17,7 +17,6 @@ fn put_ended(line: Line, tally: Tally) -> Line
 }
 
 // Puts how many boards ended in which way, and how many settings were confirmed of those that were due.
-#[tactic(auto, using(lines::proofs::Adding::further), unfolding(crate::specs::Texts::counts_text))]
 fn put_counts(line: Line, tally: Tally) -> Line
     ensures { result ≡ adding line (counts_text tally) }
 {

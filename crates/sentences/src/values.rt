@@ -35,7 +35,6 @@ pub(crate) fn put_strange(line: Line, id: u16) -> Line
 }
 
 // Puts the value of 010A: the serial, which ends at the first zero byte.
-#[tactic(auto, using(lines::proofs::Adding::further), unfolding(crate::specs::Values::serial_text))]
 fn put_serial(line: Line, value: &[u8]) -> Line
     ensures { result ≡ adding line (serial_text value.now) }
 {
@@ -44,7 +43,6 @@ fn put_serial(line: Line, value: &[u8]) -> Line
 }
 
 // Puts a whole number of steps in its unit, between words.
-#[tactic(auto, using(lines::proofs::Adding::further), unfolding(crate::specs::Values::amount_text))]
 fn put_amount(line: Line, before: &[u8], steps: i32, decimals: u8, after: &[u8]) -> Line
     ensures { result ≡ adding line (amount_text before.now steps decimals after.now) }
 {
@@ -84,7 +82,6 @@ fn unsigned(value: &[u8]) -> i32
 }
 
 // Puts a reading in its unit.
-#[tactic(auto, unfolding(crate::specs::Values::reading_text))]
 fn put_reading(line: Line, id: u16, value: &[u8]) -> Line
     requires { length value.now ≡ width_of id }
     ensures { result ≡ adding line (reading_text id value.now) }
