@@ -1,5 +1,5 @@
 -- Identities: that of a serial that fits is allowed, and has that serial. Assumes nothing.
-use mathlib.Core.Path.{◌≡◌, refl}
+use mathlib.Core.Path.{◌≡◌, refl, ap, ◌∙◌}
 use mathlib.Core.Bool.{Bool, true, false, not}
 use mathlib.Core.List.{List, [], ◌∷◌}
 use Prim.Native.Nat.{ℕ, ◌≤◌}
@@ -9,7 +9,7 @@ use Rattle.std.proofs.Common.{Ok, Err}
 use lib.Dec.{leb}
 use Rattle.laws.specs.Lists.{every}
 use Rattle.laws.proofs.Bools.{and_left, and_right, both}
-use Rattle.laws.proofs.Fronts.{front_taken, front_zeros}
+use Rattle.spans.proofs.Fews.{those_back, few_tidy}
 use Rattle.who.specs.Parts.{printed, serial_fits, identity_of, serial_of, no_identity, identity_allowed}
 use Rattle.paper.specs.Numbers.{most_serial, not_allowed}
 use Rattle.who.specs.Calls.{naming}
@@ -19,6 +19,10 @@ use Rattle.laws.specs.Refusals.{row, first_of}
 pub serial_short : (serial : List ℕ) → serial_fits serial ≡ true → length serial ≤ 32
 unfolding serial_fits
 serial_short serial e = leb-true (length serial) 32 (and_left _ (every printed serial) e)
+
+serial_printed : (serial : List ℕ) → serial_fits serial ≡ true → every printed serial ≡ true
+unfolding serial_fits
+serial_printed serial e = and_right (leb (length serial) 32) (every printed serial) e
 
 module _ (product version : ℕ) (serial : List ℕ) where
   pub named_refused : serial_fits serial ≡ false → naming product version serial ≡ record { identity = no_identity; verdict = Err not_allowed }
@@ -31,14 +35,13 @@ module _ (product version : ℕ) (serial : List ℕ) where
 
 pub serial_back : (product version : ℕ) (serial : List ℕ) → serial_of (identity_of product version serial) ≡ serial
 unfolding serial_of identity_of
-serial_back product version serial = front_taken most_serial serial
+serial_back product version serial = those_back most_serial serial
 
 pub identity_fits : (product version : ℕ) (serial : List ℕ) → serial_fits serial ≡ true → identity_allowed (identity_of product version serial) ≡ true
-unfolding identity_allowed serial_of identity_of serial_fits
+unfolding identity_allowed identity_of
 identity_fits product version serial e =
-    rw (front_taken most_serial serial)
-    (both _ _ (and_left (leb (length serial) 32) (every printed serial) e)
-    (both _ _ (and_right (leb (length serial) 32) (every printed serial) e) (front_zeros most_serial serial)))
+    both _ _ (few_tidy 32 serial (serial_short serial e))
+    (ap (every printed) (serial_back product version serial) ∙ serial_printed serial e)
 
 pub nobody_allowed : identity_allowed no_identity ≡ true
 unfolding no_identity serial_fits

@@ -14,24 +14,25 @@ use Rattle.laws.proofs.Lists.{every_append}
 use Rattle.laws.proofs.Fronts.{front_is}
 use Rattle.endian.specs.Numbers.{little}
 use Rattle.endian.proofs.Little.{length_little, bytes_little}
+use Rattle.spans.specs.Few.{few}
 use Rattle.who.specs.Parts.{printed, serial_of, identity_allowed}
 use Rattle.who.specs.Values.{product_value, serial_value, read_only, read_only_ids, among}
 use Rattle.paper.specs.Numbers.{not_allowed}
-use Rattle.who.specs.Calls.{value_of, looked_of, reading_out}
+use Rattle.who.specs.Calls.{looked_of, reading_out}
 use Rattle.who.specs.Laws.{Small, small_none, small_some, ValuesFit, NothingReadsZero, product, serial_under, serial_full, version, voltage, current, fine, consumed, charge, HeldIsReadOut, Holds, ReadOutIsHeld, is_some, EightAreReadOut, refusal_of, ReadOnlyGivenWhen, value_given, RefusedHasNoValue, ReadOnlyAnswersHeld}
 use Rattle.who.specs.declared.Identity.{Identity}
 use Rattle.who.specs.declared.Readings.{Readings}
 use Rattle.std.proofs.Common.{Ok, Err}
-use Rattle.who.specs.declared.Value.{Value}
-use Rattle.who.proofs.Serials.{serial_within}
+use Rattle.who.specs.Answers.{Value}
+use Rattle.who.proofs.Serials.{serial_within, serial_printed}
 
 small_little : (width n : ℕ) → width ≤ 32 → Small (some (little width n))
 small_little width n h = small_some {v = little width n} (rw (length_little width n) h) (bytes_little width n)
 
 pub looked_short : (o : Option (List ℕ)) → Small o → (value : Value) → looked_of o ≡ Ok value → value.len ≤ 32
-unfolding looked_of value_of
+unfolding looked_of few
 looked_short none small_none value e = let z : ◌≡◌ {A = ℕ} 0 1 = cc in absurd (omega arith)
-looked_short (some v) (small_some short bytes) value e = let is : value_of v ≡ value = cc in subst (λ (w : Value). w.len ≤ 32) is short
+looked_short (some v) (small_some short bytes) value e = let is : few 32 v ≡ value = cc in subst (λ (w : Value). w.len ≤ 32) is short
 
 -- the call, by whether the identity is allowed
 module _ (identity : Identity) (readings : Readings) (id : ℕ) where
@@ -59,28 +60,28 @@ small_product identity =
     (every_append byte (little 2 identity.product) (0xFF ∷ []) ∙ both _ _ (bytes_little 2 identity.product) refl)
 
 module _ (identity : Identity) (ok : identity_allowed identity ≡ true) where
-  serial_short : length (serial_of identity) ≤ identity.len
+  serial_short : length (serial_of identity) ≤ identity.serial.len
   unfolding serial_of
-  serial_short = take_short identity.len identity.serial
+  serial_short = take_short identity.serial.len identity.serial.bytes
 
   serial_bytes : every byte (serial_of identity) ≡ true
   unfolding identity_allowed
-  serial_bytes = printed_bytes_lem (serial_of identity) (and_left (every printed (serial_of identity)) _ (and_right (leb identity.len 32) _ ok))
+  serial_bytes = printed_bytes_lem (serial_of identity) (serial_printed identity ok)
 
   -- the serial, and a zero byte after it where there is room for one
-  small_behind : (rest : List ℕ) → length rest + identity.len ≤ 32 → every byte rest ≡ true → Small (some (serial_of identity ++ rest))
+  small_behind : (rest : List ℕ) → length rest + identity.serial.len ≤ 32 → every byte rest ≡ true → Small (some (serial_of identity ++ rest))
   small_behind rest h bytes =
-      let short : length (serial_of identity) ≤ identity.len = serial_short in
+      let short : length (serial_of identity) ≤ identity.serial.len = serial_short in
       small_some {v = serial_of identity ++ rest} (rw (length-append (serial_of identity) rest) (omega arith))
       (every_append byte (serial_of identity) rest ∙ both _ _ serial_bytes bytes)
 
   small_serial : Small (some (serial_value identity))
   unfolding serial_value
-  small_serial = by (ltb identity.len 32) refl
+  small_serial = by (ltb identity.serial.len 32) refl
     where
-      by : (b : Bool) → ltb identity.len 32 ≡ b → Small (some (serial_of identity ++ cond b (0 ∷ []) []))
-      by true h = let less : identity.len < 32 = ltb-true _ _ h in small_behind (0 ∷ []) (omega arith) refl
-      by false h = let most : identity.len ≤ 32 = serial_within identity ok in small_behind [] (omega arith) refl
+      by : (b : Bool) → ltb identity.serial.len 32 ≡ b → Small (some (serial_of identity ++ cond b (0 ∷ []) []))
+      by true h = let less : identity.serial.len < 32 = ltb-true _ _ h in small_behind (0 ∷ []) (omega arith) refl
+      by false h = let most : identity.serial.len ≤ 32 = serial_within identity ok in small_behind [] (omega arith) refl
 
   small_read : (readings : Readings) (id : ℕ) → Small (read_only identity readings id)
   unfolding read_only
@@ -108,8 +109,8 @@ nothing_zero identity = (refl, refl, refl, refl, refl)
 pub held_out : HeldIsReadOut
 unfolding read_only serial_value
 held_out identity readings id value product = refl
-held_out identity readings id value (serial_under h) = rw (lt-ltb identity.len 32 h)
-held_out identity readings id value (serial_full e) = rw (le-ltb identity.len 32 (omega arith)) (ap some (append-nil (serial_of identity)))
+held_out identity readings id value (serial_under h) = rw (lt-ltb identity.serial.len 32 h)
+held_out identity readings id value (serial_full e) = rw (le-ltb identity.serial.len 32 (omega arith)) (ap some (append-nil (serial_of identity)))
 held_out identity readings id value version = refl
 held_out identity readings id value voltage = refl
 held_out identity readings id value current = refl
@@ -133,13 +134,13 @@ module _ (identity : Identity) (readings : Readings) (id : ℕ) where
 
   serial_held : identity_allowed identity ≡ true → Holds identity readings 0x010A (serial_value identity)
   unfolding serial_value
-  serial_held ok = by (ltb identity.len 32) refl
+  serial_held ok = by (ltb identity.serial.len 32) refl
     where
-      by : (b : Bool) → ltb identity.len 32 ≡ b → Holds identity readings 0x010A (serial_of identity ++ cond b (0 ∷ []) [])
-      by true e = serial_under (ltb-true identity.len 32 e)
+      by : (b : Bool) → ltb identity.serial.len 32 ≡ b → Holds identity readings 0x010A (serial_of identity ++ cond b (0 ∷ []) [])
+      by true e = serial_under (ltb-true identity.serial.len 32 e)
       by false e =
-          let most : identity.len ≤ 32 = serial_within identity ok in
-          let least : 32 ≤ identity.len = ltb-false identity.len 32 e in
+          let most : identity.serial.len ≤ 32 = serial_within identity ok in
+          let least : 32 ≤ identity.serial.len = ltb-false identity.serial.len 32 e in
           rw (append-nil (serial_of identity)) (serial_full (omega arith))
 
   finds : identity_allowed identity ≡ true → Finds (read_only identity readings id)
@@ -182,7 +183,7 @@ refused_silent identity readings id refusal e = ap value_given e
 
 -- and its answer
 pub read_only_held : ReadOnlyAnswersHeld
-unfolding looked_of value_of
+unfolding looked_of few
 read_only_held identity readings id value ok holds =
     sym (read_given identity readings id ok)
     ∙ ap looked_of (held_out identity readings id value holds)

@@ -1,49 +1,51 @@
 -- A serial in the identity's own array, with zeros after it. Assumes nothing.
-use mathlib.Core.Path.{◌≡◌, subst, ap, ◌∙◌}
+use mathlib.Core.Path.{◌≡◌, subst, sym, ap, ◌∙◌}
 use mathlib.Core.Bool.{true}
 use Prim.Native.Nat.{◌≤◌}
 use native.Mathlib.Omega.{arith}
 use borrow.Author.Tests.{leb-true, le-leb}
 use lib.Dec.{leb, eqb}
-use lib.ListN.{length, take, drop, length-take}
+use lib.ListN.{length, drop, length-take}
 use Rattle.laws.specs.Lists.{every}
-use Rattle.laws.specs.Promise.{front_of}
 use Rattle.laws.proofs.Bools.{and_left, and_right, both}
-use Rattle.laws.proofs.Fronts.{front_again}
-use Rattle.paper.specs.Numbers.{most_serial}
+use Rattle.spans.specs.Few.{those, tidy}
+use Rattle.spans.specs.declared.Few.{Few}
+use Rattle.spans.proofs.Fews.{tidy_few}
 use Rattle.who.specs.Parts.{printed, serial_fits, identity_of, serial_of, identity_allowed}
 use Rattle.who.specs.declared.Identity.{Identity}
 use Rattle.who.specs.declared.Named.{Named}
 use Rattle.who.specs.Laws.{AllowedIsNamed}
 use Rattle.who.proofs.Identities.{fits_is, named_accepted, named_allowed}
 
-pub serial_within : (identity : Identity) → identity_allowed identity ≡ true → identity.len ≤ 32
-unfolding identity_allowed serial_of
-serial_within identity ok = leb-true identity.len 32 (and_left (leb identity.len 32) _ ok)
-
-module _ (identity : Identity) (long : length identity.serial ≡ 32) (ok : identity_allowed identity ≡ true) where
-  zeros_behind : every (eqb 0) (drop identity.len identity.serial) ≡ true
+module _ (identity : Identity) (ok : identity_allowed identity ≡ true) where
+  pub serial_tidy : tidy identity.serial ≡ true
   unfolding identity_allowed serial_of
-  zeros_behind = and_right (every printed (take identity.len identity.serial)) _ (and_right (leb identity.len 32) _ ok)
+  serial_tidy = and_left (tidy identity.serial) (every printed (those identity.serial)) ok
 
-  pub size : length (take identity.len identity.serial) ≡ identity.len
-  size = let less : identity.len ≤ 32 = serial_within identity ok in length-take identity.len identity.serial ∙ omega (arith, long)
+  pub serial_printed : every printed (serial_of identity) ≡ true
+  unfolding identity_allowed
+  serial_printed = and_right (tidy identity.serial) (every printed (serial_of identity)) ok
 
-  pub serial_alone : front_of most_serial (take identity.len identity.serial) ≡ identity.serial
-  serial_alone = front_again most_serial identity.len identity.serial long (serial_within identity ok) zeros_behind
+  pub serial_within : identity.serial.len ≤ 32
+  unfolding tidy
+  serial_within = leb-true identity.serial.len 32 (and_left (leb identity.serial.len 32) (every (eqb 0) (drop identity.serial.len identity.serial.bytes)) serial_tidy)
+
+module _ (identity : Identity) (long : length identity.serial.bytes ≡ 32) (ok : identity_allowed identity ≡ true) where
+  pub size : length (serial_of identity) ≡ identity.serial.len
+  unfolding serial_of
+  size = let less : identity.serial.len ≤ 32 = serial_within identity ok in length-take identity.serial.len identity.serial.bytes ∙ omega (arith, long)
 
   -- so the identity is that of its serial, which fits
   pub identity_back : identity_of identity.product identity.version (serial_of identity) ≡ identity
   unfolding identity_of serial_of
-  identity_back = λ i. record { product = identity.product; version = identity.version; len = size i; serial = serial_alone i }
+  identity_back = ap (λ (f : Few 32). record { product = identity.product; version = identity.version; serial = f }) (sym (tidy_few 32 identity.serial long (serial_tidy identity ok)))
 
   pub serial_fits_back : serial_fits (serial_of identity) ≡ true
-  unfolding serial_fits identity_allowed serial_of
+  unfolding serial_fits
   serial_fits_back =
-      let few : identity.len ≤ 32 = serial_within identity ok in
-      let short : length (take identity.len identity.serial) ≤ 32 = rw size few in
-      both _ _ (le-leb (length (take identity.len identity.serial)) 32 short)
-      (and_left (every printed (take identity.len identity.serial)) _ (and_right (leb identity.len 32) _ ok))
+      let few : identity.serial.len ≤ 32 = serial_within identity ok in
+      let short : length (serial_of identity) ≤ 32 = rw size few in
+      both _ _ (le-leb (length (serial_of identity)) 32 short) (serial_printed identity ok)
 
 pub allowed_named : AllowedIsNamed
 allowed_named identity long = (

@@ -12,8 +12,7 @@ use Rattle.who.specs.Values.{read_only, read_only_ids, among}
 use Rattle.who.specs.Calls.{naming, reading_out}
 use Rattle.who.specs.declared.Identity.{Identity}
 use Rattle.who.specs.declared.Readings.{Readings}
-use Rattle.who.specs.declared.Value.{Value}
-use Rattle.who.specs.Answers.{Looked}
+use Rattle.who.specs.Answers.{Value, Looked}
 use Rattle.paper.specs.declared.Refusal.{Refusal}
 
 -- 1. Every identity that is named is allowed, an accepted and a refused one; the serial of an accepted one is the one that was given.
@@ -47,7 +46,7 @@ pub record NamedHoldsIt : Type 0 where
 -- An identity is allowed exactly where it is one that is accepted with such a serial. (The array has 32 bytes in every value of the type.)
 abbrev pub AllowedIsNamed : Type 0
 AllowedIsNamed =
-    (identity : Identity) → length identity.serial ≡ 32
+    (identity : Identity) → length identity.serial.bytes ≡ 32
     → (identity_allowed identity ≡ true)
     ↔ ((serial : List ℕ) × (is_serial serial ≡ true) × ((naming identity.product identity.version serial).identity ≡ identity))
 
@@ -75,8 +74,8 @@ pub data Holds (identity : Identity) (readings : Readings) : ℕ → List ℕ �
   -- "0100: four bytes 00, product low, product high, FF"
   product : Holds identity readings 0x0100 (0x00 ∷ (identity.product % 256) ∷ (identity.product / 256 % 256) ∷ 0xFF ∷ [])
   -- "010A: serial, 0 to 32 bytes [..], one zero byte after it if under 32"
-  serial_under : identity.len < 32 → Holds identity readings 0x010A (serial_of identity ++ 0 ∷ [])
-  serial_full : identity.len ≡ 32 → Holds identity readings 0x010A (serial_of identity)
+  serial_under : identity.serial.len < 32 → Holds identity readings 0x010A (serial_of identity ++ 0 ∷ [])
+  serial_full : identity.serial.len ≡ 32 → Holds identity readings 0x010A (serial_of identity)
   -- "EEF9: version, 2 bytes"
   version : Holds identity readings 0xEEF9 (little 2 identity.version)
   -- "ED8D signed 16, 0.01 V; ED8F signed 16, 0.1 A; ED8C signed 32, 0.001 A; EEFF signed 32, 0.1 Ah; 0FFF unsigned 16, 0.01 %"; "Negative

@@ -14,7 +14,7 @@ product_value identity = 0 ∷ little 2 identity.product ++ 0xFF ∷ []
 
 -- "010A: serial, 0 to 32 bytes [..], one zero byte after it if under 32"
 unfoldable pub serial_value : Identity → List ℕ
-serial_value identity = serial_of identity ++ cond (ltb identity.len most_serial) (0 ∷ []) []
+serial_value identity = serial_of identity ++ cond (ltb identity.serial.len most_serial) (0 ∷ []) []
 
 -- "EEF9: version, 2 bytes. Readings: ED8D signed 16 [..]; ED8F signed 16 [..]; ED8C signed 32 [..]; EEFF signed 32 [..]; 0FFF unsigned 16":
 -- the value of a read-only id, and none for any other

@@ -6,20 +6,19 @@ ghost use Rattle.std.specs.Prelude.{◌≡◌};
 ghost use Rattle.who.specs.Parts.{identity_allowed, no_readings};
 ghost use Rattle.who.specs.Calls.{naming, reading_out};
 
-use paper::Refusal;
-use spans::Byte;
+use paper::{MOST_SERIAL, Refusal};
+use spans::Few;
 
 mod names;
 mod numbers;
 mod values;
 
-// Who a board is: product and version of two bytes, and a serial of 0 to 32 bytes; past its length the array is 0.
+// Who a board is: product and version of two bytes, and a serial of 0 to 32 bytes.
 #[derive(Clone, Copy, PartialEq, Eq)]
 pub struct Identity {
     pub product: u16,
     pub version: u16,
-    pub len: usize,
-    pub serial: [u8; paper::MOST_SERIAL],
+    pub serial: Few<MOST_SERIAL>,
 }
 
 // An identity, and whether the one that was asked for was accepted.
@@ -39,12 +38,8 @@ pub struct Readings {
     pub charge: u16,
 }
 
-// A read-only value of up to 32 bytes: they fill the front of the array, and the rest is 0.
-#[derive(Clone, Copy, PartialEq, Eq)]
-pub struct Value {
-    pub len: usize,
-    pub bytes: [u8; paper::MOST_SERIAL],
-}
+// A read-only value of up to 32 bytes.
+pub type Value = Few<MOST_SERIAL>;
 
 impl Identity {
     // Returns the identity of a product, a version and a serial: 12 for a serial over 32 bytes or with a byte outside 0x20..0x7E, and then
@@ -66,15 +61,12 @@ impl Identity {
         }
     }
 
-    // Returns whether the serial fits, with 0 past its length.
+    // Returns whether the serial fits, and is tidy.
+    #[tactic(auto, unfolding(crate::specs::Parts::identity_allowed, crate::specs::Parts::serial_of))]
     pub fn is_allowed(self) -> bool
         ensures { result ≡ identity_allowed self }
     {
-        if paper::MOST_SERIAL < self.len {
-            return false;
-        }
-        spans::all(&self.serial[..self.len], names::PRINTED)
-            & spans::all(&self.serial[self.len..], Byte(0))
+        self.serial.is_tidy() && spans::all(self.serial.as_slice(), names::PRINTED)
     }
 }
 

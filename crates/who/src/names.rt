@@ -1,4 +1,4 @@
-// The identity of a serial. The array is 0 past the serial's length, so that an identity has one form.
+// The identity of a serial. A serial is tidy, so that an identity has one form.
 ghost use Rattle.std.specs.Prelude.{◌≡◌, length, ◌≤◌};
 ghost use Rattle.paper.specs.Numbers.{most_serial};
 ghost use Rattle.who.specs.Parts.{serial_fits, identity_of};
@@ -25,11 +25,9 @@ pub(crate) fn identity_of(product: u16, version: u16, serial: &[u8]) -> Identity
     requires { length serial.now ≤ most_serial }
     ensures { result ≡ identity_of product version serial.now }
 {
-    let Few { len, bytes } = Few::of(serial);
     Identity {
         product,
         version,
-        len,
-        serial: bytes,
+        serial: Few::of(serial),
     }
 }

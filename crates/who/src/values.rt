@@ -1,41 +1,28 @@
 // The read-only values, as the bytes that a Get answers.
-ghost use Rattle.std.specs.Prelude.{◌≡◌, true, ◌≤◌, length};
+ghost use Rattle.std.specs.Prelude.{◌≡◌, true};
 ghost use Rattle.paper.specs.Numbers.{most_serial};
+ghost use Rattle.spans.specs.Few.{few};
 ghost use Rattle.who.specs.Parts.{identity_allowed};
 ghost use Rattle.who.specs.Values.{product_value, serial_value, read_only};
-ghost use Rattle.who.specs.Calls.{value_of, looked_of};
+ghost use Rattle.who.specs.Calls.{looked_of};
 
 use crate::{Identity, Readings, Value};
 use paper::Refusal;
-use spans::Few;
-
-// Returns the value that some bytes are.
-fn value_of(from: &[u8]) -> Value
-    requires { length from.now ≤ most_serial }
-    ensures { result ≡ value_of from.now }
-{
-    let Few { len, bytes } = Few::of(from);
-    Value { len, bytes }
-}
 
 // Returns the value of 0100: a zero byte, the product, FF.
 fn product_value(identity: Identity) -> Value
-    ensures { result ≡ value_of (product_value identity) }
+    ensures { result ≡ few most_serial (product_value identity) }
 {
     let [low, high] = endian::bytes_16(identity.product);
-    value_of(&[0, low, high, 0xFF])
+    Value::of(&[0, low, high, 0xFF])
 }
 
-// Returns the value of 010A: the serial, and a zero byte after it if it has under 32. Past its length the array is 0 already.
+// Returns the value of 010A: the serial, and a zero byte after it if there is room for one.
 fn serial_value(identity: Identity) -> Value
     requires { identity_allowed identity ≡ true }
-    ensures { result ≡ value_of (serial_value identity) }
+    ensures { result ≡ few most_serial (serial_value identity) }
 {
-    let bytes = identity.serial;
-    Value {
-        len: paper::MOST_SERIAL.min(identity.len + 1),
-        bytes,
-    }
+    identity.serial.put(&[0])
 }
 
 // Returns the value of a read-only id, and 7 for any other.
@@ -47,12 +34,14 @@ pub(crate) fn looked(identity: Identity, readings: Readings, id: u16) -> Result<
     Ok(match id {
         paper::PRODUCT_ID => product_value(identity),
         paper::SERIAL_ID => serial_value(identity),
-        paper::VERSION_ID => value_of(&endian::bytes_16(identity.version)),
-        paper::VOLTAGE_ID => value_of(&endian::bytes_16(endian::complement_16(readings.voltage))),
-        paper::CURRENT_ID => value_of(&endian::bytes_16(endian::complement_16(readings.current))),
-        paper::FINE_ID => value_of(&endian::bytes_32(endian::complement_32(readings.fine))),
-        paper::CONSUMED_ID => value_of(&endian::bytes_32(endian::complement_32(readings.consumed))),
-        paper::CHARGE_ID => value_of(&endian::bytes_16(readings.charge)),
+        paper::VERSION_ID => Value::of(&endian::bytes_16(identity.version)),
+        paper::VOLTAGE_ID => Value::of(&endian::bytes_16(endian::complement_16(readings.voltage))),
+        paper::CURRENT_ID => Value::of(&endian::bytes_16(endian::complement_16(readings.current))),
+        paper::FINE_ID => Value::of(&endian::bytes_32(endian::complement_32(readings.fine))),
+        paper::CONSUMED_ID => Value::of(&endian::bytes_32(endian::complement_32(
+            readings.consumed,
+        ))),
+        paper::CHARGE_ID => Value::of(&endian::bytes_16(readings.charge)),
         _ => return Err(Refusal::UnknownId),
     })
 }
