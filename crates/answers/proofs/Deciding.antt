@@ -20,9 +20,10 @@ use Rattle.paper.specs.Numbers.{get_code, set_code, most_serial, not_allowed}
 use Rattle.answers.specs.Answers.{core_allowed, with_table, silent, staying, good, malformed, unknown_id, not_supported, wrong_width, gets_other, gets_found, get_answer, sets_other, stored, sets_setting, sets_found, set_answer, frame_answer}
 use Rattle.who.specs.Parts.{identity_allowed}
 use Rattle.endian.specs.Numbers.{from_little}
-use Rattle.who.specs.Calls.{value_of, looked_of}
-use Rattle.who.specs.declared.Value.{Value}
-use Rattle.laws.proofs.Fronts.{front_taken}
+use Rattle.who.specs.Calls.{looked_of}
+use Rattle.who.specs.Answers.{Value}
+use Rattle.spans.specs.Few.{few, those}
+use Rattle.spans.proofs.Fews.{those_back}
 use Rattle.answers.specs.Calls.{answering}
 use Rattle.answers.specs.declared.Core.{Core}
 use Rattle.paper.specs.declared.Refusal.{Refusal}
@@ -35,12 +36,12 @@ module _ (core : Core) (id : ℕ) where
   gets_none none e = refl
   gets_none (some v) e = let z : ◌≡◌ {A = ℕ} 0 1 = cc in absurd (omega arith)
 
-  pub gets_some : (o : Option (List ℕ)) {value : Value} → looked_of o ≡ Ok value → good core get_code id (take value.len value.bytes) ≡ gets_other core id o
-  unfolding looked_of value_of
+  pub gets_some : (o : Option (List ℕ)) {value : Value} → looked_of o ≡ Ok value → good core get_code id (those value) ≡ gets_other core id o
+  unfolding looked_of
   gets_some none e = let z : ◌≡◌ {A = ℕ} 0 1 = cc in absurd (omega arith)
   gets_some (some v) {value} e =
-      let is : value ≡ value_of v = cc in
-      rw is (ap (good core get_code id) (front_taken most_serial v))
+      let is : value ≡ few most_serial v = cc in
+      rw is (ap (good core get_code id) (those_back most_serial v))
 
   pub sets_none : (o : Option (List ℕ)) {r : Refusal} → looked_of o ≡ Err r → unknown_id core set_code id ≡ sets_other core id o
   unfolding looked_of

@@ -1,14 +1,14 @@
 -- Replies and decisions as the program holds them: bytes at the front of an array, zeros after them. Assumes nothing.
-use Rattle.std.specs.Prelude.{ℕ, List, length}
+use Rattle.std.specs.Prelude.{ℕ, List}
 use Rattle.paper.specs.Numbers as paper
-use Rattle.laws.specs.Promise.{front_of}
+use Rattle.spans.specs.Few.{few}
 use Rattle.answers.specs.Answers.{Sent, silent, sent, error, Decision}
 use Rattle.answers.specs.declared.Message.{Message}
 use Rattle.answers.specs.declared.Sends.{Sends}
 use Rattle.answers.specs.declared.Decided.{Decided}
 
 unfoldable pub message_of : ℕ → List ℕ → Message
-message_of command bytes = record { command = command; len = length bytes; bytes = front_of paper.most_data bytes }
+message_of command bytes = record { command = command; bytes = few paper.most_data bytes }
 
 abbrev pub sends_of : Sent → Sends
 sends_of silent = Sends.Nothing

@@ -99,7 +99,7 @@ AllowedIsAnswered = (core : Core) (command : ℕ) (bytes : List ℕ) → (core_a
 -- 7. The public call's answer holds what is decided: the outcome, the core, and the reply as nothing, as the error frame, or as a command with
 -- its data at the front of an array of 35 bytes, the rest of which is 0.
 abbrev pub held : ℕ → List ℕ → Message
-held command bytes = record { command = command; len = length bytes; bytes = bytes ++ drop (length bytes) (replicate 35 0) }
+held command bytes = record { command = command; bytes = record { len = length bytes; bytes = bytes ++ drop (length bytes) (replicate 35 0) } }
 
 pub data HeldAs : Sent → Sends → Type 0 where
   nothing : HeldAs silent Sends.Nothing

@@ -36,12 +36,7 @@ impl Sound {
         match who::read_only(self.core.identity, self.core.readings, id) {
             Ok(value) => self.core.sends(
                 Outcome::Answered,
-                Message::saying(
-                    paper::GET_CODE,
-                    id,
-                    paper::GOOD_FLAG,
-                    &value.bytes[..value.len],
-                ),
+                Message::saying(paper::GET_CODE, id, paper::GOOD_FLAG, value.as_slice()),
             ),
             Err(_) => self.core.unknown_id(paper::GET_CODE, id),
         }

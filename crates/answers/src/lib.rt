@@ -8,7 +8,8 @@ ghost use Rattle.answers.specs.Answers.{core_allowed};
 ghost use Rattle.answers.specs.AsHeld.{decided_of};
 ghost use Rattle.answers.specs.Calls.{answering};
 
-use paper::Refusal;
+use paper::{MOST_DATA, Refusal};
+use spans::Few;
 use tables::Table;
 use who::{Identity, Readings};
 
@@ -36,12 +37,11 @@ pub enum Outcome {
     Refused(Refusal),
 }
 
-// A command, and its data at the front of the array, with zeros after them.
+// A command, and its data.
 #[derive(Clone, Copy, PartialEq, Eq)]
 pub struct Message {
     pub command: u8,
-    pub len: usize,
-    pub bytes: [u8; paper::MOST_DATA],
+    pub bytes: Few<MOST_DATA>,
 }
 
 // What is sent in reply: nothing, a message in a frame, or the error frame.

@@ -12,30 +12,22 @@ impl Message {
         requires { length from.now ≤ most_data }
         ensures { result ≡ message_of command from.now }
     {
-        let Few { len, bytes } = Few::of(from);
         Message {
             command,
-            len,
-            bytes,
+            bytes: Few::of(from),
         }
     }
 
     // Returns a message of an id, a flag and a value.
-    #[tactic(auto, unfolding(crate::specs::AsHeld::message_of))]
     pub(crate) fn saying(command: u8, id: u16, flag: u8, value: &[u8]) -> Message
         requires { length value.now ≤ most_serial }
         ensures { result ≡ message_of command (said id flag value.now) }
     {
         let [low, high] = endian::bytes_16(id);
-        let mut bytes = [0u8; paper::MOST_DATA];
-        bytes[0] = low;
-        bytes[1] = high;
-        bytes[2] = flag;
-        spans::copy(value, &mut bytes[paper::FRONT..]);
+        let front: Few<{ paper::MOST_DATA }> = Few::of(&[low, high, flag]);
         Message {
             command,
-            len: paper::FRONT + value.len(),
-            bytes,
+            bytes: front.put(value),
         }
     }
 }

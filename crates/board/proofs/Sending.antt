@@ -5,13 +5,14 @@ use Prim.Native.Nat.{ℕ, ◌≤◌}
 use lib.ListN.{length}
 use Rattle.std.proofs.Common.{Ok}
 use Rattle.laws.specs.Promise.{Given, Gives, overlaid}
-use Rattle.laws.proofs.Fronts.{front_taken}
 use Rattle.paper.specs.Numbers as paper
 use Rattle.wire.specs.Frame.{frame}
 use Rattle.wire.specs.Calls.{writing}
 use Rattle.wire.specs.Answers.{Written}
 use Rattle.wire.proofs.Answers.{writing_made}
 use Rattle.stream.specs.declared.Held.{Held}
+use Rattle.spans.specs.Few.{few}
+use Rattle.spans.proofs.Fews.{those_back}
 use Rattle.answers.specs.Answers.{Sent, silent, sent, error, Decision}
 use Rattle.answers.specs.AsHeld.{message_of, sends_of, decided_of}
 use Rattle.answers.specs.Laws.{Fits, nothing, a_frame, an_error}
@@ -22,12 +23,12 @@ use Rattle.board.specs.declared.Answered.{Answered}
 sent_is : (s : Sent) → sent_bytes (sends_of s) ≡ reply_bytes s
 unfolding message_of
 sent_is silent = refl
-sent_is (sent command bytes) = ap (frame command) (front_taken paper.most_data bytes)
+sent_is (sent command bytes) = ap (frame command) (those_back paper.most_data bytes)
 sent_is error = refl
 
 -- within what the writer takes
 pub sendable : (s : Sent) → Fits s → Sendable (sends_of s)
-unfolding message_of
+unfolding message_of few
 sendable silent nothing = tt
 sendable (sent command bytes) (a_frame w) = (w.nibble, w.few)
 sendable error an_error = tt

@@ -7,6 +7,7 @@ use Rattle.paper.specs.declared.Refusal.{Refusal}
 use Rattle.wire.specs.Frame.{frame}
 use Rattle.stream.specs.Answers.{Event}
 use Rattle.stream.specs.Calls as stream
+use Rattle.spans.specs.Few.{those}
 use Rattle.answers.specs.Answers.{Sent, silent, error, Decision, staying, frame_answer}
 use Rattle.answers.specs.declared.Core.{Core}
 use Rattle.answers.specs.declared.Outcome.{Outcome}
@@ -29,12 +30,12 @@ heeding core (Err refusal) bytes = staying core (Outcome.Refused refusal) (fault
 -- what is sent, which the frame writer takes
 abbrev pub sent_bytes : Sends → List ℕ
 sent_bytes Sends.Nothing = []
-sent_bytes (Sends.Frame message) = frame message.command (take message.len message.bytes)
+sent_bytes (Sends.Frame message) = frame message.command (those message.bytes)
 sent_bytes Sends.Error = error_frame
 
 abbrev pub Sendable : Sends → Type 0
 Sendable Sends.Nothing = Unit {0}
-Sendable (Sends.Frame message) = (message.command ≤ most_nibble) × (message.len ≤ most_data)
+Sendable (Sends.Frame message) = (message.command ≤ most_nibble) × (message.bytes.len ≤ most_data)
 Sendable Sends.Error = Unit {0}
 
 abbrev pub whole : List ℕ → Given ℕ

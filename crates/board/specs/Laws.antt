@@ -183,7 +183,7 @@ pub data Given-by : Board → Type 0 where
   a_call : {board : Board} (piece : List ℕ) (room : ℕ) → Given-by board → Given-by (answering board piece room).answer.board
 
 pub record Typed (board : Board) : Type 0 where
-  pub serial_long : length board.core.identity.serial ≡ most_serial
+  pub serial_long : length board.core.identity.serial.bytes ≡ most_serial
   pub numbers_long : length board.core.table.numbers ≡ count
   pub chars_long : length board.held.chars.bytes ≡ most_held
   pub voltage_fits : within (negsuc 0x7FFF) (pos 0x7FFF) board.core.readings.voltage ≡ true

@@ -59,7 +59,7 @@ fn put(sends: Sends, out: &mut [u8]) -> usize
     match sends {
         Sends::Nothing => 0,
         Sends::Frame(message) => {
-            wire::write_frame(message.command, &message.bytes[..message.len], out).unwrap()
+            wire::write_frame(message.command, message.bytes.as_slice(), out).unwrap()
         }
         Sends::Error => spans::copy(b":4AAAAFD\n", out),
     }

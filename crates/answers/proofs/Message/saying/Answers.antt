@@ -1,16 +1,17 @@
 -- `answers::Message::saying` meets its contract. Assumes nothing.
-use mathlib.Core.Path.{◌≡◌}
-use mathlib.Core.List.{append-nil}
-use Prim.Native.Nat.{suc, ◌+◌}
-use native.Mathlib.Omega.{arith}
-use lib.ListN.{length, replicate}
-use Rattle.laws.specs.Promise.{overlaid, front_of}
-use Rattle.laws.proofs.Promise.{copied}
+use Rattle.std.proofs.Common.{ap, ◌∙◌, ℕ, List, ◌++◌, take, arith}
+use lib.Seq.{take_all}
+use Rattle.spans.specs.Few.{few, those}
+use Rattle.spans.specs.declared.Few.{Few}
+use Rattle.spans.proofs.Fews.{those_back}
 use Rattle.answers.specs.AsHeld.{message_of}
 use Rattle.answers.proofs.Message.saying.Goals as goal
 
 pub returns : goal.returns
-unfolding message_of front_of overlaid
+unfolding message_of
 returns c =
-    let size : 3 + length c.args.value.now ≡ suc (suc (suc (length c.args.value.now))) = omega arith in
-    rw (c.bytes_16.ensures, copied c.args.value.now (replicate 32 0) c.requires c.copy.ensures.copied, append-nil, size)
+    let front = ap those (rw c.bytes_16.ensures at c.of-front.ensures) ∙ those_back 35 _ in
+    ap (λ (f : Few 35). record { command = c.args.command; bytes = f })
+    (c.put.ensures
+    ∙ ap (λ (l : List ℕ). few 35 (take 35 (l ++ c.args.value.now))) front
+    ∙ ap (few 35) (take_all 35 _ (omega (arith, c.requires))))
