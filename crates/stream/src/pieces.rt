@@ -32,7 +32,9 @@ fn broken(len: usize) -> Refusal
     }
 }
 
-// Ends the frame of some characters by a newline, and parses it, or by a colon, which breaks it and begins the next.
+// Ends the frame of some characters by a newline, and parses it, or by a colon, which breaks it and begins the next. Inlined, so that the
+// state and the answer are made where they are wanted: as a call it cost a tenth of the instructions.
+#[inline(always)]
 fn ended(chars: &[u8], by: u8, taken: usize, into: &mut [u8]) -> Heard
     requires { (ends_frame by ≡ true) × (35 ≤ length into.old) }
     ensures { Gives Heard (ended_as (inside chars.now) by taken) into.old result into.new }
