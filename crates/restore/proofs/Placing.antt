@@ -1,7 +1,7 @@
 -- The order of the Sets: where each setting has its turn, and what that says of any two. Assumes nothing.
 use mathlib.Core.Path.{◌≡◌, refl, sym, ap, ◌∙◌}
 use mathlib.Core.Logic.{◌≢◌, ◌⊎◌, inl, inr, ⊎_elim}
-use native.Mathlib.Nat.{eq-or-lt_of_le, lt_irrefl}
+use native.Mathlib.Nat.{lt_irrefl}
 use mathlib.Core.Bool.{Bool, true, false, cond, not, ◌&&◌}
 use mathlib.Core.List.{List, [], ◌∷◌}
 use Prim.Native.Nat.{ℕ, zero, suc, ◌+◌, ◌≤◌, ◌<◌}
@@ -37,9 +37,6 @@ not_flip false false e = sym e
 pinched : (p q a b x y : ℕ) → b < a → q ≤ suc b → a ≤ suc p → (x ≡ a) ⊎ (x ≡ p) → (y ≡ b) ⊎ (y ≡ q) → x < y → p ≡ b
 pinched p q a b x y more up down at at' less =
     ⊎_elim (λ e. ⊎_elim (λ f. absurd (omega arith)) (λ f. absurd (omega arith)) at') (λ e. ⊎_elim (λ f. absurd (omega arith)) (λ f. omega arith) at') at
-
-pub behind : (k n : ℕ) → k ≤ n → n ≢ k → suc k ≤ n
-behind k n least apart = ⊎_elim (λ is. absurd (apart (sym is))) (λ less. less) (eq-or-lt_of_le least)
 
 module _ (from to : Table) where
   -- of a pair, both change places or none does
@@ -170,7 +167,7 @@ module _ (from to : Table) where
           (λ d. rw (gone, sym (ap (differs from to) is), d))
       by false e later =
           let there : placed from to j ≢ k = eqb-false _ _ e in
-          let more : suc k ≤ placed from to j = behind k (placed from to j) least there in
+          let more : suc k ≤ placed from to j = omega arith in
           turn_cases left k h (λ l. times j l ≡ cond (differs from to j) 1 0)
           (λ d. rw (apart left k j h there) (later more)) (λ d. later more)
 

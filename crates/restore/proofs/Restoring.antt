@@ -2,12 +2,13 @@
 use mathlib.Core.Path.{◌≡◌, refl, sym, ap, ap₂, ◌∙◌}
 use mathlib.Core.Logic.{◌≢◌}
 use mathlib.Core.Bool.{Bool, true, false}
-use mathlib.Core.List.{List, [], ◌∷◌, map}
+use mathlib.Core.List.{List, map}
 use Prim.Native.Nat.{ℕ, zero, suc, ◌+◌, ◌≤◌, ◌<◌}
 use native.Mathlib.Omega.{arith}
 use borrow.Author.Tests.{ltb-true, ltb-false, eqb-true, eqb-false}
-use lib.ListN.{length, get_or}
+use lib.ListN.{length}
 use lib.Dec.{ltb, eqb}
+use Rattle.std.proofs.lemmas.Grind.{same_number_lists}
 use Rattle.laws.proofs.Bools.{and_right, both}
 use Rattle.settings.specs.Columns.{count, partner_at, role_at}
 use Rattle.settings.specs.Rules.{agrees, allowed_for}
@@ -26,23 +27,6 @@ use Rattle.restore.proofs.Placing.{not_flip, by_lower, by_higher, exchanged_same
 same_number : (from to : Table) (k : ℕ) → differs from to k ≡ false → number_at from k ≡ number_at to k
 unfolding differs
 same_number from to k e = eqb-true _ _ (not_flip _ false e)
-
--- lists of the same length with the same entries
-same_entries : (xs ys : List ℕ) → length xs ≡ length ys → ((j : ℕ) → j < length ys → get_or xs j 0 ≡ get_or ys j 0) → xs ≡ ys
-same_entries [] [] e h = refl
-same_entries [] (y ∷ ys) e h = absurd (omega arith)
-same_entries (x ∷ xs) [] e h = absurd (omega arith)
-same_entries (x ∷ xs) (y ∷ ys) e h =
-    let first : x ≡ y = h 0 (omega arith) in
-    let later : xs ≡ ys = same_entries xs ys (omega arith) (λ j less. h (suc j) (omega arith)) in
-    rw (first, later)
-
-ahead : (k n : ℕ) → n < suc k → n ≢ k → n < k
-ahead k n less apart = by (ltb n k) refl
-  where
-    by : (b : Bool) → ltb n k ≡ b → n < k
-    by true e = ltb-true _ _ e
-    by false e = let most : k ≤ n = ltb-false _ _ e in let is : n ≡ k = omega arith in absurd (apart is)
 
 module _ (from to : Table) (two : Tables from to) where
   -- The table on the way, when the places below k have had their turn.
@@ -160,7 +144,7 @@ module _ (from to : Table) (two : Tables from to) where
         by j less turn false e =
             let other : j ≢ x = eqb-false j x e in
             let there : placed from to j ≢ k = λ at. other (sym (placed_back from to j less) ∙ ap (placed from to) at) in
-            set_changes_one t x (number_at to x) j other ∙ w.reached j less (ahead k (placed from to j) turn there)
+            set_changes_one t x (number_at to x) j other ∙ w.reached j less (omega arith)
 
   -- all the turns from a place on
   record Ends (t : Table) (sets : List ℕ) (k : ℕ) : Type 0 where
@@ -192,8 +176,8 @@ module _ (from to : Table) (two : Tables from to) where
       whole : {t : Table} → Way t count → t ≡ to
       whole {t} w =
           let long : length t.numbers ≡ length to.numbers = w.long ∙ sym two.to_long in
-          let same : t.numbers ≡ to.numbers = same_entries t.numbers to.numbers long
-          (λ j less. let below : j < count = rw two.to_long at less in w.reached j below (placed_below from to j below)) in
+          let same : t.numbers ≡ to.numbers = same_number_lists t.numbers to.numbers long
+          (λ j less. let below : j < count = rw w.long at less in w.reached j below (placed_below from to j below)) in
           ap (λ (l : List ℕ). record { numbers = l }) same
 
 pub list_restores : ListRestores
