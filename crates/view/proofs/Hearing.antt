@@ -34,6 +34,9 @@ module _ (id : ℕ) (value : List ℕ) where
     pub is_good : h ≡ Some Status.Good
     pub has_value : is_understood id value ≡ true
 
+  strange : (h : Heeded) (due : ℕ) → Sight.Strange id ≡ Sight.Understood due → Good h due
+  strange h due e = cc
+
   good : (h : Heeded) (due : ℕ) → on_heeded id value h ≡ Sight.Understood due → Good h due
   good None due e = cc
   good (Some Status.Good) due e = by (is_understood id value) refl e
@@ -41,9 +44,9 @@ module _ (id : ℕ) (value : List ℕ) where
       by : (u : Bool) → is_understood id value ≡ u → cond u (Sight.Understood id) (Sight.Strange id) ≡ Sight.Understood due → Good (Some Status.Good) due
       by true is e = record { same_id = cc; is_good = refl; has_value = is }
       by false is e = cc
-  good (Some Status.UnknownId) due e = cc
-  good (Some Status.NotSupported) due e = cc
-  good (Some Status.ParameterError) due e = cc
+  good (Some Status.UnknownId) due e = strange (Some Status.UnknownId) due e
+  good (Some Status.NotSupported) due e = strange (Some Status.NotSupported) due e
+  good (Some Status.ParameterError) due e = strange (Some Status.ParameterError) due e
 
 -- another flag is not 00
 only_good : (status : Status) → flag_of status ≡ 0 → status ≡ Status.Good
