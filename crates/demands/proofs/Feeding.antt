@@ -8,6 +8,8 @@ use borrow.Author.Tests.{leb-true}
 use lib.ListN.{length, take, drop, length-append, length-map}
 use lib.Seq.{take-length, take-append_seam, drop-append_seam, take-append-add}
 use lib.Dec.{leb, ltb, eqb}
+use Rattle.std.proofs.Common.{Ok}
+use Rattle.paper.specs.Numbers as paper
 use Rattle.laws.specs.Cutting as Cutting
 use Rattle.laws.specs.Cutting.{Step, Offer}
 use Rattle.laws.proofs.Bools.{and_left, and_right}
@@ -39,7 +41,6 @@ use Rattle.reply.specs.Events.{Event, refused_frame}
 use Rattle.restore.specs.Order.{order, wanted, due_sets}
 use Rattle.restore.specs.Calls.{both_allowed, frames_for, listed_as, listing}
 use Rattle.restore.specs.Laws.{Tables}
-use Rattle.restore.specs.Answers.{Listed}
 use Rattle.requests.specs.declared.Wanted.{Wanted}
 use Rattle.restore.proofs.Theorems.{list_restores_it, sets_are_differing}
 use Rattle.follow.specs.Following.{standing, begun, advanced}
@@ -158,7 +159,7 @@ broken_waits : (n : ℕ) → event_for (broken_says n) ≡ refused_frame
 unfolding broken_says
 broken_waits n = by (ltb most_chars n)
   where
-    by : (t : Bool) → event_for (cond t (refused 1) (refused 2)) ≡ refused_frame
+    by : (t : Bool) → event_for (cond t (refused paper.too_long) (refused paper.no_digit)) ≡ refused_frame
     by true = refl
     by false = refl
 

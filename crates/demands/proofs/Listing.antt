@@ -7,6 +7,7 @@ use native.Mathlib.Omega.{arith}
 use borrow.Author.Tests.{leb-true, ltb-true}
 use lib.ListN.{length, take, drop}
 use lib.Dec.{ltb, eqb}
+use Rattle.std.proofs.Common.{Ok}
 use Rattle.laws.specs.Lists.{every}
 use Rattle.laws.proofs.Bools.{and_left, and_right, both}
 use Rattle.endian.specs.Numbers.{little}
@@ -34,7 +35,6 @@ use Rattle.board.specs.Calls.{reply_bytes, deciding}
 use Rattle.restore.specs.Order.{wanted, order, due_sets}
 use Rattle.restore.specs.Calls.{both_allowed, frames_for, list_room, listed_as, listing, due_after, due_in}
 use Rattle.restore.specs.Laws.{Tables, is_accepted, accepted, left}
-use Rattle.restore.specs.Answers.{Listed}
 use Rattle.requests.specs.declared.Wanted.{Wanted}
 use Rattle.restore.proofs.Rows.{list_made}
 use Rattle.restore.proofs.Theorems as restore

@@ -8,6 +8,7 @@ use borrow.Author.Tests.{ltb-true, ltb-false}
 use lib.ListN.{length, take, get_or}
 use lib.Seq.{take_all}
 use lib.Dec.{eqb, leb, ltb}
+use Rattle.std.proofs.Common.{Some, None}
 use Rattle.endian.specs.Numbers.{from_little}
 use Rattle.wire.specs.Parsing.{Ended, good, refused}
 use Rattle.stream.specs.Stream.{Unfinished, frames_from, first_end, taken}
@@ -18,7 +19,6 @@ use Rattle.tables.specs.Rules.{allowed, partner_number, changed}
 use Rattle.settings.specs.Calls.{setting_at, placing, finding}
 use Rattle.tables.specs.Calls.{set_to}
 use Rattle.tables.specs.declared.Table.{Table}
-use Rattle.settings.specs.Answers.{Found}
 use Rattle.tables.proofs.Tables.{set_accepted, set_refused}
 use Rattle.answers.specs.Answers as answers
 use Rattle.answers.proofs.Theorems.{answer_makes_it}

@@ -16,12 +16,13 @@ use Rattle.wire.specs.Digits.{digit, nibble}
 use Rattle.wire.specs.Frame.{check, body, frame}
 use Rattle.endian.specs.Numbers.{little, said}
 use Rattle.wire.specs.Parsing.{Ended, good, refused, body_says, broken_says}
-use Rattle.spans.specs.Few.{few}
+use Rattle.spans.specs.Few.{few, tidy}
 use Rattle.stream.specs.Stream.{inside, taken, frames_of}
 use Rattle.stream.specs.Calls.{held_of, unfinished}
 use Rattle.stream.specs.declared.Held.{Held}
 use Rattle.stream.specs.Calls as stream
 use Rattle.settings.specs.Columns.{count, id_at, width_at, partner_at, place_of}
+use Rattle.paper.specs.declared.Refusal.{Refusal}
 use Rattle.tables.specs.Rules.{factory, allowed, number_at, partner_number, changed}
 use Rattle.settings.specs.Rules.{in_range, low_agrees, high_agrees, agrees, allowed_for, all_allowed}
 use Rattle.settings.specs.Calls.{placing, finding}
@@ -145,7 +146,7 @@ module _ (answer : Board → List ℕ → ℕ → Given Answered) where
   allowed_600 = refl
 
   -- an outcome that is a refusal is not the good one
-  refused_not : (given : Given Answered) (n : ℕ) (e : given.answer.outcome ≡ Outcome.Refused n) → given.answer.outcome ≡ Outcome.Answered → ⊥
+  refused_not : (given : Given Answered) (n : Refusal) (e : given.answer.outcome ≡ Outcome.Refused n) → given.answer.outcome ≡ Outcome.Answered → ⊥
   refused_not given n e well = false≢true (ap is_answered (sym e ∙ well))
 
   refuses_all : RefusesAll answer → (GetsHeld answer → ⊥) × (SetsStored answer → ⊥)
@@ -250,9 +251,9 @@ abbrev two_calls : List Deed
 two_calls = calls 15 75 ∷ calls 15 75 ∷ []
 
 first_set_alone_lem : Decides first_set_alone → ⊥
-unfolding overlaid digit nibble check body frame body_says taken few front_of held_of unfinished stream.allowed
+unfolding overlaid digit nibble check body frame body_says taken few tidy front_of held_of unfinished stream.allowed
     in_range low_agrees high_agrees agrees allowed_for all_allowed allowed placing partner_at place_of finding set_to
-    serial_fits front_of identity_of serial_of identity_allowed sets_setting set_answer frame_answer
+    serial_fits identity_of serial_of identity_allowed sets_setting set_answer frame_answer
     core_allowed board_allowed fresh_board starting deciding decided_by heard_by answering is_complete is_valid makes made
 first_set_alone_lem h =
     let e : ◌≡◌ {A = Bool} false true = ap (λ (t : Table). eqb (number_at t capacity) 600) (h 0 0 [] factory refl refl refl two_sets two_calls).table_is in
@@ -270,7 +271,7 @@ takes_unseen answer counted u h =
     (sym (u (started_with factory) noise 75) ∙ h (started_with factory) noise 75 (is_allowed factory factory_is_allowed) (leb-true 75 75 refl))
 
 reads_unseen : (read : Listener → List ℕ → ℕ → ℕ → Given Listened) (counted : Listener → ℕ → ℕ → ℕ → ℕ) → ReadsUnseen read counted → ReadsToTheEnd read → ⊥
-unfolding partner_at place_of stream.allowed held_of few front_of unfinished taken is_over frame body check digit
+unfolding partner_at place_of stream.allowed held_of few tidy front_of overlaid unfinished taken is_over frame body check digit
 reads_unseen read counted u h =
     not_both (counted (listen.starting 0) 30 0 35)
     (sym (u (listen.starting 0) two_sets 0 35) ∙ h (listen.starting 0) two_sets 0 35 (leb-true 35 35 refl) refl refl)
@@ -293,7 +294,7 @@ second_good (f ∷ good command bytes ∷ more) = true
 second_good (f ∷ refused number ∷ more) = false
 
 digits_left : HearsWritten leaves_digits → ⊥
-unfolding overlaid digit nibble check body frame body_says broken_says taken few front_of held_of unfinished stream.allowed stream.hearing box_hearing
+unfolding overlaid digit nibble check body frame body_says broken_says taken few tidy front_of held_of unfinished stream.allowed stream.hearing box_hearing
 digits_left h =
     let e =
     h 1 [] (leb-true 1 15 refl) (leb-true 0 35 refl) (record { below = refl }) (held_of (inside (0x37 ∷ []))) refl refl []
@@ -307,9 +308,9 @@ pub record Idle (first : Table) (end : Talk) : Type 0 where
   pub no_frames : end.frames ≡ []
   pub table_same : end.board.core.table ≡ first
 
-module _ (number : ℕ) where
+module _ (why : Refusal) where
   abbrev refusing : Way Board
-  refusing = plainly (λ board piece room. unanswered board number)
+  refusing = plainly (λ board piece room. unanswered board why)
 
   idles : (deeds : List Deed) (board : Board) (bytes : List ℕ) → Idle board.core.table (talk_by refusing board bytes deeds)
   idles [] board bytes = record { none_taken = refl; no_frames = refl; table_same = refl }
@@ -325,11 +326,11 @@ unfolding made
 none_made t = refl
 
 pub refusing_decides : RefusingDecides
-refusing_decides number product version serial table fits long ok bytes deeds =
+refusing_decides why product version serial table fits long ok bytes deeds =
     let first : Board = (starting product version serial table).board in
     let began = start_holds_it product version serial table fits ok in
-    let end : Talk = talk_by (refusing number) first bytes deeds in
-    let idle = idles number deeds first bytes in
+    let end : Talk = talk_by (refusing why) first bytes deeds in
+    let idle = idles why deeds first bytes in
     let same-table : end.board.core.table ≡ table = idle.table_same ∙ began.table_is in
     record {
       within = omega (arith, idle.none_taken);

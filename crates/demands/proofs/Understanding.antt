@@ -14,7 +14,7 @@ use Rattle.laws.proofs.Bools.{both}
 use Rattle.laws.proofs.Lists.{up_to_at}
 use Rattle.paper.specs.Numbers.{most_nibble, most_data}
 use Rattle.wire.specs.Frame.{frame}
-use Rattle.wire.specs.declared.Written.{Written}
+use Rattle.wire.specs.Answers.{Written}
 use Rattle.stream.specs.Stream.{Unfinished, frames_from}
 use Rattle.stream.specs.Calls.{unfinished}
 use Rattle.endian.proofs.Theorems.{little_is_read}

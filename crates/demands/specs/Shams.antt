@@ -152,7 +152,7 @@ pub record ShamsFall : Type 0 where
 
 -- A board that refuses every call by some number and takes nothing decides, as was said beside `Decides`; it is a RefusesAll.
 abbrev pub RefusingDecides : Type 0
-RefusingDecides = (number : ℕ) → Decides (plainly (λ board piece room. unanswered board number))
+RefusingDecides = (why : Refusal) → Decides (plainly (λ board piece room. unanswered board why))
 
 -- The board, the box's stream and the follower pass.
 pub record RealPass : Type 0 where
