@@ -8,18 +8,17 @@
 #![tactic(auto)]
 
 mod all_rows;
-mod args;
 mod boards;
-mod bytes_of;
+mod bytes;
 mod calls;
 mod collects;
-mod filled;
+mod events;
 mod follows;
 mod frames;
-mod kinds;
 mod listens;
 mod numbers;
-mod parts;
+mod pieces;
+mod puts;
 mod replies;
 mod restores;
 mod say;
@@ -39,7 +38,7 @@ fn main(rt: HostRuntime) -> io::Result<()> {
     let len = rt.reader().take(MOST_INPUT as u64).read_to_end(&mut input)?;
     all_rows::run(&rt, &input)?;
     if len == MOST_INPUT {
-        words::say(&rt, words::CUT_OFF)?;
+        rt.println("the input fills the buffer: what comes after this is not read")?;
     }
     Ok(())
 }

@@ -1,44 +1,41 @@
-use crate::bytes_of::SPACE;
-use crate::parts::least;
-use crate::{args, filled, say, words};
+use crate::bytes::{SPACE, lent};
+use crate::puts::{self, Put};
+use crate::say;
+use crate::words::{Answer, Words};
 use requests::Wanted;
-use restore::{Due, Listed};
+use restore::Size;
 use std::io;
 
 // Answers `list ROOM SETTING ..`: how many Sets, and their frames.
-pub fn list(rt: &impl Print, row: &[u8]) -> io::Result<()> {
+pub fn list(rt: &impl Print, mut words: Words) -> Answer {
+    let room = words.number()?;
+    let (from, to) = puts::tables_of(words.rest(Put::is)?);
     let mut space = [0u8; SPACE];
-    let room = least(args::number(row, 1), SPACE);
-    let from = filled::table_of(row, false);
-    let to = filled::table_of(row, true);
-    let listed = restore::list(from, to, &mut space[0..room]);
-    match listed {
-        Listed::List { len, sets } => shown(rt, sets, len, space),
-        Listed::Refused(number) => say::refused(rt, number),
-    }
+    let listed = restore::list(from, to, lent(&mut space, room));
+    Some(match listed {
+        Ok(list) => shown(rt, list, &space),
+        Err(refusal) => say::refused(rt, refusal),
+    })
 }
 
 // Writes how many Sets there are, and their frames at the front of what was lent.
-fn shown(rt: &impl Print, sets: usize, len: usize, space: [u8; SPACE]) -> io::Result<()> {
-    say::number(rt, sets)?;
-    say::frames(rt, &space[0..least(len, SPACE)])
+fn shown(rt: &impl Print, list: Size, lent: &[u8]) -> io::Result<()> {
+    print!(rt; " {}", list.sets)?;
+    say::frames(rt, say::front(lent, list.len))
 }
 
 // Answers `due DONE SETTING ..`: the Set that is due after DONE of them.
-pub fn due(rt: &impl Print, row: &[u8]) -> io::Result<()> {
-    let from = filled::table_of(row, false);
-    let to = filled::table_of(row, true);
-    let due = restore::due_after(from, to, args::number(row, 1));
-    match due {
-        Due::Set(it) => wanted(rt, it),
-        Due::Nothing => words::say(rt, words::NOTHING),
-        Due::Refused(number) => say::refused(rt, number),
-    }
+pub fn due(rt: &impl Print, mut words: Words) -> Answer {
+    let done = words.number()?;
+    let (from, to) = puts::tables_of(words.rest(Put::is)?);
+    Some(match restore::due_after(from, to, done) {
+        Ok(Some(due)) => wanted(rt, due),
+        Ok(None) => rt.print(" nothing"),
+        Err(refusal) => say::refused(rt, refusal),
+    })
 }
 
 // Writes a setting's id, and the number that is wanted for it.
 pub fn wanted(rt: &impl Print, it: Wanted) -> io::Result<()> {
-    let setting = it.setting;
-    say::id(rt, setting.id)?;
-    say::number(rt, it.number as usize)
+    print!(rt; " {:04X} {}", it.setting.id, it.number)
 }

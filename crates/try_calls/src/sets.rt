@@ -1,36 +1,37 @@
-use crate::{args, filled, numbers, say, words};
-use settings::Number;
+use crate::puts::{self, Put};
+use crate::words::{Answer, Words};
+use crate::{numbers, say};
 use std::io;
-use tables::Answer;
+use tables::{Change, Denied};
 
 // Answers `nearest ID WISHED PARTNER`: the nearest allowed number.
-pub fn nearest(rt: &impl Print, row: &[u8]) -> io::Result<()> {
-    let wished = numbers::as_16(args::number(row, 2));
-    let partner = numbers::as_16(args::number(row, 3));
-    let answer = settings::nearest(args::id(row, 1), wished, partner);
-    match answer {
-        Number::Is(n) => say::number(rt, n as usize),
-        Number::Refused(number) => say::refused(rt, number),
-    }
+pub fn nearest(rt: &impl Print, mut words: Words) -> Answer {
+    let id = words.id()?;
+    let wished = numbers::as_16(words.number()?);
+    let partner = numbers::as_16(words.number()?);
+    words.end()?;
+    Some(match settings::nearest(id, wished, partner) {
+        Ok(number) => print!(rt; " {number}"),
+        Err(refusal) => say::refused(rt, refusal),
+    })
 }
 
 // Answers `change PLACE NUMBER SETTING ..`: a Set of a table, and what is not the factory's in the table after it.
-pub fn change(rt: &impl Print, row: &[u8]) -> io::Result<()> {
-    let table = filled::table_of(row, false);
-    let wished = numbers::as_16(args::number(row, 2));
-    let change = table.set(args::number(row, 1), wished);
-    let answer = change.answer;
-    changed(rt, answer)?;
-    filled::differences(rt, change.table)
+pub fn change(rt: &impl Print, mut words: Words) -> Answer {
+    let place = words.number()?;
+    let number = numbers::as_16(words.number()?);
+    let table = puts::table_of(words.rest(Put::is)?);
+    Some(changed(rt, table.set(place, number)))
 }
 
-// Writes the answer to a Set.
-fn changed(rt: &impl Print, answer: Answer) -> io::Result<()> {
-    match answer {
-        Answer::Accepted => words::say(rt, words::ACCEPTED),
-        Answer::Refused { number, nearest } => {
-            say::refused(rt, number)?;
-            say::numbered(rt, words::NEAREST, nearest as usize)
+// Writes what a Set returns.
+fn changed(rt: &impl Print, change: Change) -> io::Result<()> {
+    match change.answer {
+        Ok(()) => rt.print(" accepted")?,
+        Err(Denied { refusal, nearest }) => {
+            say::refused(rt, refusal)?;
+            print!(rt; " nearest {nearest}")?;
         }
     }
+    puts::differences(rt, change.table)
 }

@@ -1,6 +1,0 @@
--- Measure: the bytes left.
-use Rattle.std.proofs.Common.{length, ◌-◌}
-use Rattle.try_calls.proofs.say.each.Given as goal
-
-abbrev pub decreases-loop-i : goal.decreases-loop-i
-decreases-loop-i g l = length l.all - l.i

@@ -1,6 +1,0 @@
--- Measure: the words left.
-use Rattle.std.proofs.Common.{◌-◌}
-use Rattle.try_calls.proofs.texts.parse.Given as goal
-
-abbrev pub decreases-loop-k : goal.decreases-loop-k
-decreases-loop-k g l = l.words - l.k
