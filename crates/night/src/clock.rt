@@ -33,7 +33,7 @@ pub(crate) fn time(system: System) -> u64 {
     }
 }
 
-// Returns the time that the clock gives.
+// Returns the time that the clock gives. A read that fails is told as one that gives nothing.
 fn read(system: System) -> io::Result<u64> {
     let clock = Port::Device(ports::open_read(system, b"/proc/uptime")?);
     let mut text = [0; ROOM];

@@ -33,7 +33,7 @@ const BLANKS: [u8; WIDE] = [b' '; WIDE];
 // 0 degrees Celsius in steps of 0.01 K.
 const FREEZING: usize = 27315;
 
-// A setting as it is shown: name, unit and decimals, and `off` where 0 turns it off.
+// A setting as it is shown, in a line of its own: name, unit and decimals, and `off` where 0 turns it off. (A constant calls no function.)
 macro_rules! shown {
     ($name:literal, $unit:ident, $decimals:literal) => {
         Shown { name: $name, unit: Unit::$unit, decimals: $decimals, off: false }

@@ -16,7 +16,7 @@ const MOST_NAME: usize = 32;
 
 const NAME_END: usize = 15;
 
-// Reasons of the system, and the largest number that one is told by.
+// Reasons of the system, by its numbers, since one `ErrorKind` stands for several; and the largest number that one is told by.
 const NOTHING_THERE: i32 = 2;
 
 const IO: i32 = 5;
@@ -109,7 +109,7 @@ pub(crate) fn put_reason(line: Line, error: i32) -> Line {
     }
 }
 
-// Returns whether a character separates words.
+// Returns whether a character separates words. The form feed, which `trim_ascii` takes too, does not.
 pub(crate) fn is_blank(c: u8) -> bool {
     matches!(c, b' ' | b'\t' | b'\r' | b'\n')
 }
