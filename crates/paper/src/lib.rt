@@ -29,7 +29,8 @@ pub enum Refusal {
 }
 
 impl Refusal {
-    // Returns document 01's number of the refusal.
+    // Returns document 01's number of the refusal. A method and no From: its clause names `number_of`, the definition that document 01
+    // wants of an answer that is an enum.
     pub fn number(self) -> u8
         ensures { result ≡ number_of self }
     {
@@ -52,7 +53,8 @@ pub const MOST_CHARS: usize = 73;
 
 pub const FRAME_ROOM: usize = 75;
 
-// The commands that a board knows.
+// The commands that a board knows. Codes and flags are numbers, and no enum: a frame has any byte there, and the definitions of
+// specs/Numbers.antt are numbers.
 pub const PING_CODE: u8 = 1;
 
 pub const VERSION_CODE: u8 = 3;
@@ -76,7 +78,7 @@ pub const ERROR_CODE: u8 = 4;
 
 pub const PONG_CODE: u8 = 5;
 
-// Flags: a request has none, a reply one of four.
+// Flags: a request has none, a reply one of four. What a reading makes of one is the enum `Status` of reply.
 pub const NO_FLAGS: u8 = 0;
 
 pub const GOOD_FLAG: u8 = 0;

@@ -63,7 +63,8 @@ pub fn all<K: Kind>(bytes: &[u8], kind: K) -> bool
     all
 }
 
-// Returns the place of the first byte of a kind, or how many bytes there are where it is none of them.
+// Returns the place of the first byte of a kind, or how many bytes there are where it is none of them. As `position(..).unwrap_or(..)` its
+// proof did not close.
 pub fn first<K: Kind>(bytes: &[u8], kind: K) -> usize
     ensures within { result ≤ length bytes.now }
     ensures first { result ≡ before (K.holds kind) bytes.now }
@@ -76,7 +77,8 @@ pub fn first<K: Kind>(bytes: &[u8], kind: K) -> usize
     bytes.len()
 }
 
-// Returns the place of the first byte of a value, or how many bytes there are where it is none of them.
+// Returns the place of the first byte of a value, or how many bytes there are where it is none of them. It stays beside `first`, with the
+// statement find_same of its own: its clause names the byte, and no kind.
 pub fn find(bytes: &[u8], wanted: u8) -> usize
     ensures within { result ≤ length bytes.now }
     ensures first { result ≡ before (λ b. b == wanted) bytes.now }
@@ -85,7 +87,8 @@ pub fn find(bytes: &[u8], wanted: u8) -> usize
 }
 
 // At most N bytes: they fill the front of the array, and the rest of it is 0. A caller can make up one that is not so, and every call takes
-// it: `is_tidy` tells.
+// it: `is_tidy` tells. The ArrayVec of the kit is no Copy and holds no untidy value, while the laws AllowedIsNamed (who) and AllowedIsLeft
+// (stream) speak of such.
 #[derive(Clone, Copy, PartialEq, Eq)]
 pub struct Few<const N: usize> {
     pub len: usize,

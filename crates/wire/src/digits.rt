@@ -1,4 +1,4 @@
-// Hex digits of frames and rows, made and read here alone. Document 01, Frames: "`0`-`9`, `A`-`F` only."
+// Hex digits of frames and rows, made here and read one by one. Document 01, Frames: "`0`-`9`, `A`-`F` only."
 ghost use Rattle.std.specs.Prelude.{◌+◌, ◌*◌, ◌<◌, ◌≡◌};
 ghost use Rattle.wire.specs.Digits.{digit, nibble, is_digit};
 
@@ -38,7 +38,7 @@ pub(crate) fn nibble_of(c: u8) -> u8
     c % 16 + 9 * (c / 64)
 }
 
-// Returns the byte of two digits.
+// Returns the byte of two digits. They have been tested, many at a time; the one of rows tests its two, and is none where one is no digit.
 pub(crate) fn byte_of(high: u8, low: u8) -> u8
     requires { (nibble high < 16) × (nibble low < 16) }
     ensures { result ≡ nibble high * 16 + nibble low }

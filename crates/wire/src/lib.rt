@@ -24,7 +24,8 @@ pub struct Pair {
     pub low: u8,
 }
 
-// What a whole frame says beside its data: its command, and how many data bytes it has.
+// What a whole frame says beside its data: its command, and how many data bytes it has. Document 01: the data fill the front of the lent
+// buffer, so only their number is said here.
 #[derive(Clone, Copy, PartialEq, Eq)]
 pub struct Frame {
     pub command: u8,
@@ -41,7 +42,8 @@ pub fn pair_of(byte: u8) -> Pair
     }
 }
 
-// Returns the nibble of a digit, and none for any other character.
+// Returns the nibble of a digit, and none for any other character. No `then_some`: it would ask for the nibble before the test, and
+// `digits::nibble_of` requires a digit.
 pub fn nibble_of(c: u8) -> Option<u8>
     ensures { result ≡ nibble_of c }
 {

@@ -20,7 +20,9 @@ pub(crate) fn bad_count(n: usize) -> bool
     n < 3 || n % 2 == 0
 }
 
-// Returns the bytes after the command, the check byte last, at the front of an array that has room for them all.
+// Returns the bytes after the command, the check byte last, at the front of an array that has room for them all. They are half as many as
+// the characters, which the caller counts; a `Few` would hold the count a second time. Chunks of two would name the two places all the
+// same.
 fn payload_of(chars: &[u8]) -> [u8; MOST_PAYLOAD]
     requires { (length chars.now ≤ 73) × (every is_digit chars.now ≡ true) × (bad_count (length chars.now) ≡ false) }
     ensures { (length result ≡ 36) × (take (length (payload_of chars.now)) result ≡ payload_of chars.now) }
@@ -32,7 +34,8 @@ fn payload_of(chars: &[u8]) -> [u8; MOST_PAYLOAD]
     payload
 }
 
-// Reads an odd number of digits, and puts their data at the front of `into`. Refuses 4 where the sum is wrong; then nothing is written.
+// Reads an odd number of digits, and puts their data at the front of `into`. Refuses 4 where the sum is wrong; then nothing is written. The
+// room is said here and `into` is no array, since the clause tells what becomes of all of the lent buffer.
 pub(crate) fn read_digits(chars: &[u8], into: &mut [u8]) -> Result<Frame, Refusal>
     requires { (length chars.now ≤ 73) × (every is_digit chars.now ≡ true) × (bad_count (length chars.now) ≡ false) × (35 ≤ length into.old) }
     ensures { Gives Read (read_as (body_says chars.now)) into.old result into.new }

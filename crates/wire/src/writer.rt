@@ -6,7 +6,7 @@ ghost use Rattle.wire.specs.Frame.{frame, check, digits_of};
 
 use crate::{Pair, digits, pair_of};
 
-// Returns the sum of some bytes, modulo 256.
+// Returns the sum of some bytes, modulo 256. A fold would have the same start and the same `wrapping_add`, with a closure around it.
 pub(crate) fn sum_of(bytes: &[u8]) -> u8
     ensures { result ≡ sum_of bytes.now % 256 }
 {
@@ -37,7 +37,7 @@ fn put_byte(out: &mut [u8], at: usize, byte: u8)
     out[at + 1] = low;
 }
 
-// Puts the digits of some bytes from a place on.
+// Puts the digits of some bytes from a place on. They go by place, as the check byte does, for which there is the same `put_byte`.
 fn put_bytes(out: &mut [u8], at: usize, bytes: &[u8])
     requires { at + 2 * length bytes.now ≤ length out.old }
     ensures { out.new ≡ sets out.old at (digits_of bytes.now) }
