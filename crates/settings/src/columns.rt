@@ -268,7 +268,8 @@ pub(crate) struct Place {
 }
 
 impl Place {
-    // Returns a place, unless it is past the table.
+    // Returns a place, unless it is past the table. No `then_some`: it would make the place before the test, and one past the table cannot
+    // be made (`inside`).
     pub(crate) fn new(index: usize) -> Option<Place>
         ensures { MatchOption result (count ≤ index) (λ p. p.index ≡ index) }
     {

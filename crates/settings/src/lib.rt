@@ -41,7 +41,7 @@ pub fn at(index: usize) -> Option<Setting>
 }
 
 // Returns the setting at a place of the table, for a caller who knows that there is one. Past the table it is one with neither id nor
-// width, whose partner is past the table too.
+// width, whose partner is past the table too. The law PastIsNothing says so.
 pub fn setting_at(index: usize) -> Setting
     ensures { result ≡ setting_at index }
 {

@@ -11,7 +11,8 @@ use crate::columns::{Place, Role};
 use crate::window::Window;
 use crate::{COUNT, columns};
 
-// Returns whether a low pair agrees: the first is at most the second.
+// Returns whether a low pair agrees: the first is at most the second. This and the next are document 01's two rules, each by its name in
+// specs/Rules.antt; the edit zero_agrees changes this one alone.
 fn low_agrees(first: u16, second: u16) -> bool
     ensures { result ≡ low_agrees first second }
 {

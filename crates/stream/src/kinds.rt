@@ -16,7 +16,8 @@ impl Kind for FrameEnd {
     }
 }
 
-// What stays in its frame: any other.
+// What stays in its frame: any other. It is FrameEnd's opposite and still a kind: `spans::all` wants what holds of each byte, and looks at
+// many at a time, where `first` returns at a byte.
 #[derive(Clone, Copy)]
 pub(crate) struct Staying;
 

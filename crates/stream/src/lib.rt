@@ -20,7 +20,9 @@ mod unfinished;
 // The most characters held. 74 of them mean "over 73", and the refusal is the same however many more there are.
 const MOST_HELD: usize = 74;
 
-// The unfinished frame between two calls: whether there is one, and the characters since its colon. 74 of them mean "over 73".
+// The unfinished frame between two calls: whether there is one, and the characters since its colon. 74 of them mean "over 73". The flag
+// stays beside them: AllowedIsLeft speaks of each such value, and the edits started_inside and one_held_at_start change one of the two
+// each.
 #[derive(Clone, Copy, PartialEq, Eq)]
 pub struct Held {
     pub inside: bool,

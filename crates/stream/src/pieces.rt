@@ -1,4 +1,5 @@
-// How a piece of the stream is read, inside a frame and outside one, up to the first byte that ends a frame.
+// How a piece of the stream is read, inside a frame and outside one, up to the first byte that ends a frame. The room for 35 bytes stands
+// in each contract, and `into` is no array, since each clause (`Gives`) tells what becomes of all of the lent buffer.
 ghost use Rattle.std.specs.Prelude.{◌≤◌, ◌≡◌, true, [], length};
 ghost use Rattle.laws.specs.Promise.{Gives};
 ghost use Rattle.wire.specs.Parsing.{refused, broken_says};

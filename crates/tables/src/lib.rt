@@ -15,14 +15,14 @@ pub struct Table {
     pub numbers: [u16; COUNT],
 }
 
-// Why a Set is refused and, with 10, the nearest allowed number.
+// Why a Set is refused and, with 10, the nearest allowed number. Beside 12 it is 0, which the law SetGivenWhen states.
 #[derive(Clone, Copy, PartialEq, Eq)]
 pub struct Denied {
     pub refusal: Refusal,
     pub nearest: u16,
 }
 
-// The answer to a Set, and the table afterwards.
+// The answer to a Set, and the table afterwards. The table is there under a refusal too, for document 01 hands a state back as it was.
 #[derive(Clone, Copy, PartialEq, Eq)]
 pub struct Change {
     pub answer: Result<(), Denied>,
