@@ -93,7 +93,7 @@ impl Core {
 }
 
 impl Sound {
-    // Answers a whole frame, by its command.
+    // Answers a whole frame, by its command. Command and data stay the two parameters of the public call.
     #[tactic(auto, unfolding(crate::specs::Answers::frame_answer))]
     pub(crate) fn answer(self, command: u8, bytes: &[u8]) -> Decided
         ensures { result ≡ decided_of (answers.frame_answer self.core command bytes.now) }

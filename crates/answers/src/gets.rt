@@ -29,7 +29,8 @@ impl Sound {
         }
     }
 
-    // Answers a Get of any other id: with the value of a read-only one, else by 7.
+    // Answers a Get of any other id: with the value of a read-only one, else by 7. Identity and readings are two arguments, for the call of
+    // `who` knows no `Core`.
     fn get_other(self, id: u16) -> Decided
         ensures { result ≡ decided_of (answers.gets_other self.core id (read_only self.core.identity self.core.readings id)) }
     {

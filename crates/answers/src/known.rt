@@ -34,7 +34,8 @@ impl Known {
         table.numbers[self.setting.index]
     }
 
-    // Returns a message of the setting's id, a flag and a number in the setting's width, the low byte first.
+    // Returns a message of the setting's id, a flag and a number in the setting's width, the low byte first. The flag is a byte, as `said`
+    // has it.
     pub(crate) fn saying(self, command: u8, flag: u8, number: u16) -> Message
         ensures { result ≡ message_of command (said self.setting.id flag (little self.setting.width number)) }
     {

@@ -27,7 +27,8 @@ pub struct Core {
     pub readings: Readings,
 }
 
-// What became of a piece of input: no frame ended, or what the board did about the one that did.
+// What became of a piece of input: no frame ended, or what the board did about the one that did. Document 01 lists these five as the
+// outcomes, the refusal's number among them, so there is no Result of the other four.
 #[derive(Clone, Copy, PartialEq, Eq)]
 pub enum Outcome {
     Nothing,
@@ -77,7 +78,8 @@ pub(crate) struct Sound {
     ghost sound: { identity_allowed core.identity ≡ true },
 }
 
-// Returns the answer to a whole frame: 12 for an identity or a table that is not allowed, then 5 to 10.
+// Returns the answer to a whole frame: 12 for an identity or a table that is not allowed, then 5 to 10. Command and data are two
+// parameters, as document 01 says "from command and data"; `Message` holds its data, and these are lent.
 #[tactic(auto, unfolding(crate::specs::Calls::answering, crate::specs::Answers::core_allowed))]
 pub fn answer(core: Core, command: u8, bytes: &[u8]) -> Decided
     ensures { result ≡ decided_of (answering core command bytes.now) }

@@ -18,7 +18,8 @@ impl Message {
         }
     }
 
-    // Returns a message of an id, a flag and a value.
+    // Returns a message of an id, a flag and a value. The flag is the byte that `said` of the clause takes; an enum would be turned back
+    // into that byte here.
     pub(crate) fn saying(command: u8, id: u16, flag: u8, value: &[u8]) -> Message
         requires { length value.now ≤ most_serial }
         ensures { result ≡ message_of command (said id flag value.now) }

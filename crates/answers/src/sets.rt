@@ -24,7 +24,8 @@ impl Sound {
         }
     }
 
-    // Refuses a Set of any other id: 8 for a read-only one, else 7.
+    // Refuses a Set of any other id: 8 for a read-only one, else 7. Identity and readings are two arguments, for the call of `who` knows no
+    // `Core`.
     fn set_other(self, id: u16) -> Decided
         ensures { result ≡ decided_of (answers.sets_other self.core id (read_only self.core.identity self.core.readings id)) }
     {

@@ -35,14 +35,16 @@ pub struct Board {
     pub held: Held,
 }
 
-// A board, and whether what was asked of it was accepted.
+// A board, and whether what was asked of it was accepted. The board is there under a refusal too: document 01 says what a refused start
+// returns, and hands a state back as it was.
 #[derive(Clone, Copy, PartialEq, Eq)]
 pub struct Handed {
     pub board: Board,
     pub verdict: Result<(), Refusal>,
 }
 
-// What a call on a piece of input answers: the advanced board, the outcome, the reply's length, and how many bytes it took.
+// What a call on a piece of input answers: the advanced board, the outcome, the reply's length, and how many bytes it took. Document 01 has
+// the length here: "A reply fills the front of the lent buffer".
 #[derive(Clone, Copy, PartialEq, Eq)]
 pub struct Answered {
     pub board: Board,
@@ -53,7 +55,8 @@ pub struct Answered {
 
 impl Board {
     // Starts a board with an identity and a table: readings 0 and no frame. Refuses 12 for a serial that is too long or has a byte outside
-    // 0x20..0x7E, or a table that is not allowed; then product and version 0, an empty serial and the factory table.
+    // 0x20..0x7E, or a table that is not allowed; then product and version 0, an empty serial and the factory table. The three of the
+    // identity are handed in apart: an identity is what comes of them, or is refused.
     #[tactic(auto, unfolding(crate::specs::Calls::starting, who::specs::Calls::naming))]
     pub fn start(product: u16, version: u16, serial: &[u8], table: Table) -> Handed
         ensures { result ≡ starting product version serial.now table }
@@ -69,7 +72,7 @@ impl Board {
         }
     }
 
-    // Starts a board with the factory table.
+    // Starts a board with the factory table. An identity is what comes of the three.
     pub fn start_factory(product: u16, version: u16, serial: &[u8]) -> Handed
         ensures { result ≡ starting product version serial.now factory }
     {

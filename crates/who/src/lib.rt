@@ -21,7 +21,8 @@ pub struct Identity {
     pub serial: Few<MOST_SERIAL>,
 }
 
-// An identity, and whether the one that was asked for was accepted.
+// An identity, and whether the one that was asked for was accepted. Both are there, since document 01 says what a refused start returns:
+// product and version 0, an empty serial.
 #[derive(Clone, Copy, PartialEq, Eq)]
 pub struct Named {
     pub identity: Identity,
@@ -43,7 +44,7 @@ pub type Value = Few<MOST_SERIAL>;
 
 impl Identity {
     // Returns the identity of a product, a version and a serial: 12 for a serial over 32 bytes or with a byte outside 0x20..0x7E, and then
-    // product and version 0 and an empty serial.
+    // product and version 0 and an empty serial. The three are handed in apart, for an identity is what comes of them.
     #[tactic(auto, unfolding(crate::specs::Calls::naming, crate::specs::Parts::serial_fits, crate::specs::Parts::no_identity))]
     pub fn named(product: u16, version: u16, serial: &[u8]) -> Named
         ensures { result ≡ naming product version serial.now }
@@ -71,7 +72,8 @@ impl Identity {
 }
 
 impl Readings {
-    // Returns the readings of a board that has measured nothing: all 0.
+    // Returns the readings of a board that has measured nothing: all 0. No derived default: the edits voltage_not_zero and
+    // readings_not_zero change one of the five lines.
     pub fn nothing() -> Readings
         ensures { result ≡ no_readings }
     {
@@ -85,7 +87,8 @@ impl Readings {
     }
 }
 
-// Returns the value of a read-only id: 12 for an identity that is not allowed, then 7 for an id that is not read-only.
+// Returns the value of a read-only id: 12 for an identity that is not allowed, then 7 for an id that is not read-only. Identity and
+// readings are two parameters, as the clause has them; the `Core` of answers that holds both holds a table too.
 #[tactic(auto, unfolding(crate::specs::Calls::reading_out))]
 pub fn read_only(identity: Identity, readings: Readings, id: u16) -> Result<Value, Refusal>
     ensures { result ≡ reading_out identity readings id }

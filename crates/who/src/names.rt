@@ -20,7 +20,7 @@ pub(crate) fn serial_fits(serial: &[u8]) -> bool
     (serial.len() <= paper::MOST_SERIAL) & spans::all(serial, PRINTED)
 }
 
-// Returns the identity of a product, a version and a serial.
+// Returns the identity of a product, a version and a serial. An identity is what comes of the three, so they are parameters.
 pub(crate) fn identity_of(product: u16, version: u16, serial: &[u8]) -> Identity
     requires { length serial.now ≤ most_serial }
     ensures { result ≡ identity_of product version serial.now }

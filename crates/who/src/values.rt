@@ -25,7 +25,8 @@ fn serial_value(identity: Identity) -> Value
     identity.serial.put(&[0])
 }
 
-// Returns the value of a read-only id, and 7 for any other.
+// Returns the value of a read-only id, and 7 for any other. An id is any number of two bytes, and the clause speaks of numbers, so the
+// eight are numbers here and no enum.
 #[tactic(auto, unfolding(crate::specs::Calls::looked_of, crate::specs::Values::read_only))]
 pub(crate) fn looked(identity: Identity, readings: Readings, id: u16) -> Result<Value, Refusal>
     requires { identity_allowed identity ≡ true }
