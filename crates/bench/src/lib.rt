@@ -92,7 +92,8 @@ fn good_in(event: Result<Option<Frame>, Refusal>) -> u64
     }
 }
 
-// Returns a factory board with its first readings, or what a refused start or store leaves.
+// Returns a factory board with its first readings, or what a refused start or store leaves. Product, version and serial are those of the C
+// call, and an identity is what comes of them.
 #[tactic(auto, unfolding(crate::specs::Calls::begun_board))]
 fn begun(product: u16, version: u16, serial: &[u8], given: Sample) -> Board
     ensures { result ≡ begun_board product version serial.now given }

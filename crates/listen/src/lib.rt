@@ -25,7 +25,8 @@ pub struct Listener {
 }
 
 // What a read tells: to wait on; a frame, its data at the front of the lent buffer; a frame that document 01 refuses, 1 to 4; that the
-// board gave no answer in time; or the refusal of the call itself, 11 or 12.
+// board gave no answer in time; or the refusal of the call itself, 11 or 12. The call's refusal is one of five: in a Result around the
+// other four, a frame's refusal would be within what is good. The laws ReadGivenWhen and OnlyAFrameIsWritten take the five together.
 #[derive(Clone, Copy, PartialEq, Eq)]
 pub enum Told {
     Nothing,

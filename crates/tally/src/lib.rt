@@ -29,7 +29,8 @@ pub struct Tally {
     pub due: usize,
 }
 
-// The tally afterwards, and whether the trailer was counted.
+// The tally afterwards, and whether the trailer was counted. The tally is there under a refusal too, for document 01 hands a state back as
+// it was.
 #[derive(Clone, Copy)]
 pub struct Counted {
     pub tally: Tally,
@@ -46,7 +47,7 @@ pub fn begins_anew(follower: Follower, answered: bool, last: bool) -> bool
 }
 
 impl Tally {
-    // Returns the tally of no trailer.
+    // Returns the tally of no trailer. No derived default: the edits one_done_with_each and set_confirmed_at_start change one line each.
     pub fn nothing() -> Tally
         ensures { result ≡ nothing }
     {
@@ -61,7 +62,8 @@ impl Tally {
         }
     }
 
-    // Returns whether no count is over a million.
+    // Returns whether no count is over a million. One test for each count: the edits a_million_refused and over_a_million change one of
+    // them each.
     #[tactic(auto, unfolding(crate::specs::Results::tally_allowed))]
     pub fn is_allowed(self) -> bool
         ensures { result ≡ tally_allowed self }

@@ -8,7 +8,8 @@ use crate::{Counted, Tally};
 use paper::Refusal;
 
 impl Tally {
-    // Returns the sum of two tallies, count by count.
+    // Returns the sum of two tallies, count by count. As an `Add` it would be these seven lines with an output type around them, for one
+    // use.
     fn plus(self, share: Tally) -> Tally
         requires tally_few { Within self }
         requires share_few { Within share }
