@@ -53,7 +53,7 @@ pub const MOST_CHARS: usize = 73;
 
 pub const FRAME_ROOM: usize = 75;
 
-// The commands that a board knows. Codes and flags are numbers, and no enum: a frame has any byte there, and the definitions of
+// The commands that a board knows. Codes and flags are numbers, and no enum: a frame has any number there, and the definitions of
 // specs/Numbers.antt are numbers.
 pub const PING_CODE: u8 = 1;
 
