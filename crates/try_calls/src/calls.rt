@@ -11,7 +11,8 @@ pub fn obey(rt: &impl Print, row: &[u8]) -> io::Result<()> {
     }
 }
 
-// Answers the call that a row's first word names, if its other words are right for it.
+// Answers the call that a row's first word names, if its other words are right for it. No enum stands between the two: a variant would be made
+// here and taken apart at once.
 fn answer(rt: &impl Print, row: &[u8]) -> Answer {
     let (name, words) = words::first_of(row);
     match name {

@@ -26,8 +26,8 @@ fn is_request(word: &[u8]) -> bool {
     word == b"asked".as_slice()
 }
 
-// Hands a listener requests and reads, at the times in the words before them. A word in a time's place that is none is 0, and one in a
-// read's place that is no bytes is skipped.
+// Hands a listener requests and reads, at the times in the words before them: two words a turn, so no for. A word in a time's place that is
+// none is 0, and one in a read's place that is no bytes is skipped.
 fn listens(rt: &impl Print, listener: Listener, events: Words, room: usize) -> io::Result<()> {
     let mut listener = listener;
     let mut events = events;
