@@ -1,5 +1,6 @@
 -- Demand 1: the statements of every crate, gathered. Assumes nothing.
 use Rattle.demands.specs.Demand1.{NumbersAreGiven, RepliesAreStated, LentBytesAreStated}
+use Rattle.paper.proofs.Theorems as paper
 use Rattle.laws.proofs.Theorems as laws
 use Rattle.wire.proofs.Theorems as wire
 use Rattle.stream.proofs.Theorems as stream
@@ -23,6 +24,7 @@ use Rattle.firmware.proofs.Theorems as firmware
 pub numbers_given : NumbersAreGiven
 numbers_given =
     record {
+      numbers_printed = paper.refusals_are_printed;
       frame_read = wire.read_given_when;
       chars_read = wire.chars_given_when;
       frame_written = wire.write_given_when;

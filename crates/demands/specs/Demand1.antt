@@ -4,6 +4,7 @@
 -- refuses, each number exactly when its condition holds and none before it does; the conditions are those of the crate that has the call.
 -- (Three calls take a state and give no number: a listener told of a request keeps its time, and its next read refuses it; a stray follower is not
 -- begun anew; to a stray viewer a frame says nothing. A sentence prints the number that a call gave.) Assumes nothing.
+use Rattle.paper.specs.Laws as paper
 use Rattle.laws.specs.Laws as laws
 use Rattle.wire.specs.Laws as wire
 use Rattle.stream.specs.Laws as stream
@@ -26,6 +27,8 @@ use Rattle.firmware.specs.Laws as firmware
 
 -- "the number fixed in the papers"
 pub record NumbersAreGiven : Type 0 where
+  -- each name of a refusal has the number that is printed
+  pub numbers_printed : paper.RefusalsArePrinted
   -- a frame, whole or as its characters: 11, then 2 for the enclosing, then 1 to 4; the writer's 11 and 12
   pub frame_read : wire.ReadGivenWhen
   pub chars_read : wire.CharsGivenWhen
