@@ -13,14 +13,15 @@ use tables::Table;
 mod reader;
 mod writer;
 
-// Why a text is refused, and in which line, the header being 1 (0 for 17 and 18).
+// Why a text is refused, and in which line: a number and no Option, as document 01 fixes it, "the header being 1 (0 for 17 and 18)".
 #[derive(Clone, Copy, PartialEq, Eq)]
 pub struct BadText {
     pub refusal: Refusal,
     pub line: usize,
 }
 
-// What a text says: its table, or the factory table where it is refused.
+// What a text says: its table, or the factory table where it is refused. The table stands beside the verdict, as document 01 wants one of a
+// refusal too: it "returns its number, the line [..] and the factory table".
 #[derive(Clone, Copy, PartialEq, Eq)]
 pub struct Backup {
     pub table: Table,

@@ -9,7 +9,7 @@ use tables::Table;
 // The header is line 1, so the setting at place 0 is in line 2.
 const FIRST_LINE: usize = 2;
 
-// What is about no line.
+// What is about no line: document 01 gives 0 for 17 and 18.
 const NO_LINE: usize = 0;
 
 // Returns the table that a text says: the header, a good line for each setting, no byte after them, and every pair agrees.

@@ -16,7 +16,8 @@ fn first<const N: usize>(bytes: &[u8]) -> [u8; N]
 }
 
 // The calls below are pairs, and each body is the one method that std has for both widths. A trait with an impl for each type has the same
-// eight bodies, and four calls besides: it is longer, and a number's width then is a second parameter at every call.
+// eight bodies, and four calls besides: it is longer, and a number's width then is a second parameter at every call. The callers ask here and
+// not std, since the clauses are in `little`, `from_little`, `signed` and `complement`, as the laws LittleIsRead and ComplementIsRead are.
 
 // Returns the number of the first two bytes. One that is missing counts as 0.
 pub fn read_16(bytes: &[u8]) -> u16

@@ -26,7 +26,7 @@ fn is_carried(due: Wanted, value: &[u8]) -> bool
     value.len() == due.setting.width && endian::read_16(value) == due.number
 }
 
-// Returns what a frame does, as an answer to the Set that is due.
+// Returns what a frame (its command and its data, as its clause has them) does, as an answer to the Set that is due.
 #[tactic(auto, using(reply::proofs::Lengths::status_long, laws::proofs::Lists::part_to_end), unfolding(crate::specs::Following::on_reply))]
 fn on_reply(due: Wanted, command: u8, bytes: &[u8]) -> Effect
     requires { Narrow due }

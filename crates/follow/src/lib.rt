@@ -15,8 +15,8 @@ mod effect;
 mod state;
 
 // A restore on its way: the two tables that it started from, how many of the list's Sets the board has confirmed, and whether it has
-// stopped. What is due, and whether all is done, follows from these. Count and flag stay apart: the laws speak of any pair of them, and
-// whoever hands in one that no start and events give is refused.
+// stopped. What is due, and whether all is done, follows from these. Count and flag stay apart: the laws AllowedIsReached and RefusedIsStray
+// speak of any pair of them, and whoever hands in one that no start and events give is refused.
 #[derive(Clone, Copy)]
 pub struct Follower {
     pub from: Table,
@@ -26,7 +26,7 @@ pub struct Follower {
 }
 
 // How far a restore is: a request is due, always a Set; the tables were equal; all Sets are confirmed; it stopped at a Set; or it is
-// refused.
+// refused. The refusal is a case here and no Result: StandingExactly says of every Standing when it is told.
 #[derive(Clone, Copy)]
 pub enum Standing {
     Waiting(Request),
@@ -36,7 +36,8 @@ pub enum Standing {
     Refused(Refusal),
 }
 
-// The advanced follower, how far it is, and how many Sets are confirmed.
+// The advanced follower, how far it is, and how many Sets are confirmed: 0 where it is refused, by the law RefusedIsStray (document 01: "a
+// state handed in comes back as it was, with counts and lengths 0").
 #[derive(Clone, Copy)]
 pub struct Followed {
     pub follower: Follower,
@@ -67,7 +68,8 @@ impl Follower {
         self.after(Effect::Waits)
     }
 
-    // Takes a frame of the stream: its command and its data. Refuses 12 for a follower that no start and events give.
+    // Takes a frame of the stream: its command and its data, two parameters as in `heard` of the clause. Refuses 12 for a follower that no
+    // start and events give.
     #[tactic(auto, using(crate::proofs::Standings::standing_awaits), unfolding(crate::specs::Calls::following, crate::specs::Following::advanced))]
     pub fn reply(self, command: u8, bytes: &[u8]) -> Followed
         ensures { result ≡ following self (heard command bytes.now) }

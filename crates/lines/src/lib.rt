@@ -17,7 +17,8 @@ pub struct Line {
     pub text: Few<MOST>,
 }
 
-// Returns how many steps a unit of this many decimals has.
+// Returns how many steps a unit of this many decimals has: the four cases of the clause, `steps`. As a power it is no plainer:
+// `10usize.pow(u32::from(decimals.min(3)))`.
 fn steps_of(decimals: u8) -> usize
     ensures { result ≡ steps decimals }
 {
@@ -48,7 +49,8 @@ impl Line {
         }
     }
 
-    // Returns the line with the last decimal digit of a number after it.
+    // Returns the line with the last decimal digit of a number after it. Numbers are put digit by digit, a test and a call each: a fraction wants
+    // its leading zeros, a line cuts off what is past its room (`adding`), and `write!` gives an error there.
     fn put_digit(self, n: usize) -> Line
         ensures { result ≡ adding self (last_digit n) }
     {

@@ -76,7 +76,8 @@ pub enum Shown {
     Percent(f64),
 }
 
-// Returns the reply that a frame of this command and these data is: 5 for a code that no reply has, then 6 for data that do not fit it.
+// Returns the reply that a frame of this command and these data is (document 01: "from command and data", so here and below they are two):
+// 5 for a code that no reply has, then 6 for data that do not fit it.
 #[tactic(auto, unfolding(crate::specs::Calls::parsing))]
 pub fn read(command: u8, bytes: &[u8]) -> Result<Reply, Refusal>
     ensures { result ≡ parsing command bytes.now }
@@ -105,7 +106,8 @@ pub fn heed(code: u8, id: u16, command: u8, bytes: &[u8]) -> Option<Status>
     read(command, bytes).ok()?.status_about(id)
 }
 
-// Returns the reading that a value of this id is: 7 for an id that is no reading, then 9 for a wrong width.
+// Returns the reading that a value of this id is: 7 for an id that is no reading, then 9 for a wrong width. The id is a number and no enum:
+// the law ShownExactly speaks of every one.
 #[tactic(auto, unfolding(crate::specs::Calls::showing))]
 pub fn show(id: u16, value: &[u8]) -> Result<Shown, Refusal>
     ensures { result ≡ showing id value.now }

@@ -1,5 +1,6 @@
 // Readings in their units: the exact whole number, divided once. A value of another width is refused by 9.
-// The three differ in the call of `endian`, by width and sign: a trait over those calls would be longer, and no plainer.
+// The three differ in the call of `endian`, by width and sign. One function for all would be no plainer: five calls would be like
+// `of(value, 2, i32::from(endian::signed_16(endian::read_16(value))), numbers::STEPS_OF_VOLT)`.
 ghost use Rattle.std.specs.Prelude.{◌≡◌, pos};
 ghost use Rattle.endian.specs.Numbers.{from_little, signed};
 ghost use Rattle.reply.specs.Units.{over, of_width};

@@ -15,12 +15,15 @@ use tables::Table;
 mod order;
 mod writer;
 
-// The size of a list: its length in bytes, and its number of Sets.
+// The size of a list: its length in bytes, and its number of Sets. The bytes are the front of the lent buffer, as no heap is used.
 #[derive(Clone, Copy, PartialEq, Eq)]
 pub struct Size {
     pub len: usize,
     pub sets: usize,
 }
+
+// The three calls take two tables and no Restore, which is of allowed ones: their promises speak of any two (`listing`, `sets_due`,
+// `due_in`).
 
 // Writes the Sets that turn the table `from` into `to`, frame after frame, to the front of `out`. Refuses 11 under 15 bytes of room for
 // each setting, then 12 for a table that is not allowed; then nothing is written.

@@ -25,7 +25,8 @@ pub struct Viewer {
     pub silences: usize,
 }
 
-// What is next: the id that is due; nothing, as all were answered, or as no answer came to the Get of this id; or it is refused.
+// What is next: the id that is due; nothing, as all were answered, or as no answer came to the Get of this id; or it is refused. The refusal
+// is a case here and no Result: the law RefusedIsStray gives the viewer back beside it, as it was.
 #[derive(Clone, Copy)]
 pub enum Next {
     Waiting(u16),
@@ -71,8 +72,8 @@ impl Viewer {
         self.understood <= self.answered && self.is_within()
     }
 
-    // Takes a frame of this command and these data. A Get reply of the due id moves on, and on any other frame the viewer waits on. Refuses
-    // 12 for a viewer that no start and events give.
+    // Takes a frame of this command and these data, two parameters as in `heard` of the clause. A Get reply of the due id moves on, and on
+    // any other frame the viewer waits on. Refuses 12 for a viewer that no start and events give.
     #[tactic(auto, unfolding(crate::specs::Calls::viewing, crate::specs::Calls::advanced))]
     pub fn reply(self, command: u8, bytes: &[u8]) -> Viewed
         ensures { result ≡ viewing self (heard command bytes.now) }

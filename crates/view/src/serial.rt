@@ -13,7 +13,8 @@ fn fits(serial: &[u8]) -> bool
     Identity::named(0, 0, serial).verdict.is_ok()
 }
 
-// Returns how many bytes the value of a serial has: a zero byte ends it where it has under 32.
+// Returns how many bytes the value of a serial has: a zero byte ends it where it has under 32. This is no `(len + 1).min(32)`: past 32 the
+// clause, `serial_width`, gives `len` itself.
 fn width_of(len: usize) -> usize
     ensures { result ≡ serial_width len }
 {
@@ -24,7 +25,8 @@ fn width_of(len: usize) -> usize
     }
 }
 
-// Returns whether a value is a serial, which ends at the first zero byte, and nothing more.
+// Returns whether a value is a serial, which ends at the first zero byte, and nothing more. (The clause says `eqb 0` of a byte, as `first` of
+// Byte does; that of `find` says `b == 0`.)
 #[tactic(auto, unfolding(crate::specs::Values::serial_reads))]
 pub(crate) fn is_serial(value: &[u8]) -> bool
     ensures { result ≡ serial_reads value.now }

@@ -7,7 +7,8 @@ use crate::{COUNT, Next, Sight, Viewed, Viewer, heard};
 use paper::Refusal;
 use reply::MOST_TRIES;
 
-// The ids in the order in which they are asked for.
+// The ids in the order in which they are asked for. They are numbers and no enum, as in the law CountsAreTrue,
+// which is of `read_only_ids`.
 const IDS: [u16; COUNT] = [
     paper::PRODUCT_ID,
     paper::SERIAL_ID,
@@ -96,7 +97,8 @@ impl Viewer {
         }
     }
 
-    // Returns a viewer to whose Get no answer came. An ended one stays as it was.
+    // Returns a viewer to whose Get no answer came. An ended one stays as it was. This is not `silenced` of `collect`: AllowedIsReached speaks
+    // here of the count alone, which tells an ended one, and there of a flag beside it.
     #[tactic(auto, unfolding(crate::specs::Calls::advanced, crate::specs::Calls::is_waiting))]
     pub(crate) fn after_silence(self) -> Viewer
         ensures { result ≡ calls.advanced self no_answer }

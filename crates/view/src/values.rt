@@ -13,7 +13,8 @@ fn is_product(value: &[u8]) -> bool
     matches!(value, [0x00, _, _, 0xFF])
 }
 
-// Returns whether a value has the form that its id has.
+// Returns whether a value has the form that its id has. The id is a number, as in the clause, which takes any: one without a case here has two
+// bytes there too (`width_of`).
 #[tactic(auto, unfolding(crate::specs::Values::is_understood))]
 pub(crate) fn is_understood(id: u16, value: &[u8]) -> bool
     ensures { result ≡ is_understood id value.now }
