@@ -178,8 +178,20 @@ read_only_given identity readings id = by (identity_allowed identity)
     by false = refl
     by true = found_refusal (read_only identity readings id) ∙ ap (λ (b : Bool). cond (not b) (some 7) none) (eight_out identity readings id)
 
+none_given : (o : Option (List ℕ)) → is_some o ≡ false → value_given (looked_of o) ≡ none
+unfolding looked_of
+none_given none e = refl
+none_given (some v) e = let impossible : ⊥ = cc in absurd impossible
+
 pub refused_silent : RefusedHasNoValue
-refused_silent identity readings id refusal e = ap value_given e
+unfolding reading_out
+refused_silent identity readings id = by (identity_allowed identity) (among id read_only_ids) (eight_out identity readings id)
+  where
+    by : (ok here : Bool) → is_some (read_only identity readings id) ≡ here → (not ok || not here) ≡ true
+        → value_given (cond ok (looked_of (read_only identity readings id)) (Err not_allowed)) ≡ none
+    by false here f e = refl
+    by true false f e = none_given (read_only identity readings id) f
+    by true true f e = let impossible : ⊥ = cc in absurd impossible
 
 -- and its answer
 pub read_only_held : ReadOnlyAnswersHeld

@@ -1,6 +1,6 @@
 -- What is proved of the definitions, as statements to compare with the papers. Each is proved under its name in proofs/Theorems.antt.
 -- Assumes nothing.
-use Rattle.std.specs.Prelude.{ℕ, ◌-◌, ◌/◌, ◌%◌, ◌≤◌, ◌<◌, ◌≡◌, ◌↔◌, Bool, true, false, not, ◌&&◌, List, [], ◌∷◌, ◌++◌, length, replicate, leb, Result, Ok, Err}
+use Rattle.std.specs.Prelude.{ℕ, ◌-◌, ◌/◌, ◌%◌, ◌≤◌, ◌<◌, ◌≡◌, ◌↔◌, Bool, true, false, not, ◌&&◌, ◌||◌, List, [], ◌∷◌, ◌++◌, length, replicate, leb, Result, Ok, Err}
 use Rattle.std.proofs.Math.Option.{Option, none, some}
 use Rattle.paper.specs.Numbers as paper
 use Rattle.laws.specs.Lists.{every, byte}
@@ -116,7 +116,7 @@ value_given (Err refusal) = none
 
 abbrev pub RefusedHasNoValue : Type 0
 RefusedHasNoValue =
-    (identity : Identity) (readings : Readings) (id : ℕ) (refusal : Refusal) → reading_out identity readings id ≡ Err refusal
+    (identity : Identity) (readings : Readings) (id : ℕ) → (not (identity_allowed identity) || not (among id read_only_ids)) ≡ true
     → value_given (reading_out identity readings id) ≡ none
 
 -- Otherwise the value is what document 01 says that the id holds, at the front of the array, with zeros after it.
