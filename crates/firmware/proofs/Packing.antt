@@ -25,7 +25,7 @@ use Rattle.settings.specs.Calls.{partner_fits, nearing}
 use Rattle.settings.specs.Answers.{Number}
 use Rattle.settings.proofs.Theorems.{nearest_is_found, allowed_has_room, rows_hold}
 use Rattle.firmware.specs.Calls.{half, refusal_packed, written_packed, read_packed, number_packed}
-use Rattle.firmware.specs.Laws.{high, low, refusal_from, written_from, read_from, number_from, WrittenComesBack, ReadComesBack, NumberComesBack, RefusedIsAlone}
+use Rattle.firmware.specs.Laws.{high, low, refusal_from, written_from, read_from, number_from, WrittenComesBack, ReadComesBack, NumberComesBack, HighIsNumber, RefusedIsAlone}
 
 -- what the writer answers fits in its half: a frame has 75 bytes at most
 abbrev pub WrittenFits : Written → Type 0
@@ -131,6 +131,9 @@ numbered Refusal.OtherId = (refl, refl, refl)
 numbered Refusal.OutOfRange = (refl, refl, refl)
 numbered Refusal.PairDisagrees = (refl, refl, refl)
 numbered Refusal.MoreBytes = (refl, refl, refl)
+
+pub number_high : HighIsNumber
+number_high refusal = (numbered refusal).0
 
 -- taken apart, each answer is the one that was packed
 written_from_lem : (w : Written) → WrittenFits w → written_from (written_packed w) ≡ w

@@ -1,13 +1,13 @@
 -- What is proved of the packing. Each is proved under its name in proofs/Theorems.antt. Assumes nothing.
 use Rattle.std.specs.Prelude.{ℕ, ◌-◌, ◌/◌, ◌%◌, ◌^◌, ◌<◌, ◌≡◌, Ok, Err, cond, List, [], ◌∷◌, get_or, eqb}
 use Rattle.laws.specs.Promise.{Given}
-use Rattle.paper.specs.Numbers.{too_long, no_digit, bad_count, bad_sum, unknown_command, malformed, unknown_id, read_only_id, wrong_width, number_not_allowed, short_buffer, not_allowed, other_header, bad_line, other_id, out_of_range, pair_disagrees, more_bytes}
+use Rattle.paper.specs.Numbers.{too_long, no_digit, bad_count, bad_sum, unknown_command, malformed, unknown_id, read_only_id, wrong_width, number_not_allowed, short_buffer, not_allowed, other_header, bad_line, other_id, out_of_range, pair_disagrees, more_bytes, number_of}
 use Rattle.paper.specs.declared.Refusal.{Refusal}
 use Rattle.wire.specs.Calls.{writing, parsing}
 use Rattle.wire.specs.Answers.{Written, Read}
 use Rattle.settings.specs.Calls.{nearing}
 use Rattle.settings.specs.Answers.{Number}
-use Rattle.firmware.specs.Calls.{writing_packed, parsing_packed, nearing_packed}
+use Rattle.firmware.specs.Calls.{refusal_packed, writing_packed, parsing_packed, nearing_packed}
 
 -- An integer taken apart, as the C header does it: no refusal where the high half is 0.
 abbrev pub high : ℕ → ℕ
@@ -47,6 +47,10 @@ ReadComesBack = (slice : List ℕ) (room : ℕ) → unpacked read_from (parsing_
 -- (`wished` has 16 bits in C.)
 abbrev pub NumberComesBack : Type 0
 NumberComesBack = (id wished partner : ℕ) → wished < 2 ^ 16 → number_from (nearing_packed id wished partner) ≡ nearing id wished partner
+
+-- The high half of a refusal's integer is the refusal's number: the look-up in `refusals` only turns it back into the refusal.
+abbrev pub HighIsNumber : Type 0
+HighIsNumber = (refusal : Refusal) → high (refusal_packed refusal) ≡ number_of refusal
 
 -- "its low half is the answer, 0 under a refusal", as the C header says.
 abbrev pub RefusedIsAlone : Type 0
