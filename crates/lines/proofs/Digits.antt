@@ -10,7 +10,7 @@ use lib.Dec.{eqb, ltb, leb}
 use Rattle.laws.specs.Lists.{every, before}
 use Rattle.laws.proofs.Bools.{pick, and_left, and_right, both}
 use Rattle.laws.proofs.Lists.{every_append}
-use Rattle.lines.specs.Numbers.{last_digit, last_digits, decimal_from, decimal, fraction, pointed}
+use Rattle.lines.specs.Numbers.{last_digit, decimal_from, decimal, fraction, pointed}
 use Rattle.lines.specs.Laws.{read_on, is_digit, AreDigits, DecimalIsRead, point, without_point, after_point, ArePointed, PointedIsRead}
 
 pub one_digit : (more n : ℕ) → n < 10 → decimal_from more n ≡ last_digit n
@@ -24,10 +24,6 @@ more_digits zero n some h = absurd (some refl)
 more_digits (suc more) n some h =
     let less : suc more - 1 ≡ more = omega arith in
     rw (le-ltb n 10 h, less)
-
-pub digit_more : (decimals n : ℕ) → ((decimals ≡ 0) → ⊥) → last_digits decimals n ≡ last_digits (decimals - 1) (n / 10) ++ last_digit n
-digit_more zero n some = absurd (some refl)
-digit_more (suc more) n some = let less : suc more - 1 ≡ more = omega arith in rw less
 
 -- Read back.
 
@@ -174,7 +170,7 @@ pointed_read n (suc zero) h k = pointed_parts (n / 10) n 1 (fraction 1 n) (omega
 pointed_read n (suc (suc zero)) h k =
     pointed_parts (n / 100) n 2 (fraction 2 n) (omega arith) (both _ _ (digit_is (n / 10)) (last_is n)) (omega arith) refl refl (λ z. absurd (omega arith))
 pointed_read n (suc (suc (suc zero))) h k =
-    let hundreds : n / 1000 * 10 + n / 10 / 10 % 10 ≡ n / 10 / 10 = omega arith in
-    let tens : n / 10 / 10 * 10 + n / 10 % 10 ≡ n / 10 = omega arith in
-    pointed_parts (n / 1000) n 3 (fraction 3 n) (omega arith) (both _ _ (digit_is (n / 10 / 10)) (both _ _ (digit_is (n / 10)) (last_is n))) (omega arith) refl refl (λ z. absurd (omega arith))
+    let hundreds : n / 1000 * 10 + n / 100 % 10 ≡ n / 100 = omega arith in
+    let tens : n / 100 * 10 + n / 10 % 10 ≡ n / 10 = omega arith in
+    pointed_parts (n / 1000) n 3 (fraction 3 n) (omega arith) (both _ _ (digit_is (n / 100)) (both _ _ (digit_is (n / 10)) (last_is n))) (omega arith) refl refl (λ z. absurd (omega arith))
 pointed_read n (suc (suc (suc (suc decimals)))) h k = absurd (omega arith)

@@ -3,3 +3,4 @@ pub mod Lines
 pub mod Numbers
 pub mod Laws
 pub mod Worked
+pub mod AsPut

@@ -1,5 +1,5 @@
 -- Numbers in a line. Assumes nothing.
-use Rattle.std.specs.Prelude.{ℕ, zero, suc, ◌+◌, ◌/◌, ◌%◌, min, cond, List, [], ◌∷◌, ◌++◌, ltb, eqb}
+use Rattle.std.specs.Prelude.{ℕ, zero, suc, ◌+◌, ◌/◌, ◌%◌, cond, List, [], ◌∷◌, ◌++◌, ltb, eqb}
 use Rattle.lines.specs.Lines.{chars}
 
 -- the last decimal digit of a number
@@ -19,14 +19,13 @@ decimal n = decimal_from 19 n
 abbrev pub steps : ℕ → ℕ
 steps decimals = cond (eqb decimals 0) 1 (cond (eqb decimals 1) 10 (cond (eqb decimals 2) 100 1000))
 
--- the point, and so many last digits of a number after it
-abbrev pub last_digits : ℕ → ℕ → List ℕ
-last_digits zero n = chars "."
-last_digits (suc more) n = last_digits more (n / 10) ++ last_digit n
-
--- nothing for a unit with no decimals
+-- the point and the digits after it
 abbrev pub fraction : ℕ → ℕ → List ℕ
-fraction decimals n = cond (eqb decimals 0) [] (last_digits (min decimals 3) n)
+fraction decimals n =
+    cond (eqb decimals 0) []
+    (cond (eqb decimals 1) (chars "." ++ last_digit n)
+    (cond (eqb decimals 2) (chars "." ++ last_digit (n / 10) ++ last_digit n)
+    (chars "." ++ last_digit (n / 100) ++ last_digit (n / 10) ++ last_digit n)))
 
 -- a whole number of steps in the unit: 120 at one decimal is 12.0
 unfoldable pub pointed : ℕ → ℕ → List ℕ

@@ -4,7 +4,8 @@
 
 ghost use Rattle.std.specs.Prelude.{◌≡◌, []};
 ghost use Rattle.lines.specs.Lines.{line_of, adding};
-ghost use Rattle.lines.specs.Numbers.{last_digit, last_digits, decimal, steps, pointed};
+ghost use Rattle.lines.specs.Numbers.{last_digit, decimal, steps, pointed};
+ghost use Rattle.lines.specs.AsPut.{last_digits};
 
 use spans::Few;
 
@@ -69,7 +70,7 @@ impl Line {
     }
 
     // Returns the line with a point after it and as many of a number's last digits.
-    #[tactic(auto, using(crate::proofs::Adding::further, crate::proofs::Digits::digit_more))]
+    #[tactic(auto, using(crate::proofs::Adding::further, crate::proofs::Fractions::digit_more))]
     fn put_fraction(self, n: usize, decimals: u8) -> Line
         ensures { result ≡ adding self (last_digits decimals n) }
     {
@@ -80,7 +81,7 @@ impl Line {
     }
 
     // Returns the line with a whole number of steps after it, in the unit that the steps divide: 0 to 3 decimals, and more count as 3.
-    #[tactic(auto, using(crate::proofs::Adding::further), unfolding(crate::specs::Numbers::pointed))]
+    #[tactic(auto, using(crate::proofs::Fractions::pointed_none, crate::proofs::Fractions::pointed_put))]
     pub fn put_pointed(self, n: usize, decimals: u8) -> Line
         ensures { result ≡ adding self (pointed n decimals) }
     {
