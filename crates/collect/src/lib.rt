@@ -18,8 +18,8 @@ mod state;
 
 // How many settings were answered, their numbers in the order of the ids, 0 past them, how many times no answer came to the Get of the one
 // that is due, and whether it has stopped. Which setting is due, and whether all is done, follows from these.
-// The four stay apart, in fixed memory: the law AllowedIsReached speaks of any of them together, and whoever hands in a state that no start and
-// events give is refused.
+// The four stay apart, in fixed memory: the law AllowedIsReached speaks of any of them together, and whoever hands in a state that no start
+// and events give is refused.
 #[derive(Clone, Copy)]
 pub struct Collector {
     pub len: usize,
@@ -28,7 +28,8 @@ pub struct Collector {
     pub stopped: bool,
 }
 
-// How far it is: a setting is asked for; every one was answered; it stopped at a setting; or it is refused.
+// How far it is: a setting is asked for; every one was answered; it stopped at a setting; or it is refused. The refusal is a case here and
+// no Result: TableIsCarried says of every Stage when it is told.
 #[derive(Clone, Copy)]
 pub enum Stage {
     Waiting(Setting),
@@ -38,6 +39,8 @@ pub enum Stage {
 }
 
 // The advanced collector, how far it is, how many settings were answered, and the table: the factory table unless it is done.
+// Count and table stand beside the stage, whatever it is: the law RefusedIsStray gives both of a refused collector, and the collector comes
+// back beside the outcome, as document 01 wants of a board's methods.
 #[derive(Clone, Copy)]
 pub struct Collected {
     pub collector: Collector,
@@ -69,8 +72,8 @@ impl Collector {
         self.after(Intake::Waits)
     }
 
-    // Takes a frame of this command and these data. Only the number of a good Get reply with the due id, in its width and with a number
-    // that fits, is taken. Refuses 12 for a collector that no start and events give.
+    // Takes a frame of this command and these data, two parameters as in `heard` of the clause. Only the number of a good Get reply with
+    // the due id, in its width and with a number that fits, is taken. Refuses 12 for a collector that no start and events give.
     #[tactic(auto, using(crate::proofs::Moving::waiting_few), unfolding(crate::specs::Calls::collecting, crate::specs::Collecting::advanced))]
     pub fn reply(self, command: u8, bytes: &[u8]) -> Collected
         ensures { result ≡ collecting self (heard command bytes.now) }

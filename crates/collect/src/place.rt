@@ -53,7 +53,7 @@ impl Place {
         }
     }
 
-    // Returns what a frame does, as an answer to the Get of the setting.
+    // Returns what a frame (its command and its data, as in `heard` of the clause) does, as an answer to the Get of the setting.
     #[tactic(auto, using(reply::proofs::Lengths::status_long), unfolding(crate::specs::Collecting::intake_of))]
     pub(crate) fn of_frame(self, command: u8, bytes: &[u8]) -> Intake
         ensures { result ≡ spec.intake_of self.numbers self.index (heard command bytes.now) }

@@ -11,6 +11,7 @@ use crate::{Collected, Collector};
 use reply::MOST_TRIES;
 use settings::COUNT;
 
+// (Four contracts bound `self.len`, two of them by COUNT itself: a Place is inside the table, so it cannot stand for these.)
 impl Collector {
     // Returns whether no more settings are answered than there are, fewer where it stopped, and there were no more silences than there can
     // be.
@@ -26,7 +27,7 @@ impl Collector {
         }
     }
 
-    // Returns whether every number answered fits those before it.
+    // Returns whether every number answered fits those before it. (`all` over the places was tried: its proof did not close.)
     #[tactic(auto, unfolding(crate::specs::Collecting::all_fit))]
     fn all_fit(self) -> bool
         requires { self.len ≤ count }
@@ -40,7 +41,8 @@ impl Collector {
         all
     }
 
-    // Returns whether all numbers past those answered are 0, so that a state has one form.
+    // Returns whether all numbers past those answered are 0, so that a state has one form. (`all` over the rest was tried: its proof
+    // did not close.)
     #[tactic(auto, using(laws::proofs::Lists::part_to_end))]
     fn none_after(self) -> bool
         requires { self.len ≤ count }
@@ -85,7 +87,7 @@ impl Collector {
     }
 
     // Returns a collector to whose Get no answer came once more. The third time it stops: it holds that in its flag, while a viewer ends by
-    // the count itself (`view`), so that the two share no more than the number of tries.
+    // the count itself (`view`). Each AllowedIsReached speaks of its own states, so the two share no more than the number of tries.
     #[tactic(auto, unfolding(crate::specs::Collecting::silenced))]
     fn silenced(self) -> Collector
         ensures { result ≡ spec.silenced self }

@@ -21,7 +21,8 @@ fn is_number(digits: &[u8]) -> bool
         && (digits.len() == 1 || digits[0] != b'0')
 }
 
-// Returns the number of such digits, and none for any others.
+// Returns the number of such digits, and none for any others. (`parse` reads +5 and 005 too, and a str: the test above would stay, and a
+// `from_utf8` come to it.)
 pub(crate) fn value_of(digits: &[u8]) -> Option<usize>
     ensures { result ≡ cond (is_number digits.now) (Some (value_of digits.now)) None }
 {

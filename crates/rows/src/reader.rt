@@ -4,7 +4,8 @@ ghost use Rattle.rows.specs.Row.{is_row, row_in};
 
 use crate::{Row, TAB, decimals};
 
-// Returns the byte of two digits, and none where one is no digit.
+// Returns the byte of two digits, and none where one is no digit. (The one of `wire` is of digits that were tested as a whole line of them:
+// its `requires` says so.)
 fn byte_of(high: u8, low: u8) -> Option<u8>
     ensures { result ≡ cond (is_digit high && is_digit low) (Some (nibble high * 16 + nibble low)) None }
 {
@@ -26,7 +27,7 @@ pub(crate) fn row_in(line: &[u8]) -> Option<Row>
     let low = byte_of(*c, *d)?;
     let number = decimals::value_of(digits)?;
     Some(Row {
-        id: high as u16 * 256 + low as u16,
+        id: u16::from_be_bytes([high, low]),
         number,
         len: line.len() + 1,
     })

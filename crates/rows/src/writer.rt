@@ -5,7 +5,7 @@ ghost use Rattle.rows.specs.Row.{row_of};
 use crate::TAB;
 use lines::Line;
 
-// Returns the row as a line.
+// Returns the row as a line. (`to_be_bytes` was tried for the id: the proof did not close.)
 pub(crate) fn row_of(id: u16, number: u16) -> Line
     ensures { result ≡ line_of (row_of id number) }
 {
