@@ -19,7 +19,7 @@ const NO_TEXT: i32 = 84;
 
 const INVALID: i32 = 22;
 
-// 4,096 zeros, which hold any path.
+// 4,096 zeros, which hold any path. Two functions and no const parameter: so no caller names a size, and each size stands once.
 pub fn buffer() -> [u8; 4096]
     ensures { 4096 ≡ length result }
 {

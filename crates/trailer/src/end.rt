@@ -11,7 +11,8 @@ pub(crate) fn store(system: System, board: Board) {
     }
 }
 
-// Writes a table as a backup text to a file.
+// Writes a table as a backup text to a file. `&room[..len]` was tried: that the length fits is known only through the text that `writing`
+// defines, and the proof did not close.
 fn write(system: System, path: &[u8], table: Table) {
     let mut room = [0; paper::TEXT_ROOM];
     match backup::write(table, &mut room) {

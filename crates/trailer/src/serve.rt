@@ -6,7 +6,8 @@ use std::io;
 // How many reads of a second each may give nothing before a device is given up: a day.
 const MOST_QUIET: usize = 86400;
 
-// Answers all frames of a piece. Every call takes at least one byte, so there are no more turns than bytes.
+// Answers all frames of a piece. Every call takes at least one byte, so there are no more turns than bytes. `&reply[..answered.len]` was
+// tried: that the length fits is known only through the bytes that `answering` defines, and the proof did not close.
 fn answer_all(board: &mut Board, piece: &[u8], line: &Port) {
     let mut rest = piece;
     for _ in 0..piece.len() {
@@ -29,7 +30,8 @@ fn turn(board: &mut Board, line: &Port) -> io::Result<usize> {
     Ok(len)
 }
 
-// Serves a line until a read fails, or this many in turn give nothing.
+// Serves a line until a read fails, or this many in turn give nothing. A loop must be seen to end, so there is a last turn, which no
+// line reaches.
 fn served(board: Board, line: &Port, most_quiet: usize) -> Board {
     let mut board = board;
     let mut quiet = 0;

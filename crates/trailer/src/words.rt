@@ -18,7 +18,7 @@ pub(crate) fn word<'a>(system: System, place: usize, into: &'a mut [u8]) -> Opti
     ports::arg(system, place, into).filter(|word| !matches!(*word, b"" | b"-"))
 }
 
-// Returns the number that four hex digits are, of which A to F may be lower case.
+// Returns the number that four hex digits are, of which A to F may be lower case: `from_str_radix` would take a plus as one of the four.
 pub(crate) fn hex(word: &[u8]) -> Option<u16> {
     let mut number = 0;
     for digit in word.as_array::<4>()? {

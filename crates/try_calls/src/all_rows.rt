@@ -27,10 +27,8 @@ fn obeys(rt: &impl Print, line: &[u8]) -> io::Result<()> {
 
 // Returns a row without its arrow and what comes after it.
 fn without_answer(line: &[u8]) -> &[u8] {
-    for end in 0..line.len() {
-        if line[end..].starts_with(&ARROW) {
-            return &line[..end];
-        }
-    }
-    line
+    let arrow = line
+        .windows(ARROW.len())
+        .position(|chars| chars == ARROW.as_slice());
+    &line[..arrow.unwrap_or(line.len())]
 }

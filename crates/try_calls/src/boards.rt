@@ -14,15 +14,13 @@ const PRODUCT: u16 = 0xA381;
 const VERSION: u16 = 0x4401;
 
 // The ids of the readings, in the order in which document 01 lists them.
-const VOLTAGE: u16 = 0xED8D;
-
-const CURRENT: u16 = 0xED8F;
-
-const FINE: u16 = 0xED8C;
-
-const CONSUMED: u16 = 0xEEFF;
-
-const CHARGE: u16 = 0x0FFF;
+const READINGS: [u16; 5] = [
+    paper::VOLTAGE_ID,
+    paper::CURRENT_ID,
+    paper::FINE_ID,
+    paper::CONSUMED_ID,
+    paper::CHARGE_ID,
+];
 
 // Answers `board ROOM ITEM ..`: a board with an empty serial, with the settings and readings of the row, is handed its other items.
 pub fn board(rt: &impl Print, mut words: Words) -> Answer {
@@ -47,15 +45,16 @@ fn board_of(items: Words, serial: &[u8]) -> Board {
     board
 }
 
-// Returns the readings of a row's items.
+// Returns the readings of a row's items; one that the row does not name is 0.
 fn sample(items: Words) -> Sample {
-    let reading = |id| numbers::as_signed(puts::number_for(items, id));
+    let reading = |id| puts::number_for(items, id).map_or(0, numbers::as_signed);
+    let [voltage, current, fine, consumed, charge] = READINGS.map(reading);
     Sample {
-        voltage: reading(VOLTAGE),
-        current: reading(CURRENT),
-        fine: reading(FINE),
-        consumed: reading(CONSUMED),
-        charge: reading(CHARGE),
+        voltage,
+        current,
+        fine,
+        consumed,
+        charge,
     }
 }
 
@@ -132,7 +131,7 @@ fn ones() -> Board {
 // Writes what a store returns, and the replies to the Gets of its board's readings.
 fn stored(rt: &impl Print, stored: Handed) -> io::Result<()> {
     say::verdict(rt, stored.verdict)?;
-    for id in [VOLTAGE, CURRENT, FINE, CONSUMED, CHARGE] {
+    for id in READINGS {
         asked(rt, stored.board, id)?;
     }
     Ok(())
@@ -141,7 +140,10 @@ fn stored(rt: &impl Print, stored: Handed) -> io::Result<()> {
 // Writes the reply to a Get.
 fn asked(rt: &impl Print, board: Board, id: u16) -> io::Result<()> {
     let mut request = [0u8; SPACE];
-    let len = requests::get(id, &mut request).unwrap_or(0);
+    let len = match requests::get(id, &mut request) {
+        Ok(len) => len,
+        Err(refusal) => return say::refused(rt, refusal),
+    };
     let mut reply = [0u8; SPACE];
     let answered = board.answer(say::front(&request, len), &mut reply);
     say::bytes(rt, say::front(&reply, answered.len))

@@ -52,7 +52,7 @@ fn unpaired(pairs: &[u8]) -> Option<Bytes> {
     Some(bytes)
 }
 
-// Returns the bytes of characters in quotes. A while and no for, since an escape has more than one of them.
+// Returns the bytes of characters in quotes. A while and no for, since a byte takes one, two or four of them.
 fn unquoted(quoted: &[u8]) -> Option<Bytes> {
     let mut bytes = Bytes::new();
     let mut left = quoted;

@@ -6,9 +6,6 @@ use settings::{COUNT, Setting};
 use std::io;
 use tables::Table;
 
-// The code of a Get reply.
-const GET: u8 = 7;
-
 // Answers `collect ID EVENT ..`: a start, and every setting before this id answered with its factory number; then what the events tell.
 pub fn collect(rt: &impl Print, mut words: Words) -> Answer {
     let before = words.id()?;
@@ -50,10 +47,11 @@ fn good(collector: Collector, setting: Setting, number: u16) -> Collector {
     let [low, high] = number.to_le_bytes();
     let data = [id_low, id_high, 0, low, high];
     let len = if setting.width == 1 { 4 } else { 5 };
-    collector.reply(GET, &data[..len]).collector
+    collector.reply(paper::GET_CODE, &data[..len]).collector
 }
 
-// Hands a collector events, and writes each answer.
+// Hands a collector events, and writes each answer. `follows` has a match like this one: the answers are types of their own, and a trait with
+// its two impls would be longer than two matches.
 fn hears(rt: &impl Print, collector: Collector, events: Words) -> io::Result<()> {
     let mut collector = collector;
     for event in events.filter_map(Event::of) {

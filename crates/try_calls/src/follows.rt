@@ -43,7 +43,8 @@ fn begins_anew(rt: &impl Print, items: Words) -> io::Result<()> {
     Ok(())
 }
 
-// Starts from the two tables of the items, hands the follower the events among them, and returns it.
+// Starts from the two tables of the items, hands the follower the events among them, and returns it. The match
+// stands in `collects` too, which says why.
 fn at_the_end(rt: &impl Print, items: Words) -> io::Result<Follower> {
     let (from, to) = puts::tables_of(items);
     let mut follower = told(rt, Follower::start(from, to))?;

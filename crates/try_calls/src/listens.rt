@@ -27,7 +27,8 @@ fn is_request(word: &[u8]) -> bool {
 }
 
 // Hands a listener requests and reads, at the times in the words before them: two words a turn, so no for. A word in a time's place that is
-// none is 0, and one in a read's place that is no bytes is skipped.
+// none is 0, and one in a read's place that is no bytes is skipped: `is_event` takes a row's words in any order, and what is printed of a row
+// may not change.
 fn listens(rt: &impl Print, listener: Listener, events: Words, room: usize) -> io::Result<()> {
     let mut listener = listener;
     let mut events = events;

@@ -4,7 +4,8 @@ ghost use Rattle.std.specs.Prelude.{◌<◌, IfSome};
 // How far below 0 a number may be.
 const FARTHEST: usize = 0x7FFF_FFFF_FFFF_FFFF;
 
-// Returns the value of a digit, as in a frame.
+// Returns the value of a digit, as in a frame: `char::to_digit` would take lower case, and `wire::nibble_of` is of the calls that the
+// rows try, which a row's bytes are read without.
 fn digit(char: u8) -> Option<u8>
     ensures { IfSome result (λ d. d < 16) }
 {
@@ -28,7 +29,7 @@ pub fn id(word: &[u8]) -> Option<u16> {
     Some(u16::from_be_bytes([pair(*a, *b)?, pair(*c, *d)?]))
 }
 
-// Returns a decimal number without a sign.
+// Returns a decimal number without a sign: `parse` would take a plus.
 fn amount(digits: &[u8]) -> Option<usize> {
     if digits.is_empty() {
         return None;
@@ -41,17 +42,16 @@ fn amount(digits: &[u8]) -> Option<usize> {
     Some(n)
 }
 
-// Returns a decimal number; one with a minus sign in two's complement.
+// Returns a decimal number; one with a minus sign in two's complement, so that one type holds a room, which may be 18446744073709551615, and
+// a reading, which may be -1.
 pub fn number(word: &[u8]) -> Option<usize> {
     let [b'-', digits @ ..] = word else {
         return amount(word);
     };
     let distance = amount(digits)?;
-    if (1..=FARTHEST).contains(&distance) {
-        Some(distance.wrapping_neg())
-    } else {
-        None
-    }
+    (1..=FARTHEST)
+        .contains(&distance)
+        .then_some(distance.wrapping_neg())
 }
 
 // Returns the signed number that a number in two's complement is.

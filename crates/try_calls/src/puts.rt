@@ -32,13 +32,13 @@ impl Put {
     }
 }
 
-// Returns the number that words put in for an id, or 0.
-pub fn number_for(words: Words, id: u16) -> usize {
+// Returns the number that words put in for an id.
+pub fn number_for(words: Words, id: u16) -> Option<usize> {
     words
         .filter_map(Put::of)
         .filter(|put| put.id == id)
         .last()
-        .map_or(0, |put| put.number)
+        .map(|put| put.number)
 }
 
 // Returns the factory table with the numbers of words, allowed or not, and the one with those that are wanted.
@@ -59,7 +59,8 @@ pub fn table_of(words: Words) -> Table {
     tables_of(words).0
 }
 
-// Returns a table with a number at a place.
+// Returns a table with a number at a place. `try_settings` has one of its own, whose numbers are a setting's: a crate for the two would be
+// longer.
 fn with(table: Table, place: usize, number: usize) -> Table {
     let mut after = table;
     if let Some(held) = after.numbers.get_mut(place) {

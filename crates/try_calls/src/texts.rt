@@ -64,7 +64,8 @@ fn judged(rt: &impl Print, read: Backup) -> io::Result<()> {
     puts::differences(rt, read.table)
 }
 
-// Returns a text with bytes in place of a line, 0 being the first one too. What has no room is left out.
+// Returns a text with bytes in place of a line, 0 being the first one too. What has no room is left out, byte
+// by byte: `try_extend_from_slice` would leave out all of a part.
 fn patched(text: &[u8], patch: &Patch) -> Bytes {
     let line = patch.line.max(1);
     let lines = text.split_inclusive(|char| *char == b'\n');

@@ -46,12 +46,12 @@ impl<'a> Words<'a> {
         requires { F.IsAlwaysCallable is_kind }
     {
         let mut words = self;
-        if words.all(is_kind) { Some(self) } else { None }
+        words.all(is_kind).then_some(self)
     }
 
     // Returns nothing, if no word is left.
     pub fn end(self) -> Option<()> {
-        if self.rest.is_empty() { Some(()) } else { None }
+        self.rest.is_empty().then_some(())
     }
 }
 
