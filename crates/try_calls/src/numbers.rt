@@ -4,8 +4,8 @@ ghost use Rattle.std.specs.Prelude.{◌<◌, IfSome};
 // How far below 0 a number may be.
 const FARTHEST: usize = 0x7FFF_FFFF_FFFF_FFFF;
 
-// Returns the value of a digit, as in a frame: `char::to_digit` would take lower case, and `wire::nibble_of` is of the calls that the
-// rows try, which a row's bytes are read without.
+// Returns the value of a digit, as in a frame: `char::to_digit` would take lower case, and `wire::nibble_of` belongs to what the
+// rows try.
 fn digit(char: u8) -> Option<u8>
     ensures { IfSome result (λ d. d < 16) }
 {

@@ -49,8 +49,7 @@ impl Case {
         let mut below = None;
         let mut above = self.next(0);
         let mut agreed = 0;
-        for number in 0..WISHED {
-            let wished = number as u16;
+        for wished in 0..=u16::MAX {
             if above.is_some_and(|number| number < wished) {
                 above = self.next(wished);
             }
@@ -107,7 +106,8 @@ impl Case {
     }
 }
 
-// Returns a table with a number put in, allowed or not.
+// Returns a table with a number put in, allowed or not. `try_calls` has one of its own for the numbers of a row, which may be any: a crate for
+// the two would be longer.
 pub fn with(table: Table, setting: Setting, number: u16) -> Table {
     let mut after = table;
     if let Some(place) = after.numbers.get_mut(setting.index) {

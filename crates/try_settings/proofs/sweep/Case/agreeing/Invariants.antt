@@ -2,5 +2,5 @@
 use Rattle.std.proofs.Common.{◌≤◌}
 use Rattle.try_settings.proofs.sweep.Case.agreeing.Given as goal
 
-abbrev pub invariant-loop-number : goal.invariant-loop-number
-invariant-loop-number l = l.agreed ≤ l.number
+abbrev pub invariant-loop-wished : goal.invariant-loop-wished
+invariant-loop-wished l = l.agreed ≤ l.wished-counter
