@@ -1,4 +1,4 @@
--- Replies and decisions as the program holds them: bytes at the front of an array, zeros after them. Assumes nothing.
+-- Replies and decisions as the program holds them: a reply's data as few bytes, with zeros after them up to 35. Assumes nothing.
 use Rattle.std.specs.Prelude.{ℕ, List}
 use Rattle.paper.specs.Numbers as paper
 use Rattle.spans.specs.Few.{few}

@@ -97,7 +97,7 @@ abbrev pub AllowedIsAnswered : Type 0
 AllowedIsAnswered = (core : Core) (command : ℕ) (bytes : List ℕ) → (core_allowed core ≡ false) ↔ (number_of (answering core command bytes).outcome ≡ some 12)
 
 -- 7. The public call's answer holds what is decided: the outcome, the core, and the reply as nothing, as the error frame, or as a command with
--- its data at the front of an array of 35 bytes, the rest of which is 0.
+-- its data as few bytes, at the front of 35, the rest of which are 0.
 abbrev pub held : ℕ → List ℕ → Message
 held command bytes = record { command = command; bytes = record { len = length bytes; bytes = bytes ++ drop (length bytes) (replicate 35 0) } }
 

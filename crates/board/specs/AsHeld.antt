@@ -16,7 +16,8 @@ use Rattle.board.specs.Calls.{error_frame, heard_by, unanswered}
 use Rattle.board.specs.declared.Board.{Board}
 use Rattle.board.specs.declared.Answered.{Answered}
 
--- What is sent for a refusal of the stream: under 12, which is the call's and no frame's, nothing.
+-- What is sent for a refusal of the stream: under 12, which is the call's and no frame's, nothing. (11 is the call's too, and is given to no board,
+-- which always lends the stream 35 bytes; it has no line here.)
 abbrev pub fault_reply : Refusal → Sent
 fault_reply Refusal.NotAllowed = silent
 fault_reply refusal = error

@@ -55,7 +55,7 @@ pub data Asked : List ℕ → Type 0 where
   a_get : (k : ℕ) → k < count → Asked (get_request (id_at k))
   a_set : (k n : ℕ) → k < count → Asked (set_request k n)
 
--- "refuses everything": with any number, whatever it writes and leaves
+-- "refuses everything": with any refusal, whatever it writes and leaves
 pub record RefusesAll (answer : Board → List ℕ → ℕ → Given Answered) : Type 0 where
   pub why : Board → List ℕ → ℕ → Refusal
   pub refuses : (board : Board) (request : List ℕ) (room : ℕ) → board_allowed board ≡ true → frame_room ≤ room → Asked request
@@ -150,7 +150,7 @@ pub record ShamsFall : Type 0 where
   pub counts_unheard_falls : (count : Table → Table → ℕ → ℕ) → Counts (unheard count) → ⊥
   pub digits_left_falls : HearsWritten leaves_digits → ⊥
 
--- A board that refuses every call by some number and takes nothing decides, as was said beside `Decides`; it is a RefusesAll.
+-- A board that refuses every call by some refusal and takes nothing decides, as was said beside `Decides`; it is a RefusesAll.
 abbrev pub RefusingDecides : Type 0
 RefusingDecides = (why : Refusal) → Decides (plainly (λ board piece room. unanswered board why))
 

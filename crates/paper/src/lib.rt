@@ -1,5 +1,6 @@
-// The numbers that document 01 fixes for more than one crate: refusals, frames, codes, flags and read-only ids. specs/Numbers.antt has the
-// same names with the paper's words beside them, and every call that gives or compares one promises it by that name.
+// The numbers that document 01 fixes for more than one crate: refusals, frames, codes, flags and read-only ids. specs/Numbers.antt has each
+// with the paper's words beside it, in small letters: a number under its own name, and a refusal as `too_long` for `TooLong`. Promises have
+// those names.
 #![tactic(auto)]
 
 ghost use Rattle.std.specs.Prelude.{◌≡◌};

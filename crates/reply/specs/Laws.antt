@@ -76,8 +76,8 @@ abbrev pub ReadIsSaid : Type 0
 ReadIsSaid = (status : Status) (id : ℕ) (bytes : List ℕ) → Bytes bytes → Told status id bytes
 
 -- 3. What a frame says to the request of a code and an id that is due, in bytes. Replies of three codes have a status: to a request of one of
--- these it is good exactly where the command is the code asked and the data are the id, flag 00 and a value; bad where the flag is that of
--- another status; and everything else waits, as everything does to a request of another code.
+-- these it is good exactly where the command is the code asked and the data are the id, flag 00 and a value; another status where the flag is
+-- that status's; and none everywhere else, as to a request of another code: the box waits on.
 abbrev pub has_status : ℕ → Bool
 has_status code = eqb code paper.get_code || (eqb code paper.set_code || eqb code paper.async_code)
 
@@ -90,7 +90,7 @@ pub data Says (code id command : ℕ) (bytes : List ℕ) : Heeded → Type 0 whe
 abbrev pub HeedIsSaid : Type 0
 HeedIsSaid = (code id command : ℕ) (bytes : List ℕ) → id < 256 ^ 2 → Bytes bytes → Says code id command bytes (heeding code id command bytes)
 
--- What does not wait is what answers the request, by the one test of its bytes that Events.antt has.
+-- To a request of such a code a frame has a status exactly where it answers it, by the one test of its bytes that Events.antt has,
 abbrev pub HeededIsAnswer : Type 0
 HeededIsAnswer =
     (code id command : ℕ) (bytes : List ℕ) → has_status code ≡ true → id < 256 ^ 2 → Bytes bytes
