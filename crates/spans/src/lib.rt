@@ -1,4 +1,4 @@
-// Bytes copied and searched. Every call takes anything.
+// Bytes copied and searched by their kind (`Kind`), and a few of them in an array of fixed room (`Few`). Every call takes anything.
 #![tactic(auto)]
 
 ghost use Rattle.std.specs.Prelude.{ℕ, Bool, ◌≤◌, ◌≡◌, ◌==◌, ◌&&◌, eqb, leb, length, min, take, ◌++◌};
