@@ -6,7 +6,8 @@ use paper::Refusal;
 use ports::{Report, System};
 use settings::COUNT;
 
-// How long the first line of a backup text is.
+// How long the first line of a backup text is. `backup` keeps its own: the clause `parsing` of `backup::read` has the
+// table and the verdict alone.
 const HEADER_LEN: usize = 12;
 
 // Says whether the file is good, or what is wrong in it and where.
@@ -62,8 +63,8 @@ fn put_range(line: Line, row: usize) -> Line {
     names::put_range(title, index)
 }
 
-// Returns the number of the setting at a place, in a text whose lines are good; 0 where the text has none.
-fn number_at(text: &[u8], place: usize) -> u16 {
+// Returns the number of the setting at a place, in a text whose lines are good.
+fn number_at(text: &[u8], place: usize) -> Option<u16> {
     let mut rest = text.get(HEADER_LEN..).unwrap_or_default();
     for index in 0..place {
         rest = match rows::judge(rest, index) {
@@ -71,13 +72,16 @@ fn number_at(text: &[u8], place: usize) -> u16 {
             Err(_) => &[],
         };
     }
-    rows::judge(rest, place).map_or(0, |judged| judged.number)
+    rows::judge(rest, place).ok().map(|judged| judged.number)
 }
 
 // Returns whether the setting at a place agrees with its partner.
 fn agrees(text: &[u8], index: usize) -> bool {
     let partner = settings::setting_at(index).partner;
-    settings::allows(index, number_at(text, index), number_at(text, partner))
+    match (number_at(text, index), number_at(text, partner)) {
+        (Some(number), Some(other)) => settings::allows(index, number, other),
+        _ => false,
+    }
 }
 
 // Puts the first pair that disagrees, with both numbers.
@@ -91,6 +95,10 @@ fn put_pair(line: Line, text: &[u8]) -> Line {
 }
 
 // Puts a setting and its number.
-fn put_held(line: Line, index: usize, number: u16) -> Line {
-    names::put_amount(names::put_title(line, index).put(b" "), index, number)
+fn put_held(line: Line, index: usize, number: Option<u16>) -> Line {
+    let titled = names::put_title(line, index).put(b" ");
+    match number {
+        Some(number) => names::put_amount(titled, index, number),
+        None => titled,
+    }
 }

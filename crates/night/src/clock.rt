@@ -9,7 +9,8 @@ const ROOM: usize = 32;
 // A number of hundredths has at most twelve digits.
 const MOST: u64 = 1000000000000;
 
-// Returns the digits before the first blank as a number, which are hundredths of a second: two follow the point.
+// Returns the digits before the first blank as a number, which are hundredths of a second: two follow the point. `str::parse` would want
+// the point taken out first, and a text that fits a number.
 fn hundredths(text: &[u8]) -> u64 {
     let mut number = 0;
     for c in text {
@@ -22,13 +23,14 @@ fn hundredths(text: &[u8]) -> u64 {
     number
 }
 
-// Returns the time in milliseconds; 0 where there is no clock, which it says.
-pub(crate) fn time(system: System) -> u64 {
+// Returns the time in milliseconds; none where there is no clock, which it says, and none at 0, where it does not run.
+pub(crate) fn time(system: System) -> Option<u64> {
     match read(system) {
-        Ok(time) => time,
+        Ok(0) => None,
+        Ok(time) => Some(time),
         Err(error) => {
             ports::fail(system, b"no clock: /proc/uptime", error);
-            0
+            None
         }
     }
 }

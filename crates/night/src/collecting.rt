@@ -40,8 +40,8 @@ impl Machine for Collected {
     }
 }
 
-// Reads all settings of the board, and shows each as it comes where that is wished.
-pub(crate) fn settings_of(ends: &Ends, shown: bool) -> Talk<Collected> {
+// Reads all settings of the board, and shows each as it comes in the report, if one is given.
+pub(crate) fn settings_of(ends: &Ends, shown: Option<Report>) -> Talk<Collected> {
     Talk::start(Collector::start(), ends.begun).whole(ends, shown)
 }
 

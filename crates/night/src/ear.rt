@@ -8,7 +8,8 @@ use spans::Few;
 // The listener's time is over long before there are this many turns.
 const MOST_TURNS: u32 = 1000000000;
 
-// The data of a frame; none of what is no frame.
+// The data of a frame; none of what is no frame. A frame without data says as little (under three bytes there is no reply), so no `Option`
+// tells the two apart.
 pub(crate) type Said = Few<MOST_DATA>;
 
 // What was told, what was said with it, and whether nothing more can come.
@@ -35,9 +36,8 @@ pub(crate) fn silence(listener: Listener, ended: bool) -> News {
 fn once(ends: &Ends, listener: Listener) -> News {
     let mut byte = [0; 1];
     let got = ports::read(&ends.port, &mut byte);
-    let now = clock::time(ends.system);
-    match got {
-        Ok(len) if now != 0 && (len != 0 || ports::is_terminal(&ends.port)) => {
+    match (got, clock::time(ends.system)) {
+        (Ok(len), Some(now)) if len != 0 || ports::is_terminal(&ends.port) => {
             heard(listener, &byte[..len], now)
         }
         _ => silence(listener, true),
@@ -48,6 +48,7 @@ fn once(ends: &Ends, listener: Listener) -> News {
 fn heard(listener: Listener, piece: &[u8], now: u64) -> News {
     let mut said = Said::of(&[]);
     let listened = listener.read(piece, now, &mut said.bytes);
+    // `Said::of(&room[..frame.len])` was tried: the proof that the length fits did not close.
     if let Told::Frame(frame) = listened.told {
         said.len = frame.len;
     }

@@ -141,6 +141,7 @@ fn write_new(system: System, name: &mut [u8], text: &[u8]) -> io::Result<()> {
 }
 
 // Keeps an old text beside the new one, and then replaces it. Where that fails, nothing is left beside it.
+// (Ends, path, text and table come apart here and below: a value of the four would be made in `keep` alone and taken apart in each.)
 fn set_aside(ends: &Ends, path: &[u8], old: &[u8], text: &[u8], table: Table) -> Kept {
     let system = ends.system;
     let mut room = ports::buffer();
@@ -198,7 +199,8 @@ fn keep_text(ends: &Ends, path: &[u8], text: &[u8], table: Table) -> Kept {
     }
 }
 
-// Keeps a table as a backup text.
+// Keeps a table as a backup text. That `len` fits the room follows from the promise of `backup::write` only through the texts' lengths,
+// hence `get`.
 pub(crate) fn keep(ends: &Ends, path: &[u8], table: Table) -> Kept {
     let mut room = [0; paper::TEXT_ROOM];
     match backup::write(table, &mut room) {

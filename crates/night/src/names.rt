@@ -43,6 +43,7 @@ macro_rules! shown {
     };
 }
 
+// In the places of the settings' table: the paper's columns are in `settings`, and these words are the program's alone.
 const SHOWN: [Shown; COUNT] = [
     shown!(b"low voltage alarm", Volts, 1, off), // 0320
     shown!(b"low voltage clear", Volts, 1), // 0321
@@ -78,7 +79,7 @@ pub(crate) fn put_byte(line: Line, byte: u8) -> Line {
     line.put(&[pair.high, pair.low])
 }
 
-// Puts the id of the setting at a place.
+// Puts the id of the setting at a place, by `put_byte` as flags are put: a call of `wire` for two bytes would be no shorter here.
 fn put_id(line: Line, index: usize) -> Line {
     match settings::at(index) {
         Some(setting) => {
@@ -112,7 +113,8 @@ fn put_unit(line: Line, unit: Unit, number: u16) -> Line {
     }
 }
 
-// Puts a number of steps in the setting's unit: `12.0 V`.
+// Puts a number of steps in the setting's unit: `12.0 V`. Each of these looks its place up: whoever calls has a place (a row of a file, a
+// partner, a counter) and no `Shown`, and of a place past the table nothing is put.
 pub(crate) fn put_amount(line: Line, index: usize, number: u16) -> Line {
     match SHOWN.get(index) {
         Some(shown) if shown.off && number == 0 => line.put(b"off"),
@@ -135,7 +137,8 @@ fn put_ends(line: Line, index: usize, least: u16, most: u16) -> Line {
     }
 }
 
-// Puts a setting's own range: `1 to 9999 Ah`. A temperature is 0 or in a range that begins further up.
+// Puts a setting's own range: `1 to 9999 Ah`. A temperature is 0 or in a range that begins further up. The ends are searched, since
+// `settings` tells none: they are asked of `in_range` (DECISIONS 18).
 pub(crate) fn put_range(line: Line, index: usize) -> Line {
     let in_range = |number: &u16| settings::in_range(index, *number);
     let least = (1..u16::MAX).find(in_range).unwrap_or(u16::MAX);

@@ -8,59 +8,61 @@ use tables::Table;
 
 // `night restore LINE FILE`.
 pub(crate) fn run(system: System) {
-    begin(system, true);
+    let Some(ends) = serial::first(system) else {
+        return;
+    };
+    if let Some((from, to)) = compared(&ends) {
+        let restored = restoring::follow(&ends, from, to, Some(ends.report));
+        restoring::tell_end(ends.report, &restored);
+    }
 }
 
 // `night plan LINE FILE`.
 pub(crate) fn plan(system: System) {
-    begin(system, false);
-}
-
-// Opens the serial line first: where the two arguments are swapped, the device is not read as a file.
-fn begin(system: System, sends: bool) {
-    if let Some(ends) = serial::first(system) {
-        put_back(&ends, sends);
+    let Some(ends) = serial::first(system) else {
+        return;
+    };
+    if let Some((from, to)) = compared(&ends) {
+        words::tell(ends.report, planned(from, to));
     }
 }
 
-// Reads the file and, if it is good, goes on.
-fn put_back(ends: &Ends, sends: bool) {
+// Returns the board's table and the file's, and shows the list of what differs; none where one of the two was not read, and says why. The
+// serial line is open before: where the two arguments are swapped, the device is not read as a file.
+fn compared(ends: &Ends) -> Option<(Table, Table)> {
+    let to = wanted(ends)?;
+    words::say(ends.report, b"reading the board");
+    let read = collecting::settings_of(ends, None);
+    match read.machine.stage {
+        Stage::Done => {
+            restoring::show_list(ends.report, read.machine.table, to);
+            Some((read.machine.table, to))
+        }
+        _ => {
+            collecting::tell_end(ends.report, &read);
+            None
+        }
+    }
+}
+
+// Returns the table of the file, if it is good.
+fn wanted(ends: &Ends) -> Option<Table> {
     let mut path = ports::buffer();
     let mut text = ports::buffer();
     let path = words::arg(ends.system, words::SECOND, &mut path);
     let Some(text) = file::read(ends.system, path, &mut text) else {
         words::say(ends.report, b"nothing was sent: the file cannot be read");
-        return;
+        return None;
     };
     let backup = backup::read(text);
-    match backup.verdict {
-        Ok(()) => meet(ends, backup.table, sends),
-        Err(_) => checks::tell(ends.report, text),
+    if backup.verdict.is_err() {
+        checks::tell(ends.report, text);
+        return None;
     }
+    Some(backup.table)
 }
 
-// Reads the board's settings, and goes on if all were answered.
-fn meet(ends: &Ends, to: Table, sends: bool) {
-    words::say(ends.report, b"reading the board");
-    let read = collecting::settings_of(ends, false);
-    match read.machine.stage {
-        Stage::Done => list(ends, read.machine.table, to, sends),
-        _ => collecting::tell_end(ends.report, &read),
-    }
-}
-
-// Shows the list, and sends it where that is wished.
-fn list(ends: &Ends, from: Table, to: Table, sends: bool) {
-    restoring::show_list(ends.report, from, to);
-    if sends {
-        let restored = restoring::follow(ends, from, to, true);
-        restoring::tell_end(ends.report, &restored);
-    } else {
-        words::tell(ends.report, planned(from, to));
-    }
-}
-
-// Returns what a restore would do.
+// Returns what a restore would do; `restore::sets_due` has a promise for any two tables.
 fn planned(from: Table, to: Table) -> Line {
     let line = Line::start();
     match restore::sets_due(from, to) {

@@ -58,7 +58,7 @@ fn plan(report: Report, from: Table, wanted: Wanted) {
     }
 }
 
-// Shows the list, in the order in which it is sent.
+// Shows the list, in the order in which it is sent. (Two tables, as `restore::due_after` takes them: its promise is of any two.)
 pub(crate) fn show_list(report: Report, from: Table, to: Table) {
     for done in 0..settings::COUNT {
         let Ok(Some(wanted)) = restore::due_after(from, to, done) else {
@@ -68,8 +68,9 @@ pub(crate) fn show_list(report: Report, from: Table, to: Table) {
     }
 }
 
-// Turns the board's table `from` into `to`, and shows what is confirmed where that is wished.
-pub(crate) fn follow(ends: &Ends, from: Table, to: Table, shown: bool) -> Talk<Followed> {
+// Turns the board's table `from` into `to`, and shows what is confirmed in the report, if one is given. (Two
+// tables, as `Follower::start` takes them: its promise is of any two.)
+pub(crate) fn follow(ends: &Ends, from: Table, to: Table, shown: Option<Report>) -> Talk<Followed> {
     Talk::start(Follower::start(from, to), ends.begun).whole(ends, shown)
 }
 

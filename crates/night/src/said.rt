@@ -37,7 +37,8 @@ pub(crate) fn put_stop(line: Line, wanted: Wanted, said: &[u8]) -> Line {
     }
 }
 
-// Puts the number that a pair's other setting holds, which was read before.
+// Puts the number that a pair's other setting holds, which was read before. (The numbers come apart from the setting whose number is told:
+// here it is another one's.)
 fn put_partner(line: Line, numbers: &[u16; COUNT], partner: usize) -> Line {
     match numbers.get(partner) {
         Some(number) => {

@@ -1,6 +1,6 @@
 // `night save LINE FILE`.
 use crate::serial::Ends;
-use crate::{collecting, file, serial, whose, words};
+use crate::{collecting, file, serial, talk, whose, words};
 use collect::{Collected, Collector, Stage};
 use ports::{Report, System};
 use sentences::Kept;
@@ -27,7 +27,7 @@ fn unsaved(report: Report) {
 
 // Reads all settings, and writes the file where all were read.
 fn save(ends: &Ends, path: &[u8]) {
-    let read = collecting::settings_of(ends, true);
+    let read = collecting::settings_of(ends, Some(ends.report));
     collecting::tell_end(ends.report, &read);
     let collected = read.machine;
     let kept = match collected.stage {
@@ -39,7 +39,7 @@ fn save(ends: &Ends, path: &[u8]) {
 
 // Writes the file, and notes the board's serial beside it.
 fn keep(ends: &Ends, collected: Collected, path: &[u8]) -> Kept {
-    let serial = whose::ask(ends);
+    let serial = whose::ask(ends, talk::MOST_REQUESTS);
     let kept = file::keep(ends, path, collected.table);
     if kept != Kept::Not {
         file::note(ends, path, serial);

@@ -2,16 +2,17 @@
 use crate::{clock, words};
 use ports::{Port, Report, System};
 
-// Where to read, to write and to report, and when it was opened.
+// Where to read, to write and to report, and when it was opened, if there is a clock.
 #[derive(Drop)]
 pub(crate) struct Ends {
     pub(crate) port: Port,
     pub(crate) system: System,
     pub(crate) report: Report,
-    pub(crate) begun: u64,
+    pub(crate) begun: Option<u64>,
 }
 
-// Why a serial line is not open: it is a file, or the system's number for its reason.
+// Why a serial line is not open: it is a file, or the system's number for its reason (`words::put_reason` tells by numbers, since EACCES and
+// EPERM are one `ErrorKind`).
 #[derive(Clone, Copy)]
 pub(crate) enum NotOpen {
     File,

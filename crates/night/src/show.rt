@@ -10,7 +10,7 @@ pub(crate) fn run(system: System) {
         return;
     };
     let viewed = Talk::start(Viewer::start(), ends.begun)
-        .whole(&ends, true)
+        .whole(&ends, Some(ends.report))
         .machine;
     if let Next::Silent(_) = viewed.next {
         words::say(ends.report, b"no answer: look at the line and its plug");

@@ -22,7 +22,7 @@ pub(crate) trait Machine: Copy {
     // Returns how many requests were answered in the way that it needs.
     fn count(&self) -> usize;
 
-    // Returns it after a frame.
+    // Returns it after a frame. The machines' public calls take the command and the bytes apart, since an event holds no slice.
     fn after_frame(&self, command: u8, bytes: &[u8]) -> Self;
 
     // Returns it after what was no frame.
@@ -45,7 +45,7 @@ pub(crate) struct Talk<M> {
     pub(crate) said: Said,
 }
 
-// Sends a request.
+// Sends a request. That `len` fits the frame follows from the promise of `requests::write` only through the texts' lengths, hence `get`.
 fn ask(line: &Port, request: Request) {
     let mut frame = [0; paper::FRAME_ROOM];
     if let Ok(len) = requests::write(request, &mut frame) {
@@ -54,11 +54,12 @@ fn ask(line: &Port, request: Request) {
 }
 
 impl<M: Machine> Talk<M> {
-    // Returns a talk with a trailer that was begun at this time, in which nothing was sent yet.
-    pub(crate) fn start(machine: M, begun: u64) -> Talk<M> {
+    // Returns a talk with a trailer that was begun at this time, in which nothing was sent yet. Without a clock nothing is heard of
+    // it, whatever its time.
+    pub(crate) fn start(machine: M, begun: Option<u64>) -> Talk<M> {
         Talk {
             machine,
-            listener: Listener::start(begun),
+            listener: Listener::start(begun.unwrap_or(0)),
             silent: false,
             ended: false,
             said: Said::of(&[]),
@@ -93,7 +94,7 @@ impl<M: Machine> Talk<M> {
     // Listens until the request that was sent is answered or the talk has ended. A request that is still open then has got no answer.
     fn answer(&mut self, ends: &Ends) {
         let before = self.machine.count();
-        self.listener = self.listener.asked(clock::time(ends.system));
+        self.listener = self.listener.asked(clock::time(ends.system).unwrap_or(0));
         self.silent = false;
         for _ in 0..MOST_EVENTS {
             if !self.waits(before) {
@@ -106,9 +107,9 @@ impl<M: Machine> Talk<M> {
         }
     }
 
-    // Sends what is due, hears what becomes of it, and shows that where it is wished; does nothing where the machine has ended. Where
-    // nothing more can come, there is nobody to send to.
-    pub(crate) fn further(&mut self, ends: &Ends, shown: bool) {
+    // Sends what is due, hears what becomes of it, and shows that in the report, if one is given; does nothing where the machine has ended.
+    // Where nothing more can come, there is nobody to send to.
+    pub(crate) fn further(&mut self, ends: &Ends, shown: Option<Report>) {
         if self.ended {
             self.hear_silence();
             return;
@@ -119,13 +120,16 @@ impl<M: Machine> Talk<M> {
         };
         ask(&ends.port, request);
         self.answer(ends);
-        if shown && self.machine.count() != before.count() {
-            before.show(&self.machine, self.said.as_slice(), ends.report);
+        match shown {
+            Some(report) if self.machine.count() != before.count() => {
+                before.show(&self.machine, self.said.as_slice(), report)
+            }
+            _ => {}
         }
     }
 
     // Leads the talk to its end.
-    pub(crate) fn whole(mut self, ends: &Ends, shown: bool) -> Talk<M> {
+    pub(crate) fn whole(mut self, ends: &Ends, shown: Option<Report>) -> Talk<M> {
         for _ in 0..MOST_REQUESTS {
             self.further(ends, shown);
         }

@@ -1,7 +1,6 @@
 // The serial of a board, by the Get of 010A. What a serial is, and how often it is asked for, `view` decides. A board that told none has
 // none here.
 use crate::serial::Ends;
-use crate::talk;
 use crate::talk::Talk;
 use lines::Line;
 use view::{Next, Sight, Viewed, Viewer};
@@ -30,21 +29,15 @@ fn is_due(viewed: Viewed) -> bool {
     matches!(viewed.next, Next::Waiting(paper::SERIAL_ID))
 }
 
-// Asks a board for its serial, where it is needed.
-pub(crate) fn ask(ends: &Ends) -> Option<Line> {
+// Asks a board for its serial, at most so many times. Where the serial is only shown, once is enough: a dead board would keep the box
+// waiting for the same silence twice.
+pub(crate) fn ask(ends: &Ends, most: usize) -> Option<Line> {
     let mut talk = Talk::start(due(), ends.begun);
-    for _ in 0..talk::MOST_REQUESTS {
+    for _ in 0..most {
         if !is_due(talk.machine) {
             break;
         }
-        talk.further(ends, false);
+        talk.further(ends, None);
     }
-    in_talk(&talk)
-}
-
-// Asks a board for its serial once, where it is only shown: a dead board would keep the box waiting for the same silence twice.
-pub(crate) fn ask_once(ends: &Ends) -> Option<Line> {
-    let mut talk = Talk::start(due(), ends.begun);
-    talk.further(ends, false);
     in_talk(&talk)
 }

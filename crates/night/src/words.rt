@@ -16,7 +16,8 @@ const MOST_NAME: usize = 32;
 
 const NAME_END: usize = 15;
 
-// Reasons of the system, by its numbers, since one `ErrorKind` stands for several; and the largest number that one is told by.
+// Reasons of the system, by its numbers, since one `ErrorKind` stands for several (EACCES and EPERM are one); and the largest number that
+// one is told by.
 const NOTHING_THERE: i32 = 2;
 
 const IO: i32 = 5;
@@ -60,7 +61,7 @@ pub(crate) fn say(report: Report, text: &[u8]) {
     end(report);
 }
 
-// Writes a line of the report.
+// Writes a line of the report. With `say` and `put` alone, each call with a `Line` would have to end in `.text.as_slice()`, as this one.
 pub(crate) fn tell(report: Report, line: Line) {
     say(report, line.text.as_slice());
 }
@@ -92,7 +93,8 @@ pub(crate) fn short(report: Report, name: &[u8]) {
     put(report, &name[name.len() - NAME_END..]);
 }
 
-// Puts the system's reason, by its number.
+// Puts the system's reason, by its number. A row of the report has these eight in words and any other as `error N`, where `Display` (and so
+// `ports::fail`) has words for every number: what is printed must stay.
 pub(crate) fn put_reason(line: Line, error: i32) -> Line {
     match error {
         NOTHING_THERE => line.put(b"No such file or directory"),
@@ -114,13 +116,13 @@ pub(crate) fn is_blank(c: u8) -> bool {
     matches!(c, b' ' | b'\t' | b'\r' | b'\n')
 }
 
-// Returns a text without the blanks at its front.
+// Returns a text without the blanks at its front: `trim_ascii_start` would take a form feed too, and what is printed would change.
 pub(crate) fn past_blanks(text: &[u8]) -> &[u8] {
     let start = text.iter().position(|c| !is_blank(*c));
     &text[start.unwrap_or(text.len())..]
 }
 
-// Returns a text without the blanks at its end.
+// Returns a text without the blanks at its end: `trim_ascii_end` would take a form feed too.
 pub(crate) fn filled(text: &[u8]) -> &[u8] {
     match text.iter().rposition(|c| !is_blank(*c)) {
         Some(last) => &text[..last + 1],

@@ -4,7 +4,7 @@ use crate::file::Unread;
 use crate::list::{Row, Trailer};
 use crate::serial::{Ends, NotOpen};
 use crate::talk::Talk;
-use crate::{checks, collecting, file, list, restoring, serial, whose, words};
+use crate::{checks, collecting, file, list, restoring, serial, talk, whose, words};
 use collect::{Collected, Stage};
 use lines::Line;
 use ports::{Report, System};
@@ -14,13 +14,14 @@ use tally::{Counted, Tally};
 // The most rows of a list that fits its buffer: each but the last ends in a newline.
 const MOST_ROWS: usize = 65536;
 
-// The sums so far, the system, where the report goes, whether there is a table for machines too, and whether this is the last round.
+// The sums so far, the system, where the report goes, where the table for machines goes, if there is one, and whether this is the last round
+// (`tally::begins_anew` asks for it).
 #[derive(Clone, Copy)]
 struct Sheet {
     tally: Tally,
     system: System,
     report: Report,
-    table: bool,
+    table: Option<Report>,
     last: bool,
 }
 
@@ -36,20 +37,20 @@ enum Way {
 
 // `night yard LIST`.
 pub(crate) fn run(system: System) {
-    begin(system, ports::output(system), false);
+    begin(system, ports::output(system), None);
 }
 
 // `night yard LIST tsv`.
 pub(crate) fn run_table(system: System) {
     let mut room = ports::buffer();
     match words::arg(system, words::SECOND, &mut room) {
-        b"tsv" => begin(system, ports::error(system), true),
+        b"tsv" => begin(system, ports::error(system), Some(ports::output(system))),
         _ => words::usage(system),
     }
 }
 
 // Begins only with a list that was read whole: a trailer past what was read would be left out without a word.
-fn begin(system: System, report: Report, table: bool) {
+fn begin(system: System, report: Report, table: Option<Report>) {
     let mut room = ports::large_buffer();
     let sheet = Sheet {
         tally: Tally::nothing(),
@@ -75,6 +76,7 @@ fn work(mut sheet: Sheet, list: &[u8]) {
         words::say(sheet.report, line);
         return;
     }
+    // No heap: a mark for each row that there can be.
     let mut left = [true; MOST_ROWS];
     sheet.round(list, &mut left);
     sheet.last = true;
@@ -82,7 +84,8 @@ fn work(mut sheet: Sheet, list: &[u8]) {
     words::tell(sheet.report, sentences::summed(sheet.tally));
 }
 
-// Returns the way in which a trailer was counted, by the sums before and after it; none where it was not.
+// Returns the way in which a trailer was counted, by the sums before and after it; none where it was not. `Counted` does not tell it: its
+// clause `counting` has the sums and a verdict alone.
 fn way_of(before: Tally, after: Tally) -> Option<Way> {
     if before.done < after.done {
         Some(Way::Done)
@@ -137,6 +140,7 @@ fn tell_columns(out: Report, name: &[u8], serial: Option<Line>, before: Tally, a
     words::tell(out, counts.put(b"\t").put_number(due));
 }
 
+// Name and serial come apart: in `trailer` and `meet` there is a name without a serial, and a value of both would be made at each call.
 impl Sheet {
     // Restores the trailers of a list, a row each, as far as they are left; and notes which are left then, since none was counted: the row
     // has none, or its trailer is begun anew in the last round.
@@ -180,8 +184,7 @@ impl Sheet {
 
     // Ends the row of a trailer, and takes the sums with it. A trailer that the sums refuse is told, so that none is lost without a word.
     fn finish(&mut self, name: &[u8], serial: Option<Line>, counted: Counted) {
-        if self.table {
-            let out = ports::output(self.system);
+        if let Some(out) = self.table {
             tell_columns(out, name, serial, self.tally, counted.tally);
         }
         if counted.verdict.is_err() {
@@ -245,10 +248,10 @@ impl Sheet {
     // Asks the board for its serial, and goes on if it is the board that the row expects, if it expects one.
     fn meet(&mut self, trailer: Trailer, ends: &Ends, to: Table) {
         let Some(wanted) = trailer.serial else {
-            self.restore(trailer.name, ends, whose::ask_once(ends), to);
+            self.restore(trailer.name, ends, whose::ask(ends, 1), to);
             return;
         };
-        let serial = whose::ask(ends);
+        let serial = whose::ask(ends, talk::MOST_REQUESTS);
         match serial {
             Some(line) if line.text.as_slice() == wanted => {
                 self.restore(trailer.name, ends, serial, to)
@@ -260,7 +263,7 @@ impl Sheet {
 
     // Reads the board's settings, and restores it if all were answered.
     fn restore(&mut self, name: &[u8], ends: &Ends, serial: Option<Line>, to: Table) {
-        let read = collecting::settings_of(ends, false);
+        let read = collecting::settings_of(ends, None);
         match read.machine.stage {
             Stage::Done => self.follow(name, ends, serial, read.machine.table, to),
             _ => self.unread(name, serial, &read),
@@ -283,7 +286,7 @@ impl Sheet {
     // Follows the restore, tells its end, and counts the follower's own result; one that is begun anew at the end of the round is counted
     // then.
     fn follow(&mut self, name: &[u8], ends: &Ends, serial: Option<Line>, from: Table, to: Table) {
-        let restored = restoring::follow(ends, from, to, false);
+        let restored = restoring::follow(ends, from, to, None);
         let follower = restored.machine.follower;
         let answered = !restored.said.as_slice().is_empty();
         if tally::begins_anew(follower, answered, self.last) {
