@@ -7,7 +7,7 @@ use backup::BadText;
 use lines::Line;
 use settings::COUNT;
 
-// Puts a refusal and, unless it is 0, the line of the text that it is about.
+// Puts a refusal and, unless it is 0 (document 01's line for 17 and 18), the line of the text that it is about.
 #[tactic(auto, using(lines::proofs::Adding::further), unfolding(crate::specs::Texts::refusal_text))]
 fn put_refusal(line: Line, why: BadText) -> Line
     ensures { result ≡ adding line (refusal_text why.refusal why.line) }

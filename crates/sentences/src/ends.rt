@@ -1,8 +1,8 @@
 ghost use Rattle.std.specs.Prelude.{◌≡◌};
 ghost use Rattle.std.specs.Result.{result_unwrap_or};
 ghost use Rattle.restore.specs.Calls.{sets_due};
-ghost use Rattle.lines.specs.Lines.{adding, chars};
-ghost use Rattle.sentences.specs.Texts.{of_text, stopped_text, end_text, followed_text, progress_text};
+ghost use Rattle.lines.specs.Lines.{adding};
+ghost use Rattle.sentences.specs.Texts.{stopped_text, end_text, followed_text, progress_text};
 
 use crate::parts;
 use follow::{Follower, Standing};
@@ -21,27 +21,22 @@ fn put_stopped(line: Line, confirmed: usize, due: usize) -> Line
     )
 }
 
-// Puts how many settings are confirmed, after a word.
-fn put_settings(line: Line, before: &[u8], confirmed: usize, due: usize) -> Line
-    ensures { result ≡ adding line (of_text before.now confirmed due (chars " settings confirmed")) }
-{
-    parts::put_of(line, before, confirmed, due, b" settings confirmed")
-}
-
-// Puts how far a follower is.
+// Puts how far a follower is. (The two numbers are those of the clause, `end_text`.)
 fn put_end(line: Line, standing: Standing, confirmed: usize, due: usize) -> Line
     ensures { result ≡ adding line (end_text standing confirmed due) }
 {
     match standing {
-        Standing::Waiting(_) => put_settings(line, b"not ended: ", confirmed, due),
+        Standing::Waiting(_) => {
+            parts::put_of(line, b"not ended: ", confirmed, due, b" settings confirmed")
+        }
         Standing::Equal => line.put(b"equal: nothing to set"),
-        Standing::Done => put_settings(line, b"done: ", confirmed, due),
+        Standing::Done => parts::put_of(line, b"done: ", confirmed, due, b" settings confirmed"),
         Standing::Stopped(_) => put_stopped(line, confirmed, due),
         Standing::Refused(refusal) => parts::put_refused(line, refusal),
     }
 }
 
-// Returns how many Sets the list of a follower has, and 0 where there is none.
+// Returns how many Sets the list of a follower has, and 0 where there is none: its sentence is a refusal then, and prints no number.
 fn due_of(follower: Follower) -> usize
     ensures { result ≡ result_unwrap_or (sets_due follower.from follower.to) 0 }
 {

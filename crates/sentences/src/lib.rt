@@ -80,7 +80,8 @@ pub fn summed(tally: Tally) -> Line
     sums::put_sums(Line::start(), tally)
 }
 
-// Returns what a frame says to a viewer of the value that is due, in its unit; an empty line where it says nothing of it.
+// Returns what a frame (its command and its data, as in the clause) says to a viewer of the value that is due, in its unit; an empty line
+// where it says nothing of it.
 pub fn seen(viewer: Viewer, command: u8, bytes: &[u8]) -> Line
     ensures { result ≡ line_of (seen_text viewer command bytes.now) }
 {

@@ -15,7 +15,7 @@ fn put_settings(line: Line, before: &[u8], answered: usize, due: usize) -> Line
     parts::put_of(line, before, answered, due, b" settings read")
 }
 
-// Puts how many settings were read, by how far a collector is.
+// Puts how many settings were read, by how far a collector is. (The two numbers are those of the clause, `read_text`.)
 fn put_read(line: Line, stage: Stage, answered: usize, due: usize) -> Line
     ensures { result ≡ adding line (read_text stage answered due) }
 {

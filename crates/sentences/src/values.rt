@@ -8,7 +8,8 @@ ghost use Rattle.sentences.specs.Values.{word_text, strange_text, serial_text, a
 use lines::Line;
 use spans::Byte;
 
-// Puts two bytes in four digits, between words.
+// Puts two bytes in four digits, between words. (`rows` puts four digits and a tab: a call of `wire` for the two would be these lines, with a
+// clause and a proof besides.)
 #[tactic(auto, using(lines::proofs::Adding::further), unfolding(crate::specs::Values::word_text))]
 fn put_word(line: Line, before: &[u8], high: u8, low: u8, after: &[u8]) -> Line
     ensures { result ≡ adding line (word_text before.now high low after.now) }
@@ -20,7 +21,7 @@ fn put_word(line: Line, before: &[u8], high: u8, low: u8, after: &[u8]) -> Line
         .put(after)
 }
 
-// Puts that the answer of an id is not understood.
+// Puts that the answer of an id is not understood. (Its two bytes are said as in the clause, `strange_text`.)
 #[tactic(auto, unfolding(crate::specs::Values::strange_text))]
 pub(crate) fn put_strange(line: Line, id: u16) -> Line
     ensures { result ≡ adding line (strange_text id) }
@@ -34,7 +35,7 @@ pub(crate) fn put_strange(line: Line, id: u16) -> Line
     )
 }
 
-// Puts the value of 010A: the serial, which ends at the first zero byte.
+// Puts the value of 010A: the serial, which ends at the first zero byte. (The clause says `eqb 0` of a byte, as `first` of Byte does.)
 fn put_serial(line: Line, value: &[u8]) -> Line
     ensures { result ≡ adding line (serial_text value.now) }
 {
@@ -53,6 +54,9 @@ fn put_amount(line: Line, before: &[u8], steps: i32, decimals: u8, after: &[u8])
     }
     begun.put_pointed(size, decimals).put(after)
 }
+
+// The three below differ in the call of `endian`, by width and sign, and each is a call in a call in a call: written out in the five lines of
+// `put_reading` they would be no plainer. Each wants its width, as a missing byte would be read as 0.
 
 // Returns the whole number of two bytes with a sign.
 #[tactic(auto, using(endian::proofs::Little::all_first))]
@@ -81,7 +85,7 @@ fn unsigned(value: &[u8]) -> i32
     i32::from(endian::read_16(value))
 }
 
-// Puts a reading in its unit.
+// Puts a reading in its unit. The id is a number, as in the clause `reading_text`, for which every other id is that of the charge.
 fn put_reading(line: Line, id: u16, value: &[u8]) -> Line
     requires { length value.now ≡ width_of id }
     ensures { result ≡ adding line (reading_text id value.now) }
