@@ -1,28 +1,21 @@
 // A board whose settings were read, and the file for them.
 ghost use Rattle.std.specs.Prelude.{◌≡◌};
-ghost use Rattle.lines.specs.Lines.{adding, chars};
-ghost use Rattle.sentences.specs.Texts.{of_text, read_text, kept_text, file_text, collected_text, saved_text};
+ghost use Rattle.lines.specs.Lines.{adding};
+ghost use Rattle.sentences.specs.Texts.{read_text, kept_text, file_text, collected_text, saved_text};
 
 use crate::{Kept, parts};
 use collect::{Collected, Collector, Stage};
 use lines::Line;
 use settings::COUNT;
 
-// Puts how many settings were read of those that there are, after a word.
-fn put_settings(line: Line, before: &[u8], answered: usize, due: usize) -> Line
-    ensures { result ≡ adding line (of_text before.now answered due (chars " settings read")) }
-{
-    parts::put_of(line, before, answered, due, b" settings read")
-}
-
 // Puts how many settings were read, by how far a collector is. (The two numbers are those of the clause, `read_text`.)
 fn put_read(line: Line, stage: Stage, answered: usize, due: usize) -> Line
     ensures { result ≡ adding line (read_text stage answered due) }
 {
     match stage {
-        Stage::Waiting(_) => put_settings(line, b"not ended: ", answered, due),
+        Stage::Waiting(_) => parts::put_of(line, b"not ended: ", answered, due, b" settings read"),
         Stage::Done => parts::put_between(line, b"all ", answered, b" settings read"),
-        Stage::Stopped(_) => put_settings(line, b"stopped: ", answered, due),
+        Stage::Stopped(_) => parts::put_of(line, b"stopped: ", answered, due, b" settings read"),
         Stage::Refused(refusal) => parts::put_refused(line, refusal),
     }
 }
