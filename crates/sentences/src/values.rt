@@ -21,18 +21,13 @@ fn put_word(line: Line, before: &[u8], high: u8, low: u8, after: &[u8]) -> Line
         .put(after)
 }
 
-// Puts that the answer of an id is not understood. (Its two bytes are said as in the clause, `strange_text`.)
+// Puts that the answer of an id is not understood.
 #[tactic(auto, unfolding(crate::specs::Values::strange_text))]
 pub(crate) fn put_strange(line: Line, id: u16) -> Line
     ensures { result ≡ adding line (strange_text id) }
 {
-    put_word(
-        line,
-        b"",
-        (id / 256) as u8,
-        (id % 256) as u8,
-        b": not understood",
-    )
+    let [high, low] = id.to_be_bytes();
+    put_word(line, b"", high, low, b": not understood")
 }
 
 // Puts the value of 010A: the serial, which ends at the first zero byte. (The clause says `eqb 0` of a byte, as `first` of Byte does.)
