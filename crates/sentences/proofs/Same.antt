@@ -7,7 +7,7 @@ use contract.Lifetimes.{Lfts}
 use Rattle.laws.proofs.Promise.{equal_same}
 use Rattle.follow.specs.declared.Follower.{Follower}
 use Rattle.collect.specs.declared.Collector.{Collector}
-use Rattle.backup.specs.Answers.{Checked}
+use Rattle.sentences.specs.Texts.{Verdict}
 use Rattle.tally.specs.declared.Tally.{Tally}
 use Rattle.view.specs.declared.Viewer.{Viewer}
 use Rattle.lines.specs.declared.Line.{Line}
@@ -34,7 +34,7 @@ pub saved_same : (collector : Collector) (kept : Kept) (r r' : Line)
     → saved.Post tt (collector, (kept, tt)) r (collector, (kept, tt)) → saved.Post tt (collector, (kept, tt)) r' (collector, (kept, tt)) → r ≡ r'
 saved_same collector kept r r' met met' = equal_same met met'
 
-pub checked_same : (verdict : Checked) (r r' : Line) → checked.Post tt (verdict, tt) r (verdict, tt) → checked.Post tt (verdict, tt) r' (verdict, tt) → r ≡ r'
+pub checked_same : (verdict : Verdict) (r r' : Line) → checked.Post tt (verdict, tt) r (verdict, tt) → checked.Post tt (verdict, tt) r' (verdict, tt) → r ≡ r'
 checked_same verdict r r' met met' = equal_same met met'
 
 pub summed_same : (tally : Tally) (r r' : Line) → summed.Post tt (tally, tt) r (tally, tt) → summed.Post tt (tally, tt) r' (tally, tt) → r ≡ r'

@@ -30,9 +30,9 @@ use Rattle.collect.proofs.Theorems.{table_is_carried}
 use Rattle.collect.specs.declared.Collected.{Collected}
 use Rattle.collect.specs.declared.Collector.{Collector}
 use Rattle.collect.specs.declared.Stage as collects
+use Rattle.std.proofs.Common.{Ok, Err}
 use Rattle.paper.specs.Numbers.{number_of}
 use Rattle.backup.specs.Answers.{Checked}
-use Rattle.std.proofs.Common.{Ok, Err}
 use Rattle.backup.specs.declared.Backup.{Backup}
 use lib.Dec.{ltb}
 use Rattle.laws.specs.Promise.{Given}
@@ -50,8 +50,8 @@ use Rattle.view.specs.Calls.{allowed as allowed-viewer}
 use Rattle.lines.specs.Lines.{chars, line_of, Says}
 use Rattle.lines.specs.Numbers.{decimal_from, decimal, pointed}
 use Rattle.lines.proofs.Adding.{says_text, text_says_lem}
-use Rattle.sentences.specs.Texts.{between_text, of_text, refused_text, stopped_text, end_text, followed_text, progress_text, read_text, collected_text, kept_text, file_text, saved_text, good_text, refusal_text, checked_text, counts_text, summed_text}
-use Rattle.sentences.specs.Laws.{AllDone, DoneIsDone, NothingDue, EqualIsEqual, followed_by, joined, LineIsMatched, FollowersSay, SumsAreSaid, ReadIsRead, collected_by, LineIsCarried, SavedIsSaved, NotSavedIsNot, GoodIsGood, IsBackup, GoodIsBackup, WellIsWell, NoneIsNone, StrayFollower, StrayCollector, StrayTally, CollectorsCount, FilesCount, RefusalIsTold, FollowersFit, FilesFit, YardsFit}
+use Rattle.sentences.specs.Texts.{Verdict, numbered, between_text, of_text, refused_text, stopped_text, end_text, followed_text, progress_text, read_text, collected_text, kept_text, file_text, saved_text, good_text, refusal_text, checked_text, counts_text, summed_text}
+use Rattle.sentences.specs.Laws.{AllDone, DoneIsDone, NothingDue, EqualIsEqual, followed_by, joined, LineIsMatched, FollowersSay, SumsAreSaid, ReadIsRead, collected_by, LineIsCarried, SavedIsSaved, NotSavedIsNot, GoodIsGood, IsBackup, GoodIsBackup, WellIsWell, NoneIsNone, StrayFollower, StrayCollector, StrayTally, CollectorsCount, FilesCount, RefusalIsTold, TextIsTold, FollowersFit, FilesFit, YardsFit}
 use Rattle.sentences.specs.Values.{word_text, strange_text, serial_text, amount_text, reading_text, words_text, shown_text}
 use Rattle.sentences.specs.Worked.{LinesRead}
 use Rattle.sentences.specs.declared.Kept.{Kept}
@@ -236,10 +236,10 @@ pub good_is_good : GoodIsGood
 unfolding good_text refusal_text refused_text between_text
 good_is_good verdict = (
   λ e. by verdict (says_text [] (checked_text verdict) "good: " e),
-  λ is. text_says_lem (checked_text verdict) "good: " (omega arith) (ap (λ (v : Checked). take 6 (checked_text v)) is),
+  λ is. text_says_lem (checked_text verdict) "good: " (omega arith) (ap (λ (v : Verdict). take 6 (checked_text v)) is),
 )
   where
-    by : (v : Checked) → take 6 (checked_text v) ≡ chars "good: " → v ≡ Ok tt
+    by : (v : Verdict) → take 6 (checked_text v) ≡ chars "good: " → v ≡ Ok tt
     by (Ok done) e = refl
     by (Err why) e =
         let z : ◌≡◌ {A = ℕ} 0x72 0x67 = sym (pick (λ (l : List ℕ). get_or (take 6 l) 0 0 ≡ 0x72) (eqb why.line 0) refl refl) ∙ first e in
@@ -255,12 +255,19 @@ read_as_lem text (Ok table) is e =
     record { table = table; is_whole = written.is_whole; is_allowed = written.is_allowed; is_text = same }
 read_as_lem text (Err why) is e = cc
 
+-- a verdict has no number where it is good, and only there
+numbered_good : (v : Checked) → numbered v ≡ Ok tt → v ≡ Ok tt
+numbered_good (Ok done) e = refl
+numbered_good (Err bad) e = cc
+
 pub good_is_backup : GoodIsBackup
 unfolding parsing
 good_is_backup text = (
-  λ e. read_as_lem text (text_says text) refl ((good_is_good (parsing text).verdict).0 e),
-  λ b. (good_is_good (parsing text).verdict).1
-      (ap (λ (l : List ℕ). (parsing l).verdict) b.is_text ∙ ap (λ (r : Backup). r.verdict) (written_is_read b.table b.is_whole b.is_allowed)),
+  λ e. read_as_lem text (text_says text) refl
+      (numbered_good (parsing text).verdict ((good_is_good (numbered (parsing text).verdict)).0 e)),
+  λ b. (good_is_good (numbered (parsing text).verdict)).1
+      (ap (λ (l : List ℕ). numbered (parsing l).verdict) b.is_text
+      ∙ ap (λ (r : Backup). numbered r.verdict) (written_is_read b.table b.is_whole b.is_allowed)),
 )
 
 pub followers_say_it : FollowersSay
@@ -363,7 +370,7 @@ collectors_count = collectors_say
 pub files_count : FilesCount
 unfolding good_text
 files_count text table e =
-    ap (λ (b : Backup). checked_text b.verdict) e ∙ ap good_text (sym (read_is_written text table e).is_whole)
+    ap (λ (b : Backup). checked_text (numbered b.verdict)) e ∙ ap good_text (sym (read_is_written text table e).is_whole)
     ∙ between_joined (chars "good: ") (chars " settings, every number in range, every pair agrees") (length table.numbers)
 
 line_joined : (a b c d : List ℕ) → (a ++ b ++ []) ++ (c ++ d ++ []) ≡ joined (a ∷ b ∷ c ∷ d ∷ [])
@@ -371,10 +378,13 @@ line_joined a b c d = simp (append_assoc, append-nil)
 
 pub refusal_is_told : RefusalIsTold
 unfolding refusal_text refused_text between_text
-refusal_is_told refusal row = (
-  between_joined (chars "refused ") [] (number_of refusal),
-  λ some. rw (ne_eqb row 0 some) (line_joined (chars "refused ") (decimal (number_of refusal)) (chars ", line ") (decimal row)),
+refusal_is_told number row = (
+  between_joined (chars "refused ") [] number,
+  λ some. rw (ne_eqb row 0 some) (line_joined (chars "refused ") (decimal number) (chars ", line ") (decimal row)),
 )
+
+pub text_is_told : TextIsTold
+text_is_told refusal row = refusal_is_told (number_of refusal) row
 
 pub followers_fit : FollowersFit
 followers_fit = followers_uncut

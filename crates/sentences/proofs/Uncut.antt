@@ -14,7 +14,6 @@ use Rattle.collect.specs.Calls.{told}
 use Rattle.collect.specs.declared.Stage as collects
 use Rattle.paper.specs.Numbers.{number_of, not_allowed}
 use Rattle.paper.specs.declared.Refusal.{Refusal}
-use Rattle.backup.specs.Answers.{Checked}
 use Rattle.std.proofs.Common.{Ok, Err}
 use Rattle.tally.specs.Results.{tally_allowed}
 use Rattle.tally.specs.declared.Tally.{Tally}
@@ -22,7 +21,7 @@ use Rattle.tally.proofs.Counting.{within_of}
 use Rattle.lines.specs.Lines.{chars}
 use Rattle.lines.specs.Numbers.{decimal}
 use Rattle.lines.proofs.Digits.{digits_few, digits_under}
-use Rattle.sentences.specs.Texts.{between_text, of_text, refused_text, stopped_text, end_text, followed_text, progress_text, read_text, collected_text, kept_text, file_text, saved_text, good_text, refusal_text, checked_text, counts_text, summed_text}
+use Rattle.sentences.specs.Texts.{Verdict, between_text, of_text, numbered_text, refused_text, stopped_text, end_text, followed_text, progress_text, read_text, collected_text, kept_text, file_text, saved_text, good_text, refusal_text, checked_text, counts_text, summed_text}
 use Rattle.sentences.specs.Laws.{Fits, FollowersFit, FilesFit, YardsFit}
 use Rattle.sentences.specs.declared.Kept.{Kept}
 
@@ -44,12 +43,15 @@ fits_of before after m n h = omega (arith, of_long before after m n 20 (digits_f
 joined : (a b : List ℕ) (m n : ℕ) → length a ≤ m → length b ≤ n → length (a ++ b) ≤ m + n
 joined a b m n h k = rw (length-append a b) (omega arith)
 
-refused_long : (refusal : Refusal) → length (refused_text refusal) ≤ 28
-unfolding refused_text
-refused_long refusal = between_long _ _ (number_of refusal) 20 (digits_few 19 (number_of refusal))
+numbered_long : (number : ℕ) → length (numbered_text number) ≤ 28
+numbered_long number = between_long _ _ number 20 (digits_few 19 number)
+
+numbered_fits : (number : ℕ) → Fits (numbered_text number)
+numbered_fits number = omega (arith, numbered_long number)
 
 refused_fits : (refusal : Refusal) → Fits (refused_text refusal)
-refused_fits refusal = omega (arith, refused_long refusal)
+unfolding refused_text
+refused_fits refusal = numbered_fits (number_of refusal)
 
 stopped_fits : (confirmed due : ℕ) → Fits (stopped_text confirmed due)
 unfolding stopped_text
@@ -92,23 +94,23 @@ file_fits (collects.Stage.Stopped setting) answered kept = omega arith
 file_fits (collects.Stage.Waiting setting) answered kept = omega arith
 file_fits (collects.Stage.Refused refusal) answered kept = refused_fits _
 
-line_fits : (refusal : Refusal) (row : ℕ) → Fits (refused_text refusal ++ between_text (chars ", line ") row [])
-line_fits refusal row =
+line_fits : (number row : ℕ) → Fits (numbered_text number ++ between_text (chars ", line ") row [])
+line_fits number row =
     let at : List ℕ = between_text (chars ", line ") row [] in
-    let all : length (refused_text refusal ++ at) ≤ 55 = joined (refused_text refusal) at 28 27 (refused_long refusal) (between_long (chars ", line ") [] row 20 (digits_few 19 row)) in
+    let all : length (numbered_text number ++ at) ≤ 55 = joined (numbered_text number) at 28 27 (numbered_long number) (between_long (chars ", line ") [] row 20 (digits_few 19 row)) in
     omega arith
 
-refusal_fits : (refusal : Refusal) (row : ℕ) → Fits (refusal_text refusal row)
+refusal_fits : (number row : ℕ) → Fits (refusal_text number row)
 unfolding refusal_text
-refusal_fits refusal row = pick Fits (eqb row 0) (refused_fits refusal) (line_fits refusal _)
+refusal_fits number row = pick Fits (eqb row 0) (numbered_fits number) (line_fits number _)
 
 good_fits : (settings : ℕ) → Fits (good_text settings)
 unfolding good_text
 good_fits settings = fits_between _ _ _ (omega arith)
 
-checked_fits : (verdict : Checked) → Fits (checked_text verdict)
+checked_fits : (verdict : Verdict) → Fits (checked_text verdict)
 checked_fits (Ok done) = good_fits _
-checked_fits (Err why) = refusal_fits why.refusal why.line
+checked_fits (Err why) = refusal_fits why.number why.line
 
 pub files_uncut : FilesFit
 unfolding collected_text saved_text

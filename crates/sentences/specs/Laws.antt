@@ -20,16 +20,16 @@ use Rattle.collect.specs.Laws.{calls as collects, carried}
 use Rattle.collect.specs.declared.Stage.{Stage}
 use Rattle.collect.specs.declared.Collector.{Collector}
 use Rattle.collect.specs.declared.Collected.{Collected}
-use Rattle.backup.specs.Text.{text_of, good}
-use Rattle.backup.specs.Calls.{parsing, read_as}
 use Rattle.paper.specs.Numbers.{number_of}
 use Rattle.paper.specs.declared.Refusal.{Refusal}
-use Rattle.backup.specs.Answers.{Checked, bad}
+use Rattle.backup.specs.Answers.{bad}
+use Rattle.backup.specs.Text.{text_of, good}
+use Rattle.backup.specs.Calls.{parsing, read_as}
 use Rattle.tally.specs.Results.{tally_allowed}
 use Rattle.tally.specs.declared.Tally.{Tally}
 use Rattle.lines.specs.Lines.{most, chars, line_of, Says}
 use Rattle.lines.specs.Numbers.{decimal}
-use Rattle.sentences.specs.Texts.{followed_text, progress_text, collected_text, saved_text, checked_text, summed_text}
+use Rattle.sentences.specs.Texts.{Verdict, numbered, followed_text, progress_text, collected_text, saved_text, checked_text, summed_text}
 use Rattle.sentences.specs.declared.Kept.{Kept}
 
 -- 1. The line of a restore says "done" exactly where a start and events give the follower, it is done, and it has confirmed as many Sets as
@@ -126,7 +126,7 @@ LineIsCarried = (events : List Event) → OnStream events → CarriedSays events
 
 -- 4. A backup is said to be good exactly where it is accepted: where it is byte for byte the text of an allowed table.
 abbrev pub GoodIsGood : Type 0
-GoodIsGood = (verdict : Checked) → Says (line_of (checked_text verdict)) 0 "good: " ↔ (verdict ≡ Ok tt)
+GoodIsGood = (verdict : Verdict) → Says (line_of (checked_text verdict)) 0 "good: " ↔ (verdict ≡ Ok tt)
 
 pub record IsBackup (text : List ℕ) : Type 0 where
   pub table : Table
@@ -135,7 +135,7 @@ pub record IsBackup (text : List ℕ) : Type 0 where
   pub is_text : text ≡ text_of table
 
 abbrev pub GoodIsBackup : Type 0
-GoodIsBackup = (text : List ℕ) → Says (line_of (checked_text (parsing text).verdict)) 0 "good: " ↔ IsBackup text
+GoodIsBackup = (text : List ℕ) → Says (line_of (checked_text (numbered (parsing text).verdict))) 0 "good: " ↔ IsBackup text
 
 -- 5. The line of a yard says after its first two counts that none stopped, was silent or was not begun exactly where the tally is allowed
 -- and has none; and it begins with no board done and none equal exactly where the tally is allowed and has none of these.
@@ -205,15 +205,25 @@ CollectorsCount = (c : Collector) → CollectorSays c
 abbrev pub FilesCount : Type 0
 FilesCount =
     (text : List ℕ) (table : Table) → parsing text ≡ read_as (good table)
-    → checked_text (parsing text).verdict
+    → checked_text (numbered (parsing text).verdict)
     ≡ joined (chars "good: " ∷ decimal (length table.numbers) ∷ chars " settings, every number in range, every pair agrees" ∷ [])
 
--- A refused one is told by the number of its refusal, and by its line where it has one.
+-- A refused one is told by the number of its refusal, whatever that is, and by its line where it has one.
 abbrev pub RefusalIsTold : Type 0
 RefusalIsTold =
+    (number row : ℕ)
+    → (checked_text (Err (record { number = number; line = 0 })) ≡ joined (chars "refused " ∷ decimal number ∷ []))
+    × (row ≢ 0
+    → checked_text (Err (record { number = number; line = row })) ≡ joined (chars "refused " ∷ decimal number ∷ chars ", line " ∷ decimal row ∷ []))
+
+-- So is a text, by the number of the refusal that `backup` gives.
+abbrev pub TextIsTold : Type 0
+TextIsTold =
     (refusal : Refusal) (row : ℕ)
-    → (checked_text (Err (bad refusal 0)) ≡ joined (chars "refused " ∷ decimal (number_of refusal) ∷ []))
-    × (row ≢ 0 → checked_text (Err (bad refusal row)) ≡ joined (chars "refused " ∷ decimal (number_of refusal) ∷ chars ", line " ∷ decimal row ∷ []))
+    → (checked_text (numbered (Err (bad refusal 0))) ≡ joined (chars "refused " ∷ decimal (number_of refusal) ∷ []))
+    × (row ≢ 0
+    → checked_text (numbered (Err (bad refusal row)))
+    ≡ joined (chars "refused " ∷ decimal (number_of refusal) ∷ chars ", line " ∷ decimal row ∷ []))
 
 -- 8. No sentence is cut: each fits a line, with any counts.
 abbrev pub Fits : List ℕ → Type 0
@@ -223,7 +233,7 @@ abbrev pub FollowersFit : Type 0
 FollowersFit = (f : Follower) → Fits (followed_text f) × Fits (progress_text f)
 
 abbrev pub FilesFit : Type 0
-FilesFit = (c : Collector) (kept : Kept) (verdict : Checked) → Fits (collected_text c) × (Fits (saved_text c kept) × Fits (checked_text verdict))
+FilesFit = (c : Collector) (kept : Kept) (verdict : Verdict) → Fits (collected_text c) × (Fits (saved_text c kept) × Fits (checked_text verdict))
 
 abbrev pub YardsFit : Type 0
 YardsFit = (t : Tally) → Fits (summed_text t)

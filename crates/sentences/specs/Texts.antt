@@ -1,5 +1,5 @@
 -- The sentences, each as it is printed. Document 00: the box "says done only for what the board confirmed". Assumes nothing.
-use Rattle.std.specs.Prelude.{ℕ, ◌-◌, Ok, Err, cond, List, [], ◌++◌, eqb}
+use Rattle.std.specs.Prelude.{ℕ, ◌-◌, Result, Ok, Err, ⊤, cond, List, [], ◌++◌, eqb}
 use Rattle.paper.specs.Numbers as paper
 use Rattle.settings.specs.Columns.{count}
 use Rattle.follow.specs.Following.{standing, total, follower_allowed}
@@ -10,11 +10,13 @@ use Rattle.collect.specs.declared.Collector.{Collector}
 use Rattle.collect.specs.declared.Stage as collects
 use Rattle.paper.specs.declared.Refusal.{Refusal}
 use Rattle.backup.specs.Answers.{Checked}
+use Rattle.backup.specs.declared.BadText.{BadText}
 use Rattle.tally.specs.Results.{tally_allowed}
 use Rattle.tally.specs.declared.Tally.{Tally}
 use Rattle.lines.specs.Lines.{chars}
 use Rattle.lines.specs.Numbers.{decimal}
 use Rattle.sentences.specs.declared.Kept.{Kept}
+use Rattle.sentences.specs.declared.Refused.{Refused}
 
 -- a number between words
 unfoldable pub between_text : List ℕ → ℕ → List ℕ → List ℕ
@@ -24,8 +26,11 @@ between_text before n after = before ++ decimal n ++ after
 unfoldable pub of_text : List ℕ → ℕ → ℕ → List ℕ → List ℕ
 of_text before done due after = before ++ decimal done ++ chars " of " ++ decimal due ++ after
 
+abbrev pub numbered_text : ℕ → List ℕ
+numbered_text number = between_text (chars "refused ") number []
+
 unfoldable pub refused_text : Refusal → List ℕ
-refused_text refusal = between_text (chars "refused ") (paper.number_of refusal) []
+refused_text refusal = numbered_text (paper.number_of refusal)
 
 -- A restore, by its outcome, the Sets that the board has confirmed, and those of its list.
 
@@ -78,17 +83,28 @@ file_text (collects.Stage.Refused refusal) answered kept = refused_text refusal
 unfoldable pub saved_text : Collector → Kept → List ℕ
 saved_text c kept = file_text (told c).stage (told c).answered kept
 
--- A backup checked. The refusals' numbers are document 01's, "Backup text"; 17 and 18 are about no row of it.
+-- A backup checked: good, or the number of a refusal, whatever number that is, and the line that it is about. The numbers of a verdict on a
+-- text are document 01's, "Backup text"; 17 and 18 are about no row of it.
+
+abbrev pub Verdict : Type 0
+Verdict = Result ⊤ Refused
+
+abbrev pub refused_as : BadText → Refused
+refused_as bad = record { number = paper.number_of bad.refusal; line = bad.line }
+
+abbrev pub numbered : Checked → Verdict
+numbered (Ok done) = Ok done
+numbered (Err bad) = Err (refused_as bad)
 
 unfoldable pub good_text : ℕ → List ℕ
 good_text settings = between_text (chars "good: ") settings (chars " settings, every number in range, every pair agrees")
 
-unfoldable pub refusal_text : Refusal → ℕ → List ℕ
-refusal_text refusal row = cond (eqb row 0) (refused_text refusal) (refused_text refusal ++ between_text (chars ", line ") row [])
+unfoldable pub refusal_text : ℕ → ℕ → List ℕ
+refusal_text number row = cond (eqb row 0) (numbered_text number) (numbered_text number ++ between_text (chars ", line ") row [])
 
-abbrev pub checked_text : Checked → List ℕ
+abbrev pub checked_text : Verdict → List ℕ
 checked_text (Ok done) = good_text count
-checked_text (Err why) = refusal_text why.refusal why.line
+checked_text (Err why) = refusal_text why.number why.line
 
 -- A yard's night.
 

@@ -9,7 +9,6 @@ ghost use Rattle.lines.specs.Lines.{line_of};
 ghost use Rattle.sentences.specs.Texts.{followed_text, progress_text, collected_text, saved_text, checked_text, summed_text};
 ghost use Rattle.sentences.specs.Values.{seen_text, shown_text};
 
-use backup::BadText;
 use collect::Collector;
 use follow::Follower;
 use lines::Line;
@@ -30,6 +29,14 @@ pub enum Kept {
     Not,
     Unsure,
     Whole,
+}
+
+// Why a text is refused: the number of the refusal, which may be any, and the line that it is about, 0 for none. A number and no Refusal: the
+// law RefusalIsTold speaks of every one.
+#[derive(Clone, Copy, PartialEq, Eq)]
+pub struct Refused {
+    pub number: u8,
+    pub line: usize,
 }
 
 // Returns the sentence for how a restore ended, with how many of its Sets the board has confirmed.
@@ -66,7 +73,7 @@ pub fn saved(collector: Collector, kept: Kept) -> Line
 
 // Returns the sentence for a backup: good, or the number of its refusal and the line.
 #[tactic(auto, using(lines::proofs::Adding::from_start))]
-pub fn checked(verdict: Result<(), BadText>) -> Line
+pub fn checked(verdict: Result<(), Refused>) -> Line
     ensures { result ≡ line_of (checked_text verdict) }
 {
     checks::put_verdict(Line::start(), verdict)

@@ -1,7 +1,7 @@
 ghost use Rattle.std.specs.Prelude.{◌≡◌};
 ghost use Rattle.paper.specs.Numbers as paper;
 ghost use Rattle.lines.specs.Lines.{adding};
-ghost use Rattle.sentences.specs.Texts.{between_text, of_text, refused_text};
+ghost use Rattle.sentences.specs.Texts.{between_text, of_text, numbered_text, refused_text};
 
 use lines::Line;
 use paper::Refusal;
@@ -23,12 +23,19 @@ pub(crate) fn put_of(line: Line, before: &[u8], done: usize, due: usize, after: 
     counted.put(b" of ").put_number(due).put(after)
 }
 
+// Puts a number of refusal, whatever it is.
+pub(crate) fn put_numbered(line: Line, number: u8) -> Line
+    ensures { result ≡ adding line (numbered_text number) }
+{
+    put_between(line, b"refused ", number as usize, b"")
+}
+
 // Puts the number of a refusal.
 #[tactic(auto, unfolding(crate::specs::Texts::refused_text))]
 pub(crate) fn put_refused(line: Line, refusal: Refusal) -> Line
     ensures { result ≡ adding line (refused_text refusal) }
 {
-    put_between(line, b"refused ", refusal.number() as usize, b"")
+    put_numbered(line, refusal.number())
 }
 
 // Puts the refusal of a state that no calls of its machine give.
