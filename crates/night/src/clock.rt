@@ -39,8 +39,8 @@ pub(crate) fn time(system: System) -> Option<u64> {
 fn read(system: System) -> io::Result<u64> {
     let clock = Port::Device(ports::open_read(system, b"/proc/uptime")?);
     let mut text = [0; ROOM];
-    match ports::read(&clock, &mut text) {
-        Ok(0) | Err(_) => Err(Error::from(ErrorKind::UnexpectedEof)),
-        Ok(len) => Ok(hundredths(&text[..len]) % MOST * 10),
+    match ports::count(ports::read(&clock, &mut text).ok(), &text) {
+        0 => Err(Error::from(ErrorKind::UnexpectedEof)),
+        len => Ok(hundredths(&text[..len]) % MOST * 10),
     }
 }

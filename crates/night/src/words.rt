@@ -17,9 +17,7 @@ const MOST_NAME: usize = 32;
 const NAME_END: usize = 15;
 
 // Reasons of the system, by its numbers, since one `ErrorKind` stands for several (EACCES and EPERM are one); and the largest number that
-// one is told by.
-const NOTHING_THERE: i32 = 2;
-
+// one is told by. `ports` has two more.
 const IO: i32 = 5;
 
 const NO_DEVICE_NOW: i32 = 6;
@@ -31,8 +29,6 @@ const BUSY: i32 = 16;
 const NO_DEVICE: i32 = 19;
 
 const NO_FOLDER: i32 = 20;
-
-const A_FOLDER: i32 = 21;
 
 const MOST_REASON: usize = 4096;
 
@@ -97,14 +93,14 @@ pub(crate) fn short(report: Report, name: &[u8]) {
 // `ports::fail`) has words for every number: what is printed must stay.
 pub(crate) fn put_reason(line: Line, error: i32) -> Line {
     match error {
-        NOTHING_THERE => line.put(b"No such file or directory"),
+        ports::NOTHING_THERE => line.put(b"No such file or directory"),
         IO => line.put(b"Input/output error"),
         NO_DEVICE_NOW => line.put(b"No such device or address"),
         NOT_ALLOWED => line.put(b"Permission denied"),
         BUSY => line.put(b"Device or resource busy"),
         NO_DEVICE => line.put(b"No such device"),
         NO_FOLDER => line.put(b"Not a directory"),
-        A_FOLDER => line.put(b"Is a directory"),
+        ports::A_FOLDER => line.put(b"Is a directory"),
         _ => line
             .put(b"error ")
             .put_number(usize::try_from(error).unwrap_or(0).min(MOST_REASON)),

@@ -14,7 +14,12 @@ use std::{fs, io};
 // The system, which `main` is given.
 pub type System = HostRuntime;
 
-// The system's numbers for bytes that are no text, and for an argument that it can only refuse.
+// The system's numbers for: nothing is there, it is a folder.
+pub const NOTHING_THERE: i32 = 2;
+
+pub const A_FOLDER: i32 = 21;
+
+// Its numbers for bytes that are no text, and for an argument that it can only refuse.
 const NO_TEXT: i32 = 84;
 
 const INVALID: i32 = 22;
@@ -78,9 +83,10 @@ pub fn write_all(report: Report, text: &[u8]) -> io::Result<()> {
     }
 }
 
-// A serial line, or standard input and output in its place.
+// A serial line, standard input and output in its place, or none, from which nothing comes and to which nothing goes.
 #[derive(Drop)]
 pub enum Port {
+    None,
     Standard(System),
     Device(File),
 }
@@ -90,6 +96,7 @@ pub fn read(port: &Port, into: &mut [u8]) -> io::Result<usize>
     ensures { IfOk result (λ n. n ≤ length into.new) }
 {
     match port {
+        Port::None => Err(Error::from(ErrorKind::NotConnected)),
         Port::Standard(system) => system.stdin().read(into),
         Port::Device(file) => {
             let mut from = file;
@@ -98,9 +105,20 @@ pub fn read(port: &Port, into: &mut [u8]) -> io::Result<usize>
     }
 }
 
+// Returns how many bytes a read has put at the front of a buffer, no more than it has; 0 where it failed.
+pub fn count(got: Option<usize>, buffer: &[u8]) -> usize
+    ensures { result ≤ length buffer.now }
+{
+    match got {
+        Some(n) => n.min(buffer.len()),
+        None => 0,
+    }
+}
+
 // Writes all of a text to a line.
 pub fn send(port: &Port, text: &[u8]) -> io::Result<()> {
     match port {
+        Port::None => Err(Error::from(ErrorKind::NotConnected)),
         Port::Standard(system) => write_all(output(*system), text),
         Port::Device(file) => write_file(file, text),
     }
@@ -109,6 +127,7 @@ pub fn send(port: &Port, text: &[u8]) -> io::Result<()> {
 // Returns whether a line is a terminal, as serial lines are.
 pub fn is_terminal(port: &Port) -> bool {
     match port {
+        Port::None => false,
         Port::Standard(system) => system.stdin().is_terminal(),
         Port::Device(file) => file.is_terminal(),
     }
