@@ -73,11 +73,25 @@ fn folder_of(path: &[u8]) -> &[u8] {
     }
 }
 
-// Writes a text to a temporary file beside `path`, and gives it that name only when it is whole. Until then the old file has the name. The
-// new one is kept for good once its folder is on the disk.
+// Writes a text to a temporary file beside `path`, and gives it that name only when it is whole. Until then the old file has the name.
 fn replace(system: System, path: &[u8], text: &[u8]) -> Kept {
-    if let Err(error) = replace_now(system, path, text) {
+    let mut room = ports::buffer();
+    let name = joined(path, b".XXXXXX", &mut room);
+    match ports::create_temp(system, name) {
+        Ok(file) => moved_to(system, file, name, path, text),
+        Err(error) => {
+            ports::fail(system, path, error);
+            Kept::Not
+        }
+    }
+}
+
+// Writes a text to a temporary file that was made, and gives it the name `path`. Where that fails, the reason is told, and then the file is
+// removed. The new one is kept for good once its folder is on the disk.
+fn moved_to(system: System, file: File, name: &[u8], path: &[u8], text: &[u8]) -> Kept {
+    if let Err(error) = write(file, text).and_then(|_| ports::rename(system, name, path)) {
         ports::fail(system, path, error);
+        let _ = ports::remove(system, name);
         return Kept::Not;
     }
     if let Err(error) = ports::sync_folder(system, folder_of(path)) {
@@ -85,18 +99,6 @@ fn replace(system: System, path: &[u8], text: &[u8]) -> Kept {
         return Kept::Unsure;
     }
     Kept::Whole
-}
-
-// Does so but for the folder. Where it fails with a file that was made, it removes that.
-fn replace_now(system: System, path: &[u8], text: &[u8]) -> io::Result<()> {
-    let mut room = ports::buffer();
-    let name = joined(path, b".XXXXXX", &mut room);
-    let file = ports::create_temp(system, name)?;
-    let moved = write(file, text).and_then(|_| ports::rename(system, name, path));
-    if moved.is_err() {
-        let _ = ports::remove(system, name);
-    }
-    moved
 }
 
 // Writes a text to a new file, makes sure that it is on the disk, and closes it.
