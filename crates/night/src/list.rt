@@ -38,6 +38,7 @@ pub(crate) fn read(system: System, into: &mut [u8]) -> Result<&[u8], Unread<'_>>
 }
 
 // Returns the first word of a text, and what follows the blanks after it.
+#[inline(always)]
 fn word_of(text: &[u8]) -> (&[u8], &[u8]) {
     let end = text.iter().position(|c| words::is_blank(*c));
     let (word, rest) = text.split_at(end.unwrap_or(text.len()));
@@ -47,6 +48,19 @@ fn word_of(text: &[u8]) -> (&[u8], &[u8]) {
 // Returns whether a text is a blank and then the mark of a serial.
 fn is_mark(text: &[u8]) -> bool {
     matches!(text, [blank, mark @ ..] if words::is_blank(*blank) && mark == MARK)
+}
+
+// Returns the name and the serial line of a row, and what follows them; none of a row that is skipped, or that ends before a file. It is
+// inlined, as most of its callers want a part alone.
+#[inline(always)]
+fn front_of(text: &[u8]) -> Option<(&[u8], &[u8], &[u8])> {
+    let (name, rest) = word_of(words::past_blanks(text));
+    let (line, rest) = word_of(rest);
+    if rest.is_empty() || name.starts_with(b"#") {
+        None
+    } else {
+        Some((name, line, rest))
+    }
 }
 
 // Returns the end of a row that begins with the file: its name, and the serial that follows it, if one does.
@@ -66,11 +80,9 @@ pub(crate) fn row_of(text: &[u8]) -> Row<'_> {
     if matches!(row, [] | [b'#', ..]) {
         return Row::Skipped;
     }
-    let (name, rest) = word_of(row);
-    let (line, rest) = word_of(rest);
-    if rest.is_empty() {
+    let Some((name, line, rest)) = front_of(row) else {
         return Row::Short(row);
-    }
+    };
     let (file, serial) = file_of(rest);
     Row::Of(Trailer {
         name,
@@ -80,11 +92,11 @@ pub(crate) fn row_of(text: &[u8]) -> Row<'_> {
     })
 }
 
-// Returns the serial line of a row that is a trailer's.
+// Returns the serial line of a row that is a trailer's. Each row is compared with each before it, so nothing behind the line is looked at.
 fn line_of(text: &[u8]) -> Option<&[u8]> {
-    match row_of(text) {
-        Row::Of(trailer) => Some(trailer.line),
-        _ => None,
+    match front_of(text) {
+        Some((_, line, _)) => Some(line),
+        None => None,
     }
 }
 
@@ -113,10 +125,10 @@ pub(crate) fn tell_lines(system: System) {
     let report = ports::output(system);
     let list = read(system, &mut room).unwrap_or_default();
     for row in list.split(|c| *c == b'\n') {
-        if let Row::Of(trailer) = row_of(row) {
-            words::put(report, trailer.name);
+        if let Some((name, line, _)) = front_of(row) {
+            words::put(report, name);
             words::put(report, b" ");
-            words::say(report, trailer.line);
+            words::say(report, line);
         }
     }
 }
