@@ -20,38 +20,28 @@ pub struct Case {
 impl Case {
     // Prints the line of one sweep.
     pub fn line(self, rt: &impl Print) -> io::Result<()> {
+        let first = self.next(0);
         print!(rt; "{:04X} takes", self.setting.id)?;
-        self.runs(rt)?;
-        let agree = self.agreeing();
+        begin(rt, first)?;
+        let agree = self.agreeing(rt, first)?;
         let differ = WISHED.abs_diff(agree);
         println!(rt; "; wished numbers that agree {agree}, that differ {differ}")
     }
 
-    // Prints the runs of accepted numbers. None reaches 65535, so each has its end here.
-    fn runs(self, rt: &impl Print) -> io::Result<()> {
-        let mut last = None;
-        for number in 0..=u16::MAX {
-            if self.accepts(number) {
-                if last.is_none() {
-                    print!(rt; " {number}")?;
-                }
-                last = Some(number);
-            } else if let Some(end) = last.take() {
-                print!(rt; "..{end}")?;
-            }
-        }
-        Ok(())
-    }
-
     // Goes up through the wished numbers and counts those on which calls and search agree. On the way it knows the last accepted number so
-    // far, and the next one from here.
-    fn agreeing(self) -> usize {
+    // far, and the next one from here: where that is farther on, a run of accepted numbers has ended, which is printed. None reaches 65535,
+    // so each has its end here.
+    fn agreeing(self, rt: &impl Print, first: Option<u16>) -> io::Result<usize> {
         let mut below = None;
-        let mut above = self.next(0);
+        let mut above = first;
         let mut agreed = 0;
         for wished in 0..=u16::MAX {
             if above.is_some_and(|number| number < wished) {
                 above = self.next(wished);
+                if above != Some(wished) {
+                    end(rt, below)?;
+                    begin(rt, above)?;
+                }
             }
             if above == Some(wished) {
                 below = above;
@@ -60,7 +50,7 @@ impl Case {
                 agreed += 1;
             }
         }
-        agreed
+        Ok(agreed)
     }
 
     // Returns the first accepted number from here on.
@@ -103,6 +93,22 @@ impl Case {
                 table: self.table,
             }
         }
+    }
+}
+
+// Prints the number that a run begins with, if there is one.
+fn begin(rt: &impl Print, number: Option<u16>) -> io::Result<()> {
+    match number {
+        Some(number) => print!(rt; " {number}"),
+        None => Ok(()),
+    }
+}
+
+// Prints the number that a run ends with.
+fn end(rt: &impl Print, number: Option<u16>) -> io::Result<()> {
+    match number {
+        Some(number) => print!(rt; "..{number}"),
+        None => Ok(()),
     }
 }
 
