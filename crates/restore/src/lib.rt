@@ -34,10 +34,7 @@ pub fn list(from: Table, to: Table, out: &mut [u8]) -> Result<Size, Refusal>
         return Err(Refusal::ShortBuffer);
     }
     let restore = Restore::between(from, to)?;
-    Ok(Size {
-        len: writer::put_sets(restore, out),
-        sets: restore.len(),
-    })
+    Ok(writer::put_sets(&restore, out))
 }
 
 // Returns how many Sets turn the table `from` into `to`. Refuses 12 for a table that is not allowed.

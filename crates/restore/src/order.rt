@@ -34,8 +34,8 @@ impl Restore {
     }
 
     // Returns how many Sets there are. (Here and below a chain over the places was tried: its proof did not close.)
-    pub(crate) fn len(self) -> usize
-        ensures { result ≡ length (due_sets self.from self.to) }
+    pub(crate) fn len(&self) -> usize
+        ensures { result ≡ length (due_sets self.now.from self.now.to) }
     {
         let mut len = 0;
         for place in 0..COUNT {
@@ -47,8 +47,8 @@ impl Restore {
     }
 
     // Returns the Set that is due after this many, if there is one.
-    pub(crate) fn after(self, done: usize) -> Option<Wanted>
-        ensures { result ≡ set_after (due_sets self.from self.to) done }
+    pub(crate) fn after(&self, done: usize) -> Option<Wanted>
+        ensures { result ≡ set_after (due_sets self.now.from self.now.to) done }
     {
         let mut left = done;
         for place in 0..COUNT {
@@ -63,23 +63,27 @@ impl Restore {
     }
 
     // Returns the Set that has its turn at a place, if the setting differs: of that setting, or of its partner where the two change places.
-    pub(crate) fn set_at(self, place: usize) -> Option<Wanted>
-        ensures { result ≡ set_at self.from self.to place }
+    pub(crate) fn set_at(&self, place: usize) -> Option<Wanted>
+        ensures { result ≡ set_at self.now.from self.now.to place }
     {
-        let partner = settings::at(place)?.partner;
-        let exchanged = self.higher_first(place.min(partner), place.max(partner));
-        let index = if exchanged { partner } else { place };
-        self.differs(index).then_some(Wanted {
-            setting: settings::setting_at(index),
-            number: self.to.numbers[index],
+        let here = settings::at(place)?;
+        let exchanged = self.higher_first(place.min(here.partner), place.max(here.partner));
+        let setting = if exchanged {
+            settings::setting_at(here.partner)
+        } else {
+            here
+        };
+        self.differs(setting.index).then_some(Wanted {
+            setting,
+            number: self.to.numbers[setting.index],
         })
     }
 
     // Returns whether the higher id of a pair goes first: both differ, and the lower's new number does not agree with the higher's present
     // one. A setting alone, which is its own partner, agrees with any.
-    fn higher_first(self, lower: usize, higher: usize) -> bool
+    fn higher_first(&self, lower: usize, higher: usize) -> bool
         requires { (lower < count) × (higher < count) }
-        ensures { result ≡ higher_first self.from self.to lower higher }
+        ensures { result ≡ higher_first self.now.from self.now.to lower higher }
     {
         self.differs(lower)
             & (self.differs(higher)
@@ -87,9 +91,9 @@ impl Restore {
     }
 
     // Returns whether a setting differs between the two tables.
-    fn differs(self, index: usize) -> bool
+    fn differs(&self, index: usize) -> bool
         requires { index < count }
-        ensures { result ≡ differs self.from self.to index }
+        ensures { result ≡ differs self.now.from self.now.to index }
     {
         self.from.numbers[index] != self.to.numbers[index]
     }

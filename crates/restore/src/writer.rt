@@ -6,6 +6,7 @@ ghost use Rattle.requests.specs.Requests.{set_request};
 ghost use Rattle.restore.specs.Order.{due_sets};
 ghost use Rattle.restore.specs.Calls.{frames_for, list_room};
 
+use crate::Size;
 use crate::order::Restore;
 use requests::Wanted;
 use settings::COUNT;
@@ -26,16 +27,18 @@ fn put_set(out: &mut [u8], at: usize, set: Wanted) -> usize
     at + len
 }
 
-// Puts the Sets of a restore to the front of the buffer, end to end, and returns the length of them all.
-pub(crate) fn put_sets(restore: Restore, out: &mut [u8]) -> usize
+// Puts the Sets of a restore to the front of the buffer, end to end, and returns the size of the list.
+pub(crate) fn put_sets(restore: &Restore, out: &mut [u8]) -> Size
     requires { list_room ≤ length out.old }
-    ensures { (result ≡ length (frames_for (due_sets restore.from restore.to))) × (out.new ≡ overlaid (frames_for (due_sets restore.from restore.to)) out.old) }
+    ensures { (result ≡ record { len = length (frames_for (due_sets restore.now.from restore.now.to)); sets = length (due_sets restore.now.from restore.now.to) }) × (out.new ≡ overlaid (frames_for (due_sets restore.now.from restore.now.to)) out.old) }
 {
-    let mut at = 0;
+    let mut len = 0;
+    let mut sets = 0;
     for place in 0..COUNT {
         if let Some(set) = restore.set_at(place) {
-            at = put_set(out, at, set);
+            len = put_set(out, len, set);
+            sets += 1;
         }
     }
-    at
+    Size { len, sets }
 }

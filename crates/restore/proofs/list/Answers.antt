@@ -19,4 +19,4 @@ returns c =
     let from = c.in_ok-restore.ensures.0 in
     let to = c.in_ok-restore.ensures.1 in
     let ok : both_allowed c.args.from c.args.to ≡ true = rw (sym from, sym to) c.in_ok-restore.restore.allowed in
-    rw (c.put_sets.ensures.0, c.len.ensures, from, to) (gives_bytes _ _ _ (list_made _ _ _ c.if-out-lt-LIST_ROOM.false ok) (rw (from, to) at c.put_sets.ensures.1))
+    rw (c.put_sets.ensures.0, from, to) (gives_bytes _ _ _ (list_made _ _ _ c.if-out-lt-LIST_ROOM.false ok) (rw (from, to) at c.put_sets.ensures.1))

@@ -6,6 +6,6 @@ use Rattle.restore.proofs.order.Restore.higher_first.Goals as goal
 
 pub returns : goal.returns
 returns c =
-    let restore = c.args.self in
+    let restore = c.args.self.now in
     rw (c.differs.ensures, c.differs-2.ensures, c.allows.ensures)
     (turned_is restore.from restore.to (and_right (allowed restore.from) _ restore.allowed) c.args.lower c.args.higher c.requires.0)

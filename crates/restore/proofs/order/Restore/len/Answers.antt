@@ -7,22 +7,22 @@ use Rattle.restore.proofs.order.Restore.len.Goals.{then-is_some, else-is_some}
 use Rattle.restore.proofs.order.Restore.len.Goals as goal
 
 pub loop-place-init : goal.loop-place-init
-loop-place-init c = rw (all_sets c.args.self.from c.args.self.to) (omega arith)
+loop-place-init c = rw (all_sets c.args.self.now.from c.args.self.now.to) (omega arith)
 
 pub overflow_add-len : goal.overflow_add-len
 overflow_add-len c =
-    let few : length (due_sets c.args.self.from c.args.self.to) ≤ count = sets_few c.args.self.from c.args.self.to in
+    let few : length (due_sets c.args.self.now.from c.args.self.now.to) ≤ count = sets_few c.args.self.now.from c.args.self.now.to in
     omega arith
 
 pub loop-place-preserved : goal.loop-place-preserved
 loop-place-preserved c = elim c.if-is_some.branch [
   | then-is_some w ↦
-      let one = one_counted c.args.self.from c.args.self.to c.loop-place.place c.loop-place-test.true true (w.if-is_some.ensures ∙ ap is_some c.set_at.ensures) in
+      let one = one_counted c.args.self.now.from c.args.self.now.to c.loop-place.place c.loop-place-test.true true (w.if-is_some.ensures ∙ ap is_some c.set_at.ensures) in
       omega (arith, w.len-is, one)
   | else-is_some w ↦
-      let one = one_counted c.args.self.from c.args.self.to c.loop-place.place c.loop-place-test.true false (w.if-is_some.ensures ∙ ap is_some c.set_at.ensures) in
+      let one = one_counted c.args.self.now.from c.args.self.now.to c.loop-place.place c.loop-place-test.true false (w.if-is_some.ensures ∙ ap is_some c.set_at.ensures) in
       omega (arith, w.len-is, one)
 ]
 
 pub returns : goal.returns
-returns c = omega (arith, c.loop-place.invariant, ap length (no_sets c.args.self.from c.args.self.to c.loop-place.place (omega arith)))
+returns c = omega (arith, c.loop-place.invariant, ap length (no_sets c.args.self.now.from c.args.self.now.to c.loop-place.place (omega arith)))
