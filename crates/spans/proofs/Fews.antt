@@ -1,8 +1,8 @@
 -- Laws of a few bytes: what is put after them, cut or not. Assumes nothing.
 use mathlib.Core.Path.{◌≡◌, refl, sym, ap, ap₂, ◌∙◌}
 use mathlib.Core.Bool.{true, false}
-use mathlib.Core.List.{List, ◌++◌}
-use Prim.Native.Nat.{ℕ, ◌+◌, ◌-◌, ◌≤◌, ◌<◌, min}
+use mathlib.Core.List.{List, [], ◌∷◌, ◌++◌}
+use Prim.Native.Nat.{ℕ, suc, ◌+◌, ◌-◌, ◌≤◌, ◌<◌, min}
 use native.Mathlib.Omega.{arith}
 use borrow.Rule.Slice.PartMut.{put_mid}
 use borrow.Author.Tests.{lt-leb, le-leb, leb-true}
@@ -13,7 +13,7 @@ use Rattle.laws.specs.Lists.{every}
 use Rattle.laws.specs.Promise.{overlaid, front_of}
 use Rattle.laws.proofs.Bools.{and_left, and_right, both}
 use Rattle.laws.proofs.Lists.{padded, take_min, take_again, part_to_end}
-use Rattle.laws.proofs.Fronts.{padded_behind, front_is, front_taken, front_zeros, front_again}
+use Rattle.laws.proofs.Fronts.{padded_behind, front_is, front_taken, front_zeros, front_again, front_zero}
 use Rattle.spans.specs.Few.{few, those, tidy}
 use Rattle.spans.specs.declared.Few.{Few}
 
@@ -70,24 +70,31 @@ module _ (n : ℕ) where
         ∙ cut (own ++ more)
 
     put_own : (more : List ℕ) (k : ℕ) (last : List ℕ)
-        → k ≡ min (length more) (length (take (length (front_of n own) - length own) (drop (length own) (front_of n own))))
-        → last ≡ overlaid (take (length (take (length (front_of n own) - length own) (drop (length own) (front_of n own)))) more)
-        (take (length (front_of n own) - length own) (drop (length own) (front_of n own)))
-        → parts (length own + k) (put_mid (length own) (length (front_of n own) - length own) (front_of n own) last) ≡ few n (take n (own ++ more))
+        → k ≡ min (length more) (length (take (n - length own) (drop (length own) (front_of n own))))
+        → last ≡ overlaid (take (length (take (n - length own) (drop (length own) (front_of n own)))) more)
+        (take (n - length own) (drop (length own) (front_of n own)))
+        → parts (length own + k) (put_mid (length own) (n - length own) (front_of n own) last) ≡ few n (take n (own ++ more))
     unfolding few
     put_own more k last count e =
-        let room : length (front_of n own) ≡ n = few_room own fits in
         let size : length (take (n - length own) (drop (length own) (front_of n own))) ≡ n - length own =
         length-take-le (n - length own) (drop (length own) (front_of n own)) (rw (rest_zeros, length-replicate) (omega arith)) in
-        let least : k ≡ min (length more) (n - length own) = rw (room, size) at count in
-        let whole : last ≡ overlaid (take (n - length own) more) (take (n - length own) (drop (length own) (front_of n own))) = rw (room, size) at e in
+        let least : k ≡ min (length more) (n - length own) = rw size at count in
+        let whole : last ≡ overlaid (take (n - length own) more) (take (n - length own) (drop (length own) (front_of n own))) = rw size at e in
         let turned : min (n - length own) (length more) ≡ min (length more) (n - length own) = omega arith in
         let taken : take (n - length own) more ≡ take (min (length more) (n - length own)) more =
         sym (take_min (n - length own) more) ∙ ap (λ (m : ℕ). take m more) turned in
         let len : length own + k ≡ length (take n (own ++ more)) = rw (length-take, length-append) (omega (arith, fits)) in
         ap₂ parts len
-        (ap (λ (m : ℕ). put_mid (length own) (m - length own) (front_of n own) last) room
-        ∙ put_after more last (whole ∙ ap (λ (l : List ℕ). overlaid l (take (n - length own) (drop (length own) (front_of n own)))) taken))
+        (put_after more last (whole ∙ ap (λ (l : List ℕ). overlaid l (take (n - length own) (drop (length own) (front_of n own)))) taken))
+
+  -- bytes copied behind those of an array that has zeros past them, in the words of the code
+  put_at : (own more : List ℕ) (len room k : ℕ) (array last : List ℕ) → length own ≤ n → len ≡ length own → room ≡ n → array ≡ front_of n own
+      → k ≡ min (length more) (length (take (room - len) (drop len array)))
+      → last ≡ overlaid (take (length (take (room - len) (drop len array))) more) (take (room - len) (drop len array))
+      → parts (len + k) (put_mid len (room - len) array last) ≡ few n (take n (own ++ more))
+  put_at own more len room k array last fits is_len is_room is_array count copied =
+      rw (is_len, is_room, is_array)
+      (put_own own fits more k last (rw (is_len, is_room, is_array) at count) (rw (is_len, is_room, is_array) at copied))
 
   front_array : (old array : List ℕ) → array ≡ overlaid (take n old) (replicate n 0) → array ≡ front_of n (take n old)
   unfolding front_of
@@ -98,11 +105,12 @@ module _ (n : ℕ) where
       → k ≡ min (length more) (length (take (length array - len) (drop len array)))
       → last ≡ overlaid (take (length (take (length array - len) (drop len array))) more) (take (length array - len) (drop len array))
       → parts (len + k) (put_mid len (length array - len) array last) ≡ few n (take n (old ++ more))
+  unfolding few
   put_behind old more len k array last count copied count_more copied_more =
       let is_len : len ≡ length (take n old) = count ∙ sym (length-take n old ∙ omega arith) in
       let is_array : array ≡ front_of n (take n old) = front_array old array copied in
-      ap₂ (λ (l : ℕ) (a : List ℕ). parts (l + k) (put_mid l (length a - l) a last)) is_len is_array
-      ∙ put_own (take n old) (rw length-take (omega arith)) more k last (rw (is_len, is_array) at count_more) (rw (is_len, is_array) at copied_more)
+      let short : length (take n old) ≤ n = rw length-take (omega arith) in
+      put_at (take n old) more len (length array) k array last short is_len (ap (λ (l : List ℕ). length l) is_array ∙ few_room (take n old) short) is_array count_more copied_more
       ∙ ap (few n) (take_again n old more)
 
   -- whether a few bytes are tidy, by the two tests
@@ -120,9 +128,39 @@ module _ (n : ℕ) where
   unfolding tidy few
   few_tidy bytes fits = both _ _ (le-leb (length bytes) n fits) (front_zeros n bytes)
 
-  pub tidy_few : (f : Few n) → length f.bytes ≡ n → tidy f ≡ true → f ≡ few n (those f)
-  unfolding tidy few
-  tidy_few f long e =
-      let within : f.len ≤ n = leb-true f.len n (and_left (leb f.len n) (every (eqb 0) (drop f.len f.bytes)) e) in
-      let zeros = and_right (leb f.len n) (every (eqb 0) (drop f.len f.bytes)) e in
-      ap₂ parts (sym (length-take-le f.len f.bytes (omega (arith, long)))) (sym (front_again n f.len f.bytes long within zeros))
+  module _ (f : Few n) (e : tidy f ≡ true) where
+    pub tidy_most : f.len ≤ n
+    unfolding tidy
+    tidy_most = leb-true f.len n (and_left (leb f.len n) (every (eqb 0) (drop f.len f.bytes)) e)
+
+    tidy_zeros : every (eqb 0) (drop f.len f.bytes) ≡ true
+    unfolding tidy
+    tidy_zeros = and_right (leb f.len n) (every (eqb 0) (drop f.len f.bytes)) e
+
+  module _ (f : Few n) (long : length f.bytes ≡ n) (e : tidy f ≡ true) where
+    tidy_size : length (those f) ≡ f.len
+    tidy_size = length-take-le f.len f.bytes (omega (arith, long, tidy_most f e))
+
+    tidy_front : front_of n (those f) ≡ f.bytes
+    tidy_front = front_again n f.len f.bytes long (tidy_most f e) (tidy_zeros f e)
+
+    pub tidy_few : f ≡ few n (those f)
+    unfolding few
+    tidy_few = ap₂ parts (sym tidy_size) (sym tidy_front)
+
+    -- more bytes copied behind them, in their own array
+    pub put_tidy : (more : List ℕ) (k : ℕ) (last : List ℕ)
+        → k ≡ min (length more) (length (take (n - f.len) (drop f.len f.bytes)))
+        → last ≡ overlaid (take (length (take (n - f.len) (drop f.len f.bytes))) more) (take (n - f.len) (drop f.len f.bytes))
+        → parts (f.len + k) (put_mid f.len (n - f.len) f.bytes last) ≡ few n (take n (those f ++ more))
+    put_tidy more k last count copied =
+        let short : length (those f) ≤ n = omega (arith, tidy_size, tidy_most f e) in
+        put_at (those f) more f.len n k f.bytes last short (sym tidy_size) refl (sym tidy_front) count copied
+
+    -- and a zero more is in it already, where there is room for one
+    pub zero_tidy : f.len < n → parts (suc f.len) f.bytes ≡ few n (those f ++ 0 ∷ [])
+    unfolding few
+    zero_tidy room =
+        let short : suc (length (those f)) ≤ n = omega (arith, tidy_size, room) in
+        let size : suc f.len ≡ length (those f ++ 0 ∷ []) = rw length-append (omega (arith, tidy_size)) in
+        ap₂ parts size (sym (front_zero n (those f) short ∙ tidy_front))

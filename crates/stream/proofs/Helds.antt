@@ -9,7 +9,7 @@ use lib.ListN.{length, take, length-take}
 use lib.Seq.{take_all}
 use lib.Dec.{leb, eqb}
 use Rattle.laws.specs.Lists.{every}
-use Rattle.laws.proofs.Bools.{and_left, and_right}
+use Rattle.laws.proofs.Bools.{and_left, and_right, both}
 use Rattle.laws.proofs.Lists.{every_take}
 use Rattle.spans.specs.Few.{few, those, tidy}
 use Rattle.spans.specs.declared.Few.{Few}
@@ -22,7 +22,7 @@ use Rattle.stream.specs.declared.Held.{Held}
 
 -- what an allowed state has
 module _ (h : Held) (ok : allowed h ≡ true) where
-  allowed_tidy : tidy h.chars ≡ true
+  pub allowed_tidy : tidy h.chars ≡ true
   unfolding allowed
   allowed_tidy = and_left _ (h.inside || eqb h.chars.len 0) (and_left _ (every stays (those h.chars)) ok)
 
@@ -41,10 +41,9 @@ abbrev pub within : Few 74 → Held
 within chars = record { inside = true; chars = chars }
 
 -- more characters after those that are held, none of them past the 74th
-pub held_more : (h : Held) → h.inside ≡ true → (more : List ℕ) (chars : Few 74) → chars ≡ few 74 (take 74 (those h.chars ++ more))
-    → record { inside = h.inside; chars = chars } ≡ held_of (inside (those h.chars ++ more))
+pub held_more : (h : Held) (more : List ℕ) (chars : Few 74) → chars ≡ few 74 (take 74 (those h.chars ++ more)) → within chars ≡ held_of (inside (those h.chars ++ more))
 unfolding held_of
-held_more h e more chars is = λ i. record { inside = e i; chars = is i }
+held_more h more chars is = ap within is
 
 -- What is dropped past the 74th character never shows: a frame over 73 is refused 1 whatever they are.
 
@@ -73,7 +72,7 @@ held_chars chars = those_back 74 (take 74 chars)
 -- a state that bytes leave holds at most 74 characters in an array of 74
 pub held_long : (u : Unfinished) → length (held_of u).chars.bytes ≡ 74
 unfolding held_of
-held_long outside = few_room 74 [] (omega arith)
+held_long outside = few_room 74 _ (omega arith)
 held_long (inside chars) = few_room 74 (take 74 chars) (rw length-take (omega arith))
 
 -- What a state remembers.
@@ -96,9 +95,13 @@ pub allowed_inside : (chars : List ℕ) → every stays chars ≡ true → allow
 unfolding allowed held_of
 allowed_inside chars e = simp (held_chars, every_take stays 74 chars e, few_tidy 74 (take 74 chars) (rw length-take (omega arith)))
 
+outside_tidy : tidy (held_of outside).chars ≡ true
+unfolding held_of
+outside_tidy = few_tidy 74 _ (omega arith)
+
 pub allowed_outside : allowed (held_of outside) ≡ true
 unfolding allowed held_of few
-allowed_outside = simp (few_tidy 74 [] (omega arith))
+allowed_outside = both _ _ (both _ _ outside_tidy refl) refl
 
 -- There is one allowed state for each thing that there is to remember.
 

@@ -68,7 +68,8 @@ fn in_frame(held: Held, piece: &[u8], into: &mut [u8]) -> Heard
             taken: end,
         };
     }
-    ended(whole.chars.as_slice(), piece[end], end + 1, into)
+    let chars = whole.chars;
+    ended(chars.as_slice(), piece[end], end + 1, into)
 }
 
 // Reads a piece right after a colon. A frame that ends within the piece is parsed in place, and nothing of it is held.

@@ -3,14 +3,13 @@ use mathlib.Core.Path.{◌≡◌, subst, sym, ap, ◌∙◌}
 use mathlib.Core.Bool.{true}
 use Prim.Native.Nat.{◌≤◌}
 use native.Mathlib.Omega.{arith}
-use borrow.Author.Tests.{leb-true, le-leb}
-use lib.Dec.{leb, eqb}
-use lib.ListN.{length, drop, length-take}
+use borrow.Author.Tests.{le-leb}
+use lib.ListN.{length, length-take}
 use Rattle.laws.specs.Lists.{every}
 use Rattle.laws.proofs.Bools.{and_left, and_right, both}
 use Rattle.spans.specs.Few.{those, tidy}
 use Rattle.spans.specs.declared.Few.{Few}
-use Rattle.spans.proofs.Fews.{tidy_few}
+use Rattle.spans.proofs.Fews.{tidy_most, tidy_few}
 use Rattle.who.specs.Parts.{printed, serial_fits, identity_of, serial_of, identity_allowed}
 use Rattle.who.specs.declared.Identity.{Identity}
 use Rattle.who.specs.declared.Named.{Named}
@@ -27,11 +26,10 @@ module _ (identity : Identity) (ok : identity_allowed identity ≡ true) where
   serial_printed = and_right (tidy identity.serial) (every printed (serial_of identity)) ok
 
   pub serial_within : identity.serial.len ≤ 32
-  unfolding tidy
-  serial_within = leb-true identity.serial.len 32 (and_left (leb identity.serial.len 32) (every (eqb 0) (drop identity.serial.len identity.serial.bytes)) serial_tidy)
+  serial_within = tidy_most 32 identity.serial serial_tidy
 
 module _ (identity : Identity) (long : length identity.serial.bytes ≡ 32) (ok : identity_allowed identity ≡ true) where
-  pub size : length (serial_of identity) ≡ identity.serial.len
+  size : length (serial_of identity) ≡ identity.serial.len
   unfolding serial_of
   size = let less : identity.serial.len ≤ 32 = serial_within identity ok in length-take identity.serial.len identity.serial.bytes ∙ omega (arith, long)
 

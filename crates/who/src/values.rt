@@ -17,12 +17,20 @@ fn product_value(identity: Identity) -> Value
     Value::of(&[0, low, high, 0xFF])
 }
 
-// Returns the value of 010A: the serial, and a zero byte after it if there is room for one.
+// Returns the value of 010A: the serial, and a zero byte after it if there is room for one. Past the serial the array is 0 already.
 fn serial_value(identity: Identity) -> Value
     requires { identity_allowed identity ≡ true }
     ensures { result ≡ few most_serial (serial_value identity) }
 {
-    identity.serial.put(&[0])
+    let serial = identity.serial;
+    if serial.len < paper::MOST_SERIAL {
+        Value {
+            len: serial.len + 1,
+            ..serial
+        }
+    } else {
+        serial
+    }
 }
 
 // Returns the value of a read-only id, and 7 for any other. An id is any number of two bytes, and the clause speaks of numbers, so the

@@ -6,11 +6,12 @@ use native.Mathlib.Omega.{arith}
 use lib.ListN.{length}
 use Rattle.laws.proofs.Promise.{gives_none}
 use Rattle.stream.specs.Calls.{held_of}
+use Rattle.stream.proofs.Helds.{allowed_inside}
 use Rattle.stream.proofs.Hearing.{begun_more, inside_nothing, inside_ended, end_there}
 use Rattle.stream.proofs.pieces.fresh.Goals as goal
 
 pub with_more-requires : goal.with_more-requires
-with_more-requires c = rw c.begun.ensures (unfold held_of in refl)
+with_more-requires c = rw c.begun.ensures (allowed_inside [] refl, unfold held_of in refl)
 
 pub returns-then-end-piece : goal.returns-then-end-piece
 returns-then-end-piece c =
