@@ -1,9 +1,7 @@
 -- Laws of a row: what is written is read, and what is read is written. Assumes nothing.
 use mathlib.Core.Path.{◌≡◌, refl, sym, ap, ap₂, subst, ◌∙◌}
 use mathlib.Core.Bool.{Bool, true, false, cond, not, ◌&&◌, and-true, and-false, and_assoc, false≢true}
-use mathlib.Core.Logic.{◌≢◌}
 use Rattle.std.proofs.Common.{Ok, Err, Some, None}
-use Rattle.std.specs.Option.{ok_or}
 use mathlib.Core.List.{List, [], ◌∷◌, ◌++◌, append_assoc}
 use Prim.Native.Nat.{ℕ, suc, ◌+◌, ◌-◌, ◌*◌, ◌/◌, ◌%◌, ◌≤◌, ◌<◌}
 use native.Mathlib.Omega.{arith}
@@ -28,6 +26,7 @@ use Rattle.lines.specs.declared.Line.{Line}
 use Rattle.lines.proofs.Digits.{digits_under}
 use Rattle.lines.proofs.Theorems.{line_is_text}
 use Rattle.rows.specs.Decimals.{is_number}
+use Rattle.rows.specs.declared.Row.{Row}
 use Rattle.rows.specs.Row.{tab, id_digits, row_of, row_room, line_length, first_line, is_row, id_in, number_in, row_in}
 use Rattle.laws.specs.Promise.{Given}
 use Rattle.wire.specs.Calls.{unwritten, written_as}
@@ -108,19 +107,32 @@ module _ (text : List ℕ) {len : ℕ} (is : len ≡ line_length text) where
   pub line_inside : len ≡ length (take len text)
   line_inside = let inside : line_length text ≤ length text = (before_first (λ b. eqb b newline) text).inside in sym (length-take-le len text (rw is inside))
 
-  pub not_ended : len ≡ length text → Err paper.bad_line ≡ parsing text
+  pub not_ended : length text ≤ len → Err paper.bad_line ≡ parsing text
   unfolding parsing
   not_ended e = rw (le-ltb (line_length text) (length text) (omega arith))
 
-  pub line_read : len ≢ length text → ok_or (cond (is_row (take len text)) (Some (row_in (take len text))) None) paper.bad_line ≡ parsing text
+  pub no_row : None ≡ cond (is_row (take len text)) (Some (row_in (take len text))) None → Err paper.bad_line ≡ parsing text
   unfolding parsing
-  line_read e =
-      let less : line_length text < length text = omega (arith, (before_first (λ b. eqb b newline) text).inside) in
-      rw (is, lt-ltb (line_length text) (length text) less) (by (is_row (first_line text)))
+  no_row e = by (is_row (first_line text)) (rw is at e)
     where
-      by : (b : Bool) → ok_or (cond b (Some (row_in (first_line text))) None) paper.bad_line ≡ cond b (row_is (id_in (first_line text)) (number_in (first_line text)) (suc (line_length text))) (Err paper.bad_line)
-      by true = rw (sym (ap (λ (n : ℕ). length (take n text)) is), sym line_inside, is)
-      by false = refl
+      by : (b : Bool) → None ≡ cond b (Some (row_in (first_line text))) None
+          → Err paper.bad_line ≡ cond (ltb (line_length text) (length text) && b) (row_is (id_in (first_line text)) (number_in (first_line text)) (suc (line_length text))) (Err paper.bad_line)
+      by true e = absurd (cc)
+      by false e = rw (and-false (ltb (line_length text) (length text)))
+
+  pub line_read : {r : Row} → len < length text → Some r ≡ cond (is_row (take len text)) (Some (row_in (take len text))) None → Ok r ≡ parsing text
+  unfolding parsing
+  line_read {r} less e =
+      let ended : line_length text < length text = rw (sym is) less in
+      rw (lt-ltb (line_length text) (length text) ended) (by (is_row (first_line text)) (rw is at e))
+    where
+      size : length (first_line text) ≡ line_length text
+      size = sym (ap (λ (n : ℕ). length (take n text)) is) ∙ sym line_inside ∙ is
+
+      by : (b : Bool) → Some r ≡ cond b (Some (row_in (first_line text))) None
+          → Ok r ≡ cond b (row_is (id_in (first_line text)) (number_in (first_line text)) (suc (line_length text))) (Err paper.bad_line)
+      by true e = let same : r ≡ row_in (first_line text) = cc in ap Ok same ∙ ap (λ (n : ℕ). row_is (id_in (first_line text)) (number_in (first_line text)) (suc n)) size
+      by false e = absurd (cc)
 
 -- the row of an id and a number without its newline
 abbrev front : ℕ → ℕ → List ℕ

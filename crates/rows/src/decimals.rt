@@ -22,7 +22,7 @@ fn is_number(digits: &[u8]) -> bool
 }
 
 // Returns the number of such digits, and none for any others. (`parse` reads +5 and 005 too, and a str: the test above would stay, and a
-// `from_utf8` come to it.)
+// `from_utf8` come to it.) A digit is widened before b'0' is taken from it, so that the processor has fewer steps for each.
 pub(crate) fn value_of(digits: &[u8]) -> Option<usize>
     ensures { result ≡ cond (is_number digits.now) (Some (value_of digits.now)) None }
 {
@@ -31,7 +31,7 @@ pub(crate) fn value_of(digits: &[u8]) -> Option<usize>
     }
     let mut n = 0;
     for c in digits {
-        n = n * 10 + (*c - b'0') as usize;
+        n = n * 10 + (*c as usize - b'0' as usize);
     }
     Some(n)
 }

@@ -45,16 +45,17 @@ pub fn write(id: u16, number: u16, out: &mut [u8]) -> Result<usize, Refusal>
     Ok(spans::copy(row.text.as_slice(), out))
 }
 
-// Reads the row at the front of a text: 14 for a line of another form, or a text that ends before a newline.
-#[tactic(auto, using(crate::proofs::Rows::not_ended, crate::proofs::Rows::line_read))]
+// Reads the row at the front of a text: 14 for a line of another form, or a text that ends before a newline. That is asked last: asked
+// before the line is parsed, it made the compiler's loop to the newline longer.
+#[tactic(auto, using(crate::proofs::Rows::line_read, crate::proofs::Rows::not_ended, crate::proofs::Rows::no_row))]
 pub fn read(text: &[u8]) -> Result<Row, Refusal>
     ensures { result ≡ parsing text.now }
 {
     let len = spans::find(text, paper::NEWLINE);
-    if len == text.len() {
-        return Err(Refusal::BadLine);
+    match reader::row_in(&text[..len]) {
+        Some(row) if len < text.len() => Ok(row),
+        _ => Err(Refusal::BadLine),
     }
-    reader::row_in(&text[..len]).ok_or(Refusal::BadLine)
 }
 
 // Judges the row at the front of a text, where that of the setting at a place is due: 12 for a place past the table; then 14, then 15 for

@@ -4,15 +4,17 @@ ghost use Rattle.rows.specs.Row.{is_row, row_in};
 
 use crate::{Row, TAB, decimals};
 
-// Returns the byte of two digits, and none where one is no digit. (The one of `wire` is of digits that were tested as a whole line of them:
-// its `requires` says so.)
+const ID_LEN: usize = 4;
+
+// Returns the byte of two digits, and none where one is no digit. (The one of `wire`, for that crate alone, requires two digits.)
 fn byte_of(high: u8, low: u8) -> Option<u8>
     ensures { result ≡ cond (is_digit high && is_digit low) (Some (nibble high * 16 + nibble low)) None }
 {
     Some(wire::nibble_of(high)? * 16 + wire::nibble_of(low)?)
 }
 
-// Returns what a line says that is a row: four digits, a tab and a number; and none for any other. Its length counts the newline too.
+// Returns what a line says that is a row: four digits, a tab and a number; and none for any other. Its length counts the newline too. The
+// four digits are tested in one go, so that the compiler needs no branch for each and leaves out the tests of `byte_of`.
 #[tactic(auto, using(crate::proofs::Rows::row_parts, crate::proofs::Rows::short_row, crate::proofs::Rows::past_tab))]
 pub(crate) fn row_in(line: &[u8]) -> Option<Row>
     ensures { result ≡ cond (is_row line.now) (Some (row_in line.now)) None }
@@ -20,7 +22,7 @@ pub(crate) fn row_in(line: &[u8]) -> Option<Row>
     let [a, b, c, d, tab, digits @ ..] = line else {
         return None;
     };
-    if *tab != TAB {
+    if !wire::all_digits(&line[..ID_LEN]) || *tab != TAB {
         return None;
     }
     let high = byte_of(*a, *b)?;
