@@ -61,14 +61,17 @@ impl Board {
     pub fn start(product: u16, version: u16, serial: &[u8], table: Table) -> Handed
         ensures { result ≡ starting product version serial.now table }
     {
+        // The table is asked about first: a serial may be of any length, and all of it is looked at.
+        if !table.is_allowed() {
+            return refused_start();
+        }
         let Named { identity, verdict } = Identity::named(product, version, serial);
-        if verdict.is_ok() && table.is_allowed() {
-            Handed {
-                board: fresh(identity, table),
-                verdict: Ok(()),
-            }
-        } else {
-            refused_start()
+        if verdict.is_err() {
+            return refused_start();
+        }
+        Handed {
+            board: fresh(identity, table),
+            verdict: Ok(()),
         }
     }
 
