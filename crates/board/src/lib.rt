@@ -61,7 +61,7 @@ impl Board {
     pub fn start(product: u16, version: u16, serial: &[u8], table: Table) -> Handed
         ensures { result ≡ starting product version serial.now table }
     {
-        // The table is asked about first: a serial may be of any length, and all of it is looked at.
+        // A table that is refused is answered without a look at the serial.
         if !table.is_allowed() {
             return refused_start();
         }
