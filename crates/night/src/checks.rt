@@ -4,7 +4,6 @@ use backup::BadText;
 use lines::Line;
 use paper::Refusal;
 use ports::{Report, System};
-use sentences::Refused;
 use settings::COUNT;
 
 // How long the first line of a backup text is. `backup` keeps its own: the clause `parsing` of `backup::read` has the
@@ -24,7 +23,7 @@ pub(crate) fn run(system: System) {
 // Says the verdict on a text, and the reason for a refusal.
 pub(crate) fn tell(report: Report, text: &[u8]) {
     let verdict = backup::read(text).verdict;
-    words::add(report, sentences::checked(verdict.map_err(Refused::from)));
+    words::add(report, sentences::judged(verdict));
     if let Err(bad) = verdict {
         words::add(report, put_why(Line::start().put(b": "), bad, text));
     }

@@ -12,11 +12,13 @@ use Rattle.tally.specs.declared.Tally.{Tally}
 use Rattle.view.specs.declared.Viewer.{Viewer}
 use Rattle.lines.specs.declared.Line.{Line}
 use Rattle.sentences.specs.declared.Kept.{Kept}
+use Rattle.backup.specs.Answers.{Checked}
 use Rattle.sentences.proofs.followed.Reads as followed
 use Rattle.sentences.proofs.progress.Reads as progress
 use Rattle.sentences.proofs.collected.Reads as collected
 use Rattle.sentences.proofs.saved.Reads as saved
 use Rattle.sentences.proofs.checked.Reads as checked
+use Rattle.sentences.proofs.judged.Reads as judged
 use Rattle.sentences.proofs.summed.Reads as summed
 use Rattle.sentences.proofs.seen.Reads as seen
 use Rattle.sentences.proofs.shown.Reads as shown
@@ -36,6 +38,9 @@ saved_same collector kept r r' met met' = equal_same met met'
 
 pub checked_same : (verdict : Verdict) (r r' : Line) → checked.Post tt (verdict, tt) r (verdict, tt) → checked.Post tt (verdict, tt) r' (verdict, tt) → r ≡ r'
 checked_same verdict r r' met met' = equal_same met met'
+
+pub judged_same : (verdict : Checked) (r r' : Line) → judged.Post tt (verdict, tt) r (verdict, tt) → judged.Post tt (verdict, tt) r' (verdict, tt) → r ≡ r'
+judged_same verdict r r' met met' = equal_same met met'
 
 pub summed_same : (tally : Tally) (r r' : Line) → summed.Post tt (tally, tt) r (tally, tt) → summed.Post tt (tally, tt) r' (tally, tt) → r ≡ r'
 summed_same tally r r' met met' = equal_same met met'

@@ -216,7 +216,7 @@ RefusalIsTold =
     × (row ≢ 0
     → checked_text (Err (record { number = number; line = row })) ≡ joined (chars "refused " ∷ decimal number ∷ chars ", line " ∷ decimal row ∷ []))
 
--- So is a text, by the number of the refusal that `backup` gives.
+-- So is a bad text, by the number of its refusal, whatever that and its line are.
 abbrev pub TextIsTold : Type 0
 TextIsTold =
     (refusal : Refusal) (row : ℕ)

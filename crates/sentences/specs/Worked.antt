@@ -11,7 +11,8 @@ use Rattle.tally.specs.Results.{tally_of, with_sets}
 use Rattle.view.specs.Calls.{on_heeded}
 use Rattle.lines.specs.Lines.{chars}
 use Rattle.lines.specs.Worked.{Sample, sample, sample_of, all_read}
-use Rattle.sentences.specs.Texts.{of_text, end_text, read_text, file_text, checked_text, summed_text}
+use Rattle.backup.specs.Answers.{bad}
+use Rattle.sentences.specs.Texts.{of_text, end_text, read_text, file_text, numbered, checked_text, summed_text}
 use Rattle.sentences.specs.Values.{words_text, strange_text, sight_text, shown_text}
 use Rattle.sentences.specs.declared.Kept.{Kept}
 
@@ -36,8 +37,8 @@ lines =
     sample (file_text collects.Stage.Done count Kept.Not) "not saved: the file is as it was" ∷
     sample (file_text (collects.Stage.Stopped (setting_at 5)) 5 Kept.Whole) "not saved: not every setting was read" ∷
     sample_of (checked_text (Ok tt)) "good: " count " settings, every number in range, every pair agrees" ∷
-    sample (checked_text (Err (record { number = 16; line = 13 }))) "refused 16, line 13" ∷
-    sample (checked_text (Err (record { number = 17; line = 0 }))) "refused 17" ∷
+    sample (checked_text (numbered (Err (bad paper.out_of_range 13)))) "refused 16, line 13" ∷
+    sample (checked_text (numbered (Err (bad paper.pair_disagrees 0)))) "refused 17" ∷
     sample (summed_text (with_sets (tally_of 3 1 0 1 0) 24 27))
     "yard: 3 done, 1 equal, 0 stopped, 1 silent, 0 not begun; 24 of 27 settings confirmed" ∷
     sample (summed_text (tally_of 1000001 0 0 0 0)) "refused 12" ∷

@@ -6,9 +6,10 @@
 
 ghost use Rattle.std.specs.Prelude.{◌≡◌};
 ghost use Rattle.lines.specs.Lines.{line_of};
-ghost use Rattle.sentences.specs.Texts.{followed_text, progress_text, collected_text, saved_text, checked_text, summed_text};
+ghost use Rattle.sentences.specs.Texts.{followed_text, progress_text, collected_text, saved_text, checked_text, numbered, summed_text};
 ghost use Rattle.sentences.specs.Values.{seen_text, shown_text};
 
+use backup::BadText;
 use collect::Collector;
 use follow::Follower;
 use lines::Line;
@@ -77,6 +78,16 @@ pub fn checked(verdict: Result<(), Refused>) -> Line
     ensures { result ≡ line_of (checked_text verdict) }
 {
     checks::put_verdict(Line::start(), verdict)
+}
+
+// Returns the sentence for what `backup` says of a text, by the number of its refusal.
+pub fn judged(verdict: Result<(), BadText>) -> Line
+    ensures { result ≡ line_of (checked_text (numbered verdict)) }
+{
+    match verdict {
+        Ok(()) => checked(Ok(())),
+        Err(bad) => checked(Err(Refused::from(bad))),
+    }
 }
 
 // Returns the sums of a yard: how many boards ended in which way, and how many settings were confirmed.
