@@ -51,7 +51,7 @@ use Rattle.lines.specs.Lines.{chars, line_of, Says}
 use Rattle.lines.specs.Numbers.{decimal_from, decimal, pointed}
 use Rattle.lines.proofs.Adding.{says_text, text_says_lem}
 use Rattle.sentences.specs.Texts.{Verdict, numbered, between_text, of_text, refused_text, stopped_text, end_text, followed_text, progress_text, read_text, collected_text, kept_text, file_text, saved_text, good_text, refusal_text, checked_text, counts_text, summed_text}
-use Rattle.sentences.specs.Laws.{AllDone, DoneIsDone, NothingDue, EqualIsEqual, followed_by, joined, LineIsMatched, FollowersSay, SumsAreSaid, ReadIsRead, collected_by, LineIsCarried, SavedIsSaved, NotSavedIsNot, GoodIsGood, IsBackup, GoodIsBackup, WellIsWell, NoneIsNone, StrayFollower, StrayCollector, StrayTally, CollectorsCount, FilesCount, RefusalIsTold, TextIsTold, FollowersFit, FilesFit, YardsFit}
+use Rattle.sentences.specs.Laws.{AllDone, DoneIsDone, NothingDue, EqualIsEqual, followed_by, joined, LineIsMatched, FollowersSay, SumsAreSaid, ReadIsRead, collected_by, LineIsCarried, SavedIsSaved, NotSavedIsNot, GoodIsGood, TextIsGood, IsBackup, GoodIsBackup, WellIsWell, NoneIsNone, StrayFollower, StrayCollector, StrayTally, CollectorsCount, FilesCount, RefusalIsTold, TextIsTold, FollowersFit, FilesFit, YardsFit}
 use Rattle.sentences.specs.Values.{word_text, strange_text, serial_text, amount_text, reading_text, words_text, shown_text}
 use Rattle.sentences.specs.Worked.{LinesRead}
 use Rattle.sentences.specs.declared.Kept.{Kept}
@@ -260,14 +260,18 @@ numbered_good : (v : Checked) → numbered v ≡ Ok tt → v ≡ Ok tt
 numbered_good (Ok done) e = refl
 numbered_good (Err bad) e = cc
 
+pub text_is_good : TextIsGood
+text_is_good verdict = (
+  λ e. numbered_good verdict ((good_is_good (numbered verdict)).0 e),
+  λ is. (good_is_good (numbered verdict)).1 (ap numbered is),
+)
+
 pub good_is_backup : GoodIsBackup
 unfolding parsing
 good_is_backup text = (
-  λ e. read_as_lem text (text_says text) refl
-      (numbered_good (parsing text).verdict ((good_is_good (numbered (parsing text).verdict)).0 e)),
-  λ b. (good_is_good (numbered (parsing text).verdict)).1
-      (ap (λ (l : List ℕ). numbered (parsing l).verdict) b.is_text
-      ∙ ap (λ (r : Backup). numbered r.verdict) (written_is_read b.table b.is_whole b.is_allowed)),
+  λ e. read_as_lem text (text_says text) refl ((text_is_good (parsing text).verdict).0 e),
+  λ b. (text_is_good (parsing text).verdict).1
+      (ap (λ (l : List ℕ). (parsing l).verdict) b.is_text ∙ ap (λ (r : Backup). r.verdict) (written_is_read b.table b.is_whole b.is_allowed)),
 )
 
 pub followers_say_it : FollowersSay

@@ -22,7 +22,7 @@ use Rattle.collect.specs.declared.Collector.{Collector}
 use Rattle.collect.specs.declared.Collected.{Collected}
 use Rattle.paper.specs.Numbers.{number_of}
 use Rattle.paper.specs.declared.Refusal.{Refusal}
-use Rattle.backup.specs.Answers.{bad}
+use Rattle.backup.specs.Answers.{Checked, bad}
 use Rattle.backup.specs.Text.{text_of, good}
 use Rattle.backup.specs.Calls.{parsing, read_as}
 use Rattle.tally.specs.Results.{tally_allowed}
@@ -127,6 +127,10 @@ LineIsCarried = (events : List Event) → OnStream events → CarriedSays events
 -- 4. A backup is said to be good exactly where it is accepted: where it is byte for byte the text of an allowed table.
 abbrev pub GoodIsGood : Type 0
 GoodIsGood = (verdict : Verdict) → Says (line_of (checked_text verdict)) 0 "good: " ↔ (verdict ≡ Ok tt)
+
+-- The same of any verdict of `backup`, which `judged` tells.
+abbrev pub TextIsGood : Type 0
+TextIsGood = (verdict : Checked) → Says (line_of (checked_text (numbered verdict))) 0 "good: " ↔ (verdict ≡ Ok tt)
 
 pub record IsBackup (text : List ℕ) : Type 0 where
   pub table : Table

@@ -29,7 +29,7 @@ module _ (identity : Identity) (ok : identity_allowed identity ≡ true) where
   serial_within = tidy_most 32 identity.serial serial_tidy
 
 module _ (identity : Identity) (long : length identity.serial.bytes ≡ 32) (ok : identity_allowed identity ≡ true) where
-  size : length (serial_of identity) ≡ identity.serial.len
+  pub size : length (serial_of identity) ≡ identity.serial.len
   unfolding serial_of
   size = let less : identity.serial.len ≤ 32 = serial_within identity ok in length-take identity.serial.len identity.serial.bytes ∙ omega (arith, long)
 
